@@ -1,0 +1,48 @@
+ghost use Rattle.std.specs.Prelude.{◌≡◌, ◌<◌, ◌≤◌, ◌^◌};
+ghost use Rattle.outer_io.specs.Causes.{Rose};
+ghost use Rattle.line_frame.specs.Drove.{Drove};
+
+use crate::lines::{end_script, take_piece};
+use crate::reading::Reading;
+use crate::{Finish, Machine};
+use outer_io::{Got, Sink, Source};
+use std::alloc::Global;
+use task_model::Row;
+
+const PIECE: usize = 4096;
+
+/// Runs the lines of a script, of which at most `limit` bytes are looked at.
+pub fn drive<M: Machine, I: Source, O: Sink>(
+    alloc: Global,
+    machine: &mut M,
+    input: &mut I,
+    out: &mut O,
+    limit: u64,
+) -> Finish
+    requires { limit < 2 ^ 63 }
+    ensures drove { Drove (M.tells machine.old 1) limit (I.left input.old) (I.left input.new) (O.taken out.old) (O.taken out.new) result }
+    ensures files { result ≡ Finish.FileFault → ⊥ }
+    ensures read_count { I.faults input.old ≤ I.faults input.new }
+    ensures read_failed { result ≡ Finish.ReadFault → Rose (I.faults input.old) (I.faults input.new) }
+    ensures write_count { O.faults out.old ≤ O.faults out.new }
+    ensures write_failed { result ≡ Finish.WriteFault → Rose (O.faults out.old) (O.faults out.new) }
+{
+    let mut room = [0u8; PIECE];
+    let mut reading = Reading {
+        kept: Row::new(alloc),
+        count: 0,
+        number: 1,
+    };
+    'script: loop {
+        match input.read(&mut room) {
+            Got::Took(count) => {
+                let piece = &room[..count];
+                if let Some(finish) = take_piece(alloc, machine, out, &mut reading, limit, piece) {
+                    return finish;
+                }
+            }
+            Got::End => return end_script(alloc, machine, out, &reading),
+            Got::Failed => return Finish::ReadFault,
+        }
+    }
+}

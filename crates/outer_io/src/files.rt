@@ -1,0 +1,30 @@
+ghost use Rattle.std.specs.Prelude.{◌≡◌, ◌≤◌, ℕ, List, Option};
+ghost use Rattle.outer_io.specs.Causes.{Rose};
+ghost use Rattle.outer_io.specs.Files.{Found, IsWithin, KeepsFile};
+
+use std::alloc::Global;
+use task_model::{Row, TaskText};
+
+/// The answer to a request for a whole file.
+pub enum FileAnswer {
+    Bytes(Row<u8>),
+    Absent,
+    TooLong,
+    Failed,
+    Memory,
+}
+
+/// Files by their names.
+pub trait Files {
+    // What a name holds, where the object tells it: no file, or these bytes.
+    ghost holds: { Self → List ℕ → Option (Option (List ℕ)) };
+
+    ghost faults: { Self → ℕ };
+
+    fn read_whole(&mut self, alloc: Global, name: &TaskText, limit: u64) -> FileAnswer
+        ensures file { Found (holds self.old name.now) limit result }
+        ensures within { IsWithin limit result }
+        ensures keeps { (other : List ℕ) → KeepsFile (holds self.old other) (holds self.new other) }
+        ensures count { faults self.old ≤ faults self.new }
+        ensures failed { result ≡ FileAnswer.Failed → Rose (faults self.old) (faults self.new) };
+}

@@ -1,0 +1,19 @@
+//! The outside of a program: bytes that come in, bytes that go out, and files, each with a count of its faults.
+//! Objects in memory tell their bytes and fail at chosen calls. Objects over real streams tell nothing.
+#![tactic(auto)]
+
+mod files;
+mod mem_files;
+mod mem_sink;
+mod mem_source;
+mod sink;
+mod source;
+mod streams;
+
+pub use files::{FileAnswer, Files};
+pub use mem_files::MemFiles;
+pub use mem_sink::MemSink;
+pub use mem_source::{MemSource, PlainSource};
+pub use sink::{Put, Sink, Written, write_all, write_four, write_two};
+pub use source::{Got, Source};
+pub use streams::{ReaderSource, SystemFiles, WriterSink};

@@ -1,0 +1,98 @@
+ghost use Rattle.std.specs.Prelude.{◌≡◌, [], ◌∷◌, ◌++◌, ◌+◌, ◌-◌, ◌<◌, ◌≤◌, ℕ, length, take, IsOk, OnOk, OnErr};
+
+use crate::OutOfMemory;
+use std::alloc::Global;
+use std::marker::Model;
+
+/// A vector that contracts see as its list and the number of items that it takes with no new memory.
+#[derive(Drop)]
+pub struct Row<T> {
+    items: Vec<T>,
+    spare: usize,
+}
+
+impl<T> Model for Row<T> {
+    ghost use Rattle.std.specs.Prelude.{◌+◌, ◌≤◌, vec_len, vec_capacity};
+    ghost use Rattle.task_model.specs.Rowed.{Rowed, rowed_code};
+
+    ghost Value = { Rowed T };
+
+    ghost coded = { rowed_code T.code };
+
+    ghost view = { λ r. record { list = r.items.items; spare = r.spare } };
+
+    ghost invariant = { λ r. vec_len r.items + r.spare ≤ vec_capacity r.items };
+}
+
+impl<T> Row<T> {
+    pub fn new(alloc: Global) -> Row<T>
+        ensures list { result.list ≡ [] }
+        ensures spare { result.spare ≡ 0 }
+    {
+        Row {
+            items: Vec::new(alloc),
+            spare: 0,
+        }
+    }
+
+    pub fn as_slice(&self) -> &[T]
+        ensures { result.now ≡ self.now.list }
+    {
+        self.items.as_slice()
+    }
+
+    pub fn reserve(&mut self, more: usize) -> Result<(), OutOfMemory>
+        ensures list { self.new.list ≡ self.old.list }
+        ensures ok { OnOk result (more ≤ self.new.spare) }
+        ensures err { OnErr result (self.new.spare ≡ self.old.spare) }
+    {
+        if more <= self.spare {
+            return Ok(());
+        }
+        match self.items.reserve(more) {
+            Ok(()) => {
+                self.spare = more;
+                Ok(())
+            }
+            Err(_) => Err(OutOfMemory),
+        }
+    }
+}
+
+impl<T: Drop> Row<T> {
+    pub fn truncate(&mut self, most: usize)
+        ensures { self.new.list ≡ take most self.old.list }
+    {
+        self.items.truncate(most);
+    }
+
+    pub fn push(&mut self, item: T) -> Result<(), OutOfMemory>
+        ensures room { 0 < self.old.spare → IsOk result }
+        ensures ok { OnOk result (self.new.list ≡ self.old.list ++ item ∷ []) }
+        ensures spare { OnOk result (self.new.spare ≡ self.old.spare - 1) }
+        ensures err { OnErr result (self.new ≡ self.old) }
+    {
+        match self.items.push(item) {
+            Ok(()) => {
+                if self.spare > 0 {
+                    self.spare -= 1;
+                }
+                Ok(())
+            }
+            Err(_) => Err(OutOfMemory),
+        }
+    }
+}
+
+impl Row<u8> {
+    pub fn extend(&mut self, bytes: &[u8]) -> Result<(), OutOfMemory>
+        ensures ok { OnOk result (self.new.list ≡ self.old.list ++ bytes.now) }
+        ensures err { OnErr result (self.new.list ≡ self.old.list) }
+    {
+        self.spare = 0;
+        match self.items.extend_from_slice(bytes) {
+            Ok(()) => Ok(()),
+            Err(_) => Err(OutOfMemory),
+        }
+    }
+}
