@@ -1,2 +1,13 @@
 pub mod Rowed
 pub mod formers
+pub mod Left
+pub mod Text
+pub mod Basic
+pub mod Value
+pub mod Env
+pub mod Host
+pub mod Task
+pub mod Program
+pub mod Tree
+pub mod Input
+pub mod Item

@@ -1,0 +1,38 @@
+use crate::row::Row;
+use crate::value::Value;
+
+/// A step of a path, into a part of a pair or of an internal choice.
+#[derive(Clone, Copy, Debug, PartialEq, Eq)]
+pub enum Turn {
+    First,
+    Second,
+}
+
+/// Where in a tree an input goes.
+#[derive(Drop)]
+pub struct Path {
+    pub turns: Row<Turn>,
+}
+
+/// What an input does at its place.
+#[derive(Drop)]
+pub enum Act {
+    Set(Value),
+    Next,
+    Left,
+    Right,
+}
+
+/// An input of a person.
+#[derive(Drop)]
+pub struct Input {
+    pub path: Path,
+    pub act: Act,
+}
+
+/// An input with the seat that gave it, 1 to 64.
+#[derive(Drop)]
+pub struct Entry {
+    pub seat: u8,
+    pub input: Input,
+}
