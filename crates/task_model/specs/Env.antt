@@ -1,5 +1,5 @@
 -- Slots and environments as plain terms.
-use Rattle.std.specs.Prelude.{ℕ, List, [], ◌∷◌, ◌++◌, map}
+use Rattle.std.specs.Prelude.{ℕ, List, [], map}
 use Rattle.task_model.specs.Text.{Text}
 use Rattle.task_model.specs.Value.{ValueTerm, value_term}
 use Rattle.task_model.specs.declared.env.Env.{Env}

@@ -1,5 +1,5 @@
 -- Programs as plain terms.
-use Rattle.std.specs.Prelude.{ℕ, List, map}
+use Rattle.std.specs.Prelude.{List, map}
 use Rattle.task_model.specs.Text.{Text}
 use Rattle.task_model.specs.Basic.{BasicTerm, basic_term}
 use Rattle.task_model.specs.Host.{HostTerm, host_term}

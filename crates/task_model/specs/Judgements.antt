@@ -1,0 +1,41 @@
+-- The judgements by name: each has a result, units and a height (docs/RULES.md).
+use Rattle.std.specs.Prelude.{ℕ, ◌≤◌, Bool, List}
+use Rattle.task_model.specs.Value.{ValueTerm}
+use Rattle.task_model.specs.Env.{EnvTerm}
+use Rattle.task_model.specs.Host.{HostTerm}
+use Rattle.task_model.specs.Task.{TaskTerm}
+use Rattle.task_model.specs.Tree.{State}
+use Rattle.task_model.specs.Checked.{CheckedTerm}
+use Rattle.task_model.specs.Work.{Work}
+use Rattle.task_model.specs.Plan.{gives_value, evaluates, fails, strides, settles, normal, Derives}
+use Rattle.task_model.specs.Rules.{rule_of}
+
+module _ (c : CheckedTerm) where
+  -- an expression gives a value
+  abbrev pub Gives : HostTerm → EnvTerm → List ValueTerm → Work ValueTerm
+  Gives e env σ = Derives (rule_of c) (gives_value e env σ)
+
+  -- a task evaluates to a tree and a store
+  abbrev pub Evaluates : TaskTerm → EnvTerm → List ValueTerm → Work State
+  Evaluates t env σ = Derives (rule_of c) (evaluates t env σ)
+
+  -- a state is failing, or not
+  abbrev pub Fails : State → Work Bool
+  Fails s = Derives (rule_of c) (fails s)
+
+  -- a state strides to another
+  abbrev pub Strides : State → Work State
+  Strides s = Derives (rule_of c) (strides s)
+
+  -- a state settles: it strides until a stride changes nothing
+  abbrev pub Settles : State → Work State
+  Settles s = Derives (rule_of c) (settles s)
+
+  -- a task is normalised: it is evaluated, and its state settles
+  abbrev pub Normal : TaskTerm → EnvTerm → List ValueTerm → Work State
+  Normal t env σ = Derives (rule_of c) (normal t env σ)
+
+-- at most so many units, and a height of at most 1,000
+pub record Within (budget n h : ℕ) : Type 0 where
+  pub units : n ≤ budget
+  pub height : h ≤ 1000

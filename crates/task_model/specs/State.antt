@@ -1,0 +1,82 @@
+-- Histories, and the states that they lead to (docs/RULES.md, "Histories").
+use Rattle.std.specs.Prelude.{◌≡◌, ℕ, zero, suc, ◌≤◌, List, [], ◌∷◌, if◌then◌else◌, nat_eq}
+use Rattle.task_model.specs.Basic.{BasicTerm}
+use Rattle.task_model.specs.Env.{empty_env}
+use Rattle.task_model.specs.Task.{call_task}
+use Rattle.task_model.specs.Tree.{State}
+use Rattle.task_model.specs.Input.{EntryTerm}
+use Rattle.task_model.specs.Item.{ItemTerm, opened, took}
+use Rattle.task_model.specs.Checked.{CheckedTerm}
+use Rattle.task_model.specs.Judgements.{Normal, Within}
+use Rattle.task_model.specs.Outcome.{IsTaken}
+use Rattle.task_model.specs.Accepted.{main_name, IsAccepted}
+use Rattle.task_model.specs.Text.{Text}
+use Rattle.task_model.specs.Page.{page_text}
+use Rattle.task_model.specs.Widget.{WidgetTerm, AreWidgets}
+
+module _ (c : CheckedTerm) (budget : ℕ) where
+  -- the opening: `main()`, normalised in the empty environment and store within the budget
+  abbrev pub IsOpening : State → Type 0
+  IsOpening s = (n : ℕ) × (h : ℕ) × Normal c (call_task main_name []) empty_env [] s n h × Within budget n h
+
+  -- these entries lead from one state to another: each input is taken at the state that it meets
+  abbrev pub LeadTo : State → List ItemTerm → State → Type 0
+  LeadTo s [] t = t ≡ s
+  LeadTo s (opened p b ∷ items) t = ⊥
+  LeadTo s (took e ∷ items) t = (m : State) × IsTaken c budget s e.input m × LeadTo m items t
+
+  -- the opening and these entries lead to a state
+  abbrev pub IsReached : List ItemTerm → State → Type 0
+  IsReached items t = (s : State) × IsOpening s × LeadTo s items t
+
+-- the state of a history: it begins with the opening of an accepted program
+abbrev pub IsState : List ItemTerm → State → Type 0
+IsState [] t = ⊥
+IsState (took e ∷ items) t = ⊥
+IsState (opened p budget ∷ items) t =
+    (types : List BasicTerm) × IsAccepted (record { program = p; types = types }) × IsReached (record { program = p; types = types }) budget items t
+
+-- the number of inputs taken
+abbrev pub version_of : List ItemTerm → ℕ
+version_of [] = 0
+version_of (opened p budget ∷ items) = version_of items
+version_of (took e ∷ items) = suc (version_of items)
+
+abbrev pub IsSeat : ℕ → Type 0
+IsSeat seat = (1 ≤ seat) × (seat ≤ 64)
+
+abbrev pub IsBudget : ℕ → Type 0
+IsBudget budget = (1 ≤ budget) × (budget ≤ 1000000)
+
+abbrev pub HaveSeats : List ItemTerm → Type 0
+HaveSeats [] = Unit {0}
+HaveSeats (opened p budget ∷ items) = ⊥
+HaveSeats (took e ∷ items) = IsSeat e.seat × HaveSeats items
+
+-- A legal history: an accepted program was opened with a budget, and then entries of seats were taken, one by one.
+abbrev pub IsLegal : List ItemTerm → Type 0
+IsLegal [] = ⊥
+IsLegal (took e ∷ items) = ⊥
+IsLegal (opened p budget ∷ items) = IsBudget budget × HaveSeats items × ((t : State) × IsState (opened p budget ∷ items) t)
+
+-- the entries of a seat, in order
+abbrev pub entries_of : List ItemTerm → ℕ → List EntryTerm
+entries_of [] seat = []
+entries_of (opened p budget ∷ items) seat = entries_of items seat
+entries_of (took e ∷ items) seat = if nat_eq e.seat seat then e ∷ entries_of items seat else entries_of items seat
+
+-- the items of a history up to a version
+abbrev pub prefix_of : List ItemTerm → ℕ → List ItemTerm
+prefix_of [] version = []
+prefix_of (opened p budget ∷ items) version = opened p budget ∷ prefix_of items version
+prefix_of (took e ∷ items) zero = []
+prefix_of (took e ∷ items) (suc version) = took e ∷ prefix_of items version
+
+-- the terminal page of a history for a seat
+abbrev pub IsTerminal : List ItemTerm → ℕ → Text → Type 0
+IsTerminal [] seat text = ⊥
+IsTerminal (took e ∷ items) seat text = ⊥
+IsTerminal (opened p budget ∷ items) seat text =
+    (types : List BasicTerm) × (t : State) × (ws : List WidgetTerm) × IsAccepted (record { program = p; types = types })
+    × IsReached (record { program = p; types = types }) budget items t × AreWidgets (record { program = p; types = types }) budget t.tree t.store ws
+    × (text ≡ page_text (version_of items) seat ws)
