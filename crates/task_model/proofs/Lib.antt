@@ -5,3 +5,4 @@ pub mod EqualityLemmas
 pub mod SignLemmas
 pub mod OfferLemmas
 pub mod OutcomeLemmas
+pub mod RowLemmas

@@ -1,0 +1,47 @@
+ghost use Rattle.std.specs.Prelude.{◌≡◌, map};
+ghost use Rattle.task_model.specs.Basic.{basic_term};
+ghost use Rattle.task_model.specs.Value.{value_term, as_values};
+ghost use Rattle.task_model.specs.Value as values;
+
+use crate::basic::Basic;
+use crate::value::Value;
+
+/// The most bytes of a text.
+pub const TEXT_LIMIT: usize = 65_536;
+
+/// The most elements of a list.
+pub const LIST_LIMIT: usize = 1_024;
+
+/// Whether a value has a type. It takes no memory.
+#[cycle(has)]
+pub fn value_has(v: &Value, b: &Basic) -> bool
+    ensures { result ≡ values.value_has (value_term v.now) (basic_term b.now) }
+{
+    match (v, b) {
+        (Value::Unit, Basic::Unit) => true,
+        (Value::Bool(_), Basic::Bool) => true,
+        (Value::Int(_), Basic::Int) => true,
+        (Value::Text(text), Basic::Text) => text.as_str().len() <= TEXT_LIMIT,
+        (Value::Pair(first, second), Basic::Pair(a, b)) => {
+            value_has(first, a) && value_has(second, b)
+        }
+        (Value::List(items), Basic::List(item)) => {
+            let items = items.as_slice();
+            items.len() <= LIST_LIMIT && values_have(items, item)
+        }
+        _ => false,
+    }
+}
+
+// Whether each of these values has a type.
+#[cycle(has)]
+fn values_have(items: &[Value], b: &Basic) -> bool
+    ensures { result ≡ values.values_have (as_values (map value_term items.now)) (basic_term b.now) }
+{
+    for item in items {
+        if !value_has(item, b) {
+            return false;
+        }
+    }
+    true
+}
