@@ -1,5 +1,5 @@
 -- Laws of all rules at once.
-use Rattle.std.proofs.Common.{◌≡◌, ℕ, zero, suc, ◌+◌, max, ◌≤◌, refl, sym, ◌∙◌, subst, arith}
+use Rattle.std.proofs.Common.{◌≡◌, ℕ, zero, suc, ◌+◌, max, ◌≤◌, refl, sym, ◌∙◌, subst, arith, le_refl}
 use Rattle.task_model.specs.Tree.{State}
 use Rattle.task_model.specs.Work.{Work, never, then_on, rule}
 use Rattle.task_model.specs.Plan.{Judgement, strides, Derived, Plan, give, stuck, ask, unit, stride_on, after, Strides, last_stride, more_strides, work, derives_at, Derives}
@@ -188,3 +188,8 @@ module _ (step : (q : Judgement) → Plan (Derived q)) where
       from (suc k) d =
           let le = (under_work k (derives_at step k) (under_at step k) (step q)).by v n d.below d.part in
           record { below = d.below; part = (low_work k (derives_at step k) (Derives step) (low_back k) (step q)).by v n d.below d.part le; height = d.height }
+
+  pub from_rule : (q : Judgement) (v : Derived q) (n h : ℕ) → rule (work (Derives step) (step q)) v n h → Derives step q v n h
+  from_rule q v n h d =
+      let p = (low_work d.below (Derives step) (derives_at step d.below) (low_derives d.below) (step q)).by v n d.below d.part (le_refl d.below) in
+      (suc d.below, record { below = d.below; part = p; height = d.height })

@@ -1,10 +1,10 @@
 -- What a row in a value or an expression stands for, by the list of its items.
-use Rattle.std.proofs.Common.{◌≡◌, ℕ, zero, suc, List, [], ◌∷◌, map, length, refl, sym, ap, ◌∙◌}
+use Rattle.std.proofs.Common.{◌≡◌, suc, List, [], ◌∷◌, map, length, refl, ap, ◌∙◌}
 use mathlib.Core.Former.{Count}
 use Rattle.task_model.specs.Rowed.{Rowed}
 use Rattle.task_model.specs.Text.{Text}
-use Rattle.task_model.specs.Value.{ValueTerm, ValueTerms, list_value, no_values, more_values, as_values, value_term, row_values, count_of}
-use Rattle.task_model.specs.Host.{HostTerm, HostTerms, call_expr, list_expr, more_exprs, as_exprs, host_term, row_exprs}
+use Rattle.task_model.specs.Value.{ValueTerm, list_value, more_values, as_values, value_term, row_values, count_of}
+use Rattle.task_model.specs.Host.{call_expr, list_expr, more_exprs, as_exprs, host_term, row_exprs}
 use Rattle.task_model.specs.declared.value.Value as value
 use Rattle.task_model.specs.declared.host.Host as host
 

@@ -2,16 +2,26 @@
 use Rattle.std.specs.Prelude.{ℕ, suc, ◌+◌, ◌-◌, nat_eq, List, [], ◌∷◌, ◌++◌, map, Option, Some, None, slice_get, unwrap_or, if◌then◌else◌}
 use Rattle.std.specs.Option.{option_or}
 use Rattle.task_model.specs.Text.{Text, same_text}
-use Rattle.task_model.specs.Basic.{BasicTerm}
+use Rattle.task_model.specs.Basic.{BasicTerm, basic_term}
 use Rattle.task_model.specs.Env.{SlotTerm, EnvTerm}
 use Rattle.task_model.specs.Host.{HostTerm}
 use Rattle.task_model.specs.Task.{TaskTerm, edit, enter, share, fail, call_task, then_task, next_task, and_task, or_task, xor_task, let_task, if_task, case_task, new_task, put_task, BodyTerm}
-use Rattle.task_model.specs.Program.{ParamTerm, DefBodyTerm, fun_body, task_body, DefTerm, ProgramTerm}
+use Rattle.task_model.specs.Program.{ParamTerm, DefBodyTerm, fun_body, task_body, DefTerm, ProgramTerm, program_term}
+use Rattle.task_model.specs.declared.basic.Basic.{Basic}
+use Rattle.task_model.specs.declared.program.Program.{Program}
 
 -- a program, and the types of its `edit` and `share` nodes in pre-order
 pub record CheckedTerm : Type 0 where
   pub program : ProgramTerm
   pub types : List BasicTerm
+
+-- what contracts see of the type `Checked`, and its term
+pub record SeenChecked : Type 0 where
+  pub program : Program
+  pub types : List Basic
+
+abbrev pub checked_term : SeenChecked → CheckedTerm
+checked_term c = record { program = program_term c.program; types = map basic_term c.types }
 
 -- ---- names
 -- what a name has, the innermost one of its spelling: names stand outermost first

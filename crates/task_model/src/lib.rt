@@ -3,18 +3,22 @@
 #![tactic(auto)]
 
 mod basic;
+mod checked;
 mod env;
 mod has;
 mod host;
 mod input;
 mod input_copies;
 mod item;
+mod laws;
 mod memory;
 mod offer;
 mod program;
 mod program_copies;
 mod purse;
+mod reads;
 mod row;
+mod steps;
 mod task;
 mod text;
 mod tree;
@@ -24,18 +28,22 @@ mod value_copies;
 mod widget;
 
 pub use basic::Basic;
+pub use checked::Checked;
 pub use env::{Env, Slot};
 pub use has::{LIST_LIMIT, TEXT_LIMIT, value_has};
 pub use host::{Host, Op};
 pub use input::{Act, Entry, Input, Path, Turn};
 pub use input_copies::{copy_entry, copy_input, copy_turns};
 pub use item::Item;
+pub use laws::{by_the_rules, one_interface, one_outcome, one_result, one_state};
 pub use memory::{OutOfMemory, boxed};
 pub use offer::{Answer, Offer, OfferKind};
 pub use program::{Def, DefBody, Kind, Param, Program};
 pub use program_copies::{copy_host, copy_program, copy_task};
 pub use purse::{Purse, Stop};
+pub use reads::Reads;
 pub use row::Row;
+pub use steps::Steps;
 pub use task::{Body, Task};
 pub use text::TaskText;
 pub use tree::{Cont, Delay, Tree};

@@ -227,10 +227,7 @@ fn copy_names(
     Ok((head, tail))
 }
 
-fn copy_binder(
-    alloc: Global,
-    binder: &Option<TaskText>,
-) -> Result<Option<TaskText>, OutOfMemory>
+fn copy_binder(alloc: Global, binder: &Option<TaskText>) -> Result<Option<TaskText>, OutOfMemory>
     ensures { IfOk result (λ copy. copy ≡ binder.now) }
 {
     match binder {

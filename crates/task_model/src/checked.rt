@@ -1,0 +1,54 @@
+ghost use Rattle.std.specs.Prelude.{◌≡◌};
+ghost use Rattle.task_model.specs.Checked.{SeenChecked, checked_term};
+ghost use Rattle.task_model.specs.Accepted.{IsAccepted};
+
+use crate::basic::Basic;
+use crate::program::Program;
+use crate::row::Row;
+use std::marker::Model;
+
+/// An accepted program, with the types of its `edit` and `share` nodes in pre-order (docs/RULES.md, "Programs").
+#[derive(Drop)]
+pub struct Checked {
+    program: Program,
+    types: Row<Basic>,
+}
+
+impl Model for Checked {
+    ghost use Rattle.std.specs.Coded.{codes};
+    ghost use Rattle.task_model.specs.contracts.basic.Basic as basics;
+    ghost use Rattle.task_model.specs.contracts.program.Program as programs;
+    ghost use Rattle.task_model.specs.Checked.{SeenChecked, checked_term};
+    ghost use Rattle.task_model.specs.Accepted.{IsAccepted};
+
+    ghost Value = { SeenChecked };
+
+    ghost coded = { Prim.hlevel (codes, basics.the_row.coded, programs.the_row.coded) };
+
+    ghost view = { λ c. record { program = c.program; types = c.types.list } };
+
+    ghost invariant = { λ c. IsAccepted (checked_term (record { program = c.program; types = c.types.list })) };
+}
+
+impl Checked {
+    /// Takes no memory.
+    pub fn of(program: Program, types: Row<Basic>) -> Checked
+        requires { IsAccepted (checked_term (record { program = program; types = types.list })) }
+        ensures { result ≡ record { program = program; types = types.list } }
+    {
+        Checked { program, types }
+    }
+
+    pub fn program(&self) -> &Program
+        ensures program { result.now ≡ self.now.program }
+        ensures accepted { IsAccepted (checked_term self.now) }
+    {
+        &self.program
+    }
+
+    pub fn types(&self) -> &[Basic]
+        ensures { result.now ≡ self.now.types }
+    {
+        self.types.as_slice()
+    }
+}
