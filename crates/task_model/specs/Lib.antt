@@ -28,3 +28,4 @@ pub mod Page
 pub mod Accepted
 pub mod State
 pub mod Spends
+pub mod Token

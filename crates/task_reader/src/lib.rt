@@ -1,0 +1,4 @@
+//! Programs from their texts.
+#![tactic(auto)]
+
+ghost use Rattle.task_reader.specs.PlainText.{IsPlainText};
