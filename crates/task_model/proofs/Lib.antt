@@ -6,3 +6,4 @@ pub mod SignLemmas
 pub mod OfferLemmas
 pub mod OutcomeLemmas
 pub mod RowLemmas
+pub mod RanLemmas

@@ -29,3 +29,4 @@ pub mod Accepted
 pub mod State
 pub mod Spends
 pub mod Token
+pub mod Calls
