@@ -226,7 +226,7 @@ spends_asked {c = c} {q = q} {view = view} {old = old} {new = new} {r = r} a =
     spends_runs (λ k. derives_at (rule_of c) k q) view old new r (λ k. low_at (rule_of c) k old.height q) (λ v n h d. (under_at (rule_of c) old.height q).by v n h d) a.runs
 
 -- the exit of a `?`
-pub stopped : {X : Type 0} (r : Result X Stop) (s : Stop) → IsErrAnd r (λ y. y ≡ s) → r ≡ Err s
+pub stopped : {X E : Type 0} (r : Result X E) (s : E) → IsErrAnd r (λ y. y ≡ s) → r ≡ Err s
 stopped (Ok x) s h = absurd h
 stopped (Err y) s h = ap Err h
 

@@ -1,0 +1,5 @@
+pub mod EvaluationLemmas
+pub mod SettlingLemmas
+pub mod DrawingLemmas
+pub mod ActingLemmas
+mod WorldLemmas

@@ -1,0 +1,63 @@
+ghost use Rattle.std.specs.Prelude.{◌≡◌, ◌≤◌, ℕ, Some, IsSome};
+ghost use Rattle.std.specs.Option.{option_map};
+ghost use Rattle.task_model.specs.Basic.{BasicTerm, basic_term};
+ghost use Rattle.task_model.specs.Tree.{tree_term};
+ghost use Rattle.world_core.specs.PlainTree.{PlainTree, tree_nodes, node_at, put_at};
+ghost use Rattle.world_core.specs.PlainTree as plain;
+
+use std::mem;
+use task_model::{Basic, Tree, Turn};
+
+/// The type of the editor that a path leads to, if there is one.
+pub(crate) fn type_at<'a>(t: &'a Tree, path: &[Turn]) -> Option<&'a Basic>
+    requires { (b : BasicTerm) × PlainTree (tree_term t.now) b }
+    ensures { option_map (λ b. basic_term b.now) result ≡ plain.type_at (node_at (tree_term t.now) path.now) }
+{
+    match path {
+        [] => match t {
+            Tree::Edit(b, _) => Some(b),
+            Tree::Enter(b) => Some(b),
+            _ => None,
+        },
+        [Turn::First, rest @ ..] => match t {
+            Tree::And(a, _) => type_at(a, rest),
+            _ => None,
+        },
+        [Turn::Second, rest @ ..] => match t {
+            Tree::And(_, b) => type_at(b, rest),
+            _ => None,
+        },
+    }
+}
+
+/// Puts a node in the place of the one that a path leads to, and hands that out.
+pub(crate) fn put_node(t: &mut Tree, path: &[Turn], node: Tree) -> Tree
+    requires { IsSome (node_at (tree_term t.old) path.now) }
+    ensures put { tree_term t.new ≡ put_at (tree_term t.old) path.now (tree_term node) }
+    ensures old { node_at (tree_term t.old) path.now ≡ Some (tree_term result) }
+{
+    match path {
+        [] => mem::replace(t, node),
+        [Turn::First, rest @ ..] => match t {
+            Tree::And(a, _) => put_node(a, rest, node),
+            _ => unreachable!(),
+        },
+        [Turn::Second, rest @ ..] => match t {
+            Tree::And(_, b) => put_node(b, rest, node),
+            _ => unreachable!(),
+        },
+    }
+}
+
+/// The number of nodes.
+pub(crate) fn count_nodes(t: &Tree) -> u64
+    requires plain { (b : BasicTerm) × PlainTree (tree_term t.now) b }
+    requires few { tree_nodes (tree_term t.now) ≤ 64 }
+    ensures { result ≡ tree_nodes (tree_term t.now) }
+{
+    match t {
+        Tree::Edit(..) | Tree::Enter(_) => 1,
+        Tree::And(a, b) => 1 + count_nodes(a) + count_nodes(b),
+        _ => unreachable!(),
+    }
+}
