@@ -1,4 +1,5 @@
 pub mod Causes
+pub mod FailingCalls
 pub mod Files
 pub mod Held
 pub mod Sink

@@ -2,10 +2,13 @@
 //! Objects in memory tell their bytes and fail at chosen calls. Objects over real streams tell nothing.
 #![tactic(auto)]
 
+mod failing_calls;
 mod files;
 mod mem_files;
 mod mem_sink;
 mod mem_source;
+mod plain_files;
+mod plain_source;
 mod sink;
 mod source;
 mod streams;
@@ -13,7 +16,9 @@ mod streams;
 pub use files::{FileAnswer, Files};
 pub use mem_files::MemFiles;
 pub use mem_sink::MemSink;
-pub use mem_source::{MemSource, PlainSource};
+pub use mem_source::MemSource;
+pub use plain_files::PlainFiles;
+pub use plain_source::PlainSource;
 pub use sink::{Put, Sink, Written, write_all, write_four, write_two};
 pub use source::{Got, Source};
 pub use streams::{ReaderSource, SystemFiles, WriterSink};
