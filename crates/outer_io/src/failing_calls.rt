@@ -1,6 +1,6 @@
 ghost use Rattle.std.specs.Prelude.{◌≡◌, ◌≤◌, IsTrue};
 ghost use Rattle.outer_io.specs.Causes.{Rose};
-ghost use Rattle.outer_io.specs.FailingCalls.{fails_next, next_call};
+ghost use Rattle.outer_io.specs.FailingCalls.{fails_next, IsCounted};
 
 use task_model::Row;
 
@@ -27,8 +27,7 @@ impl FailingCalls {
     /// Counts the next call, and answers whether it fails.
     pub(crate) fn next_fails(&mut self) -> bool
         ensures fails { result ≡ fails_next self.old }
-        ensures calls { self.new.calls ≡ next_call self.old }
-        ensures failing { self.new.failing ≡ self.old.failing }
+        ensures counted { IsCounted self.old self.new }
         ensures count { self.old.faults ≤ self.new.faults }
         ensures failed { IsTrue result → Rose self.old.faults self.new.faults }
     {

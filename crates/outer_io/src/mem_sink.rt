@@ -1,4 +1,7 @@
-ghost use Rattle.std.specs.Prelude.{◌≡◌, ◌<◌, [], Some};
+ghost use Rattle.std.specs.Prelude.{◌≡◌, ◌<◌, ◌≤◌, [], IsTrue, Some, length};
+ghost use Rattle.outer_io.specs.Causes.{Rose};
+ghost use Rattle.outer_io.specs.FailingCalls.{fails_next, IsCounted};
+ghost use Rattle.outer_io.specs.Sink.{Took, TookAtMost};
 
 use crate::failing_calls::FailingCalls;
 use crate::sink::{Put, Sink};
@@ -20,7 +23,8 @@ impl MemSink {
     pub fn new(alloc: Global, piece: usize, failing: Row<u64>) -> MemSink
         requires { 0 < piece }
         ensures taken { ⟦<MemSink as Sink>⟧.taken result ≡ Some [] }
-        ensures faults { ⟦<MemSink as Sink>⟧.faults result ≡ 0 }
+        ensures piece { result.piece ≡ piece }
+        ensures plan { result.plan ≡ record { failing = failing; calls = 0; faults = 0 } }
     {
         MemSink {
             bytes: Row::new(alloc),
@@ -42,7 +46,15 @@ impl Sink for MemSink {
 
     ghost faults = { λ s. s.plan.faults };
 
-    fn write(&mut self, piece: &[u8]) -> Put {
+    fn write(&mut self, piece: &[u8]) -> Put
+        requires { 0 < length piece.now }
+        ensures bytes { Took (Some self.old.bytes.list) (Some self.new.bytes.list) piece.now result }
+        ensures count { self.old.plan.faults ≤ self.new.plan.faults }
+        ensures failed { result ≡ Put.Failed → Rose self.old.plan.faults self.new.plan.faults }
+        ensures at_most { TookAtMost self.old.piece result }
+        ensures listed { IsTrue (fails_next self.old.plan) → result ≡ Put.Failed }
+        ensures counted { IsCounted self.old.plan self.new.plan }
+    {
         if self.plan.next_fails() {
             return Put::Failed;
         }

@@ -1,4 +1,8 @@
-ghost use Rattle.std.specs.Prelude.{◌≡◌, ◌<◌, ◌≤◌, length, Some};
+ghost use Rattle.std.specs.Prelude.{◌≡◌, ◌<◌, ◌≤◌, ◌↔◌, IsTrue, Some, length};
+ghost use Rattle.outer_io.specs.Causes.{Rose};
+ghost use Rattle.outer_io.specs.FailingCalls.{fails_next, IsCounted};
+ghost use Rattle.outer_io.specs.PlainSource.{left_of};
+ghost use Rattle.outer_io.specs.Source.{Gave, GaveAtMost};
 
 use crate::failing_calls::FailingCalls;
 use crate::plain_source::PlainSource;
@@ -17,7 +21,8 @@ impl MemSource {
     pub fn new(bytes: Row<u8>, piece: usize, failing: Row<u64>) -> MemSource
         requires { 0 < piece }
         ensures left { ⟦<MemSource as Source>⟧.left result ≡ Some bytes.list }
-        ensures faults { ⟦<MemSource as Source>⟧.faults result ≡ 0 }
+        ensures piece { result.plain.piece ≡ piece }
+        ensures plan { result.plan ≡ record { failing = failing; calls = 0; faults = 0 } }
     {
         MemSource {
             plain: PlainSource::new(bytes, piece),
@@ -27,11 +32,19 @@ impl MemSource {
 }
 
 impl Source for MemSource {
-    ghost left = { λ s. ⟦<PlainSource as Source>⟧.left s.plain };
+    ghost left = { λ s. Some (left_of s.plain) };
 
     ghost faults = { λ s. s.plan.faults };
 
-    fn read(&mut self, room: &mut [u8]) -> Got {
+    fn read(&mut self, room: &mut [u8]) -> Got
+        requires { 0 < length room.old }
+        ensures bytes { Gave (Some (left_of self.old.plain)) (Some (left_of self.new.plain)) room.new result }
+        ensures count { self.old.plan.faults ≤ self.new.plan.faults }
+        ensures failed { result ≡ Got.Failed → Rose self.old.plan.faults self.new.plan.faults }
+        ensures at_most { GaveAtMost self.old.plain.piece result }
+        ensures listed { (result ≡ Got.Failed) ↔ IsTrue (fails_next self.old.plan) }
+        ensures counted { IsCounted self.old.plan self.new.plan }
+    {
         if self.plan.next_fails() {
             return Got::Failed;
         }

@@ -1,6 +1,6 @@
 ghost use Rattle.std.specs.Prelude.{◌≡◌, ℕ, List, Some, option_map, option_copied};
 ghost use Rattle.outer_io.specs.Files.{Found, IsWithin};
-ghost use Rattle.outer_io.specs.Held.{held};
+ghost use Rattle.outer_io.specs.PlainFiles.{held};
 
 use crate::files::{FileAnswer, Files};
 use std::alloc::Global;
@@ -23,11 +23,18 @@ impl PlainFiles {
 }
 
 impl Files for PlainFiles {
-    ghost holds = { λ f name. Some (held f.names.list f.contents.list name) };
+    ghost use Rattle.outer_io.specs.PlainFiles.{file_of};
+
+    ghost holds = { λ f name. Some (file_of f name) };
 
     ghost faults = { λ _. 0 };
 
-    fn read_whole(&mut self, alloc: Global, name: &TaskText, limit: u64) -> FileAnswer {
+    fn read_whole(&mut self, alloc: Global, name: &TaskText, limit: u64) -> FileAnswer
+        ensures file { Found (Some (file_of self.old name.now)) limit result }
+        ensures within { IsWithin limit result }
+        ensures keeps { self.new ≡ self.old }
+        ensures told { result ≡ FileAnswer.Failed → ⊥ }
+    {
         match find(self.names.as_slice(), self.contents.as_slice(), name) {
             None => FileAnswer::Absent,
             Some(bytes) => whole(alloc, bytes, limit),

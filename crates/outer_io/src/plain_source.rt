@@ -1,4 +1,5 @@
 ghost use Rattle.std.specs.Prelude.{◌≡◌, ◌<◌, ◌≤◌, ◌+◌, length, take, drop, Some};
+ghost use Rattle.outer_io.specs.Source.{Gave, GaveAtMost};
 
 use crate::source::{Got, Source};
 use task_model::Row;
@@ -17,7 +18,8 @@ impl PlainSource {
     /// A read gives at most `piece` bytes.
     pub fn new(bytes: Row<u8>, piece: usize) -> PlainSource
         requires { 0 < piece }
-        ensures { ⟦<PlainSource as Source>⟧.left result ≡ Some bytes.list }
+        ensures left { ⟦<PlainSource as Source>⟧.left result ≡ Some bytes.list }
+        ensures piece { result.piece ≡ piece }
     {
         PlainSource {
             bytes,
@@ -28,11 +30,18 @@ impl PlainSource {
 }
 
 impl Source for PlainSource {
-    ghost left = { λ s. Some (drop s.at s.bytes.list) };
+    ghost use Rattle.outer_io.specs.PlainSource.{left_of};
+
+    ghost left = { λ s. Some (left_of s) };
 
     ghost faults = { λ _. 0 };
 
-    fn read(&mut self, room: &mut [u8]) -> Got {
+    fn read(&mut self, room: &mut [u8]) -> Got
+        requires { 0 < length room.old }
+        ensures bytes { Gave (Some (left_of self.old)) (Some (left_of self.new)) room.new result }
+        ensures told { result ≡ Got.Failed → ⊥ }
+        ensures at_most { GaveAtMost self.old.piece result }
+    {
         let count = copy_next(self.bytes.as_slice(), self.at, self.piece, room);
         if count == 0 {
             return Got::End;

@@ -2,7 +2,7 @@ use Rattle.std.proofs.Common.{◌≡◌, ◌∙◌, ◌+◌, ◌<◌, ℕ, List,
 use Rattle.std.proofs.lemmas.List.{drop_more}
 use Rattle.std.specs.Cmp.Lexicographic.{pointwise}
 use Rattle.task_model.specs.Rowed.{Rowed}
-use Rattle.outer_io.specs.Held.{held}
+use Rattle.outer_io.specs.PlainFiles.{held}
 use Rattle.outer_io.proofs.plain_files.find.Goals as goal
 
 -- a name that isn't the one is passed over

@@ -1,0 +1,54 @@
+ghost use Rattle.std.specs.Prelude.{◌≡◌, ◌<◌, ◌≤◌, length};
+ghost use Rattle.outer_io.specs.Sink.{Took};
+
+use crate::sink::{Put, Sink};
+use std::io::{ErrorKind, Write};
+
+/// A sink over a writer that keeps nothing back, as the standard output: what a write takes has
+/// reached the system when the write returns. It tells what the writer tells.
+///
+/// A write that a signal interrupts is tried again. The 2^64th in a row that is interrupted is a
+/// fault, and so is a write that takes nothing.
+#[derive(Drop)]
+pub struct WriterSink<W> {
+    inner: W,
+    faults: u64,
+}
+
+impl<W: Write> WriterSink<W> {
+    pub fn new(inner: W) -> WriterSink<W>
+        ensures taken { ⟦<WriterSink<W> as Sink>⟧.taken result ≡ W.contents inner }
+        ensures faults { ⟦<WriterSink<W> as Sink>⟧.faults result ≡ 0 }
+    {
+        WriterSink { inner, faults: 0 }
+    }
+}
+
+impl<W: Write> Sink for WriterSink<W> {
+    ghost taken = { λ s. W.contents s.inner };
+
+    ghost faults = { λ s. s.faults };
+
+    fn write(&mut self, piece: &[u8]) -> Put {
+        let put = write_some(&mut self.inner, piece);
+        if put == Put::Failed {
+            self.faults = self.faults.saturating_add(1);
+        }
+        put
+    }
+}
+
+// Writes the first bytes, and tries again where a signal interrupts the write.
+fn write_some<W: Write>(writer: &mut W, piece: &[u8]) -> Put
+    ensures { Took (W.contents writer.old) (W.contents writer.new) piece.now result }
+{
+    for _ in 0..u64::MAX {
+        match writer.write(piece) {
+            Ok(0) => return Put::Failed,
+            Ok(count) => return Put::Took(count),
+            Err(error) if error.kind() == ErrorKind::Interrupted => {}
+            Err(_) => return Put::Failed,
+        }
+    }
+    Put::Failed
+}
