@@ -13,6 +13,8 @@ mod reader_source;
 mod sink;
 mod source;
 mod system_files;
+#[cfg(test)]
+mod tests;
 mod writer_sink;
 
 pub use files::{FileAnswer, Files};

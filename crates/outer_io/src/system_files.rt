@@ -60,8 +60,8 @@ fn open<R: std::rt::Files>(rt: &R, name: &str) -> io::Result<R::File> {
 // How many bytes one read of a file gives at most.
 const ROOM: usize = 65536;
 
-// Reads a file to its end, or to the first byte beyond the limit.
-fn read_file<F: Read>(alloc: Global, file: &mut F, limit: u64) -> FileAnswer
+/// Reads a file to its end, or to the first byte beyond the limit.
+pub(crate) fn read_file<F: Read>(alloc: Global, file: &mut F, limit: u64) -> FileAnswer
     ensures file { Found (option_map Some (F.remaining file.old)) limit result }
     ensures within { IsWithin limit result }
     ensures exists { result ≡ FileAnswer.Absent → ⊥ }
