@@ -1,4 +1,5 @@
-ghost use Rattle.std.specs.Prelude.{◌≡◌, ◌+◌, ◌<◌, ◌≤◌, None, Some, option_map};
+ghost use Rattle.std.specs.Prelude.{◌≡◌, ◌≢◌, ◌+◌, ◌<◌, ◌≤◌, ◌↔◌, IfErr, IfOk, IsErrAnd, None, Some, option_map};
+ghost use Rattle.std.specs.IoError.{error_kind};
 ghost use Rattle.outer_io.specs.Files.{Found, IsWithin};
 
 use crate::files::{FileAnswer, Files};
@@ -34,11 +35,7 @@ impl<R: std::rt::Files> Files for SystemFiles<'_, R> {
     ghost faults = { λ f. f.faults };
 
     fn read_whole(&mut self, alloc: Global, name: &TaskText, limit: u64) -> FileAnswer {
-        let answer = match open(self.rt, name.as_str()) {
-            Ok(mut file) => read_file(alloc, &mut file, limit),
-            Err(error) if error.kind() == ErrorKind::NotFound => FileAnswer::Absent,
-            Err(_) => FileAnswer::Failed,
-        };
+        let answer = read_opened(alloc, open(self.rt, name.as_str()), limit);
         if let FileAnswer::Failed = &answer {
             self.faults = self.faults.saturating_add(1);
         }
@@ -47,7 +44,9 @@ impl<R: std::rt::Files> Files for SystemFiles<'_, R> {
 }
 
 // Opens a file to be read, and tries again where a signal interrupts that.
-fn open<R: std::rt::Files>(rt: &R, name: &str) -> io::Result<R::File> {
+fn open<R: std::rt::Files>(rt: &R, name: &str) -> io::Result<R::File>
+    ensures { IfErr result (λ error. error_kind error ≢ ErrorKind.Interrupted) }
+{
     for _ in 0..u64::MAX {
         match fs::open(rt, name) {
             Err(error) if error.kind() == ErrorKind::Interrupted => {}
@@ -55,6 +54,20 @@ fn open<R: std::rt::Files>(rt: &R, name: &str) -> io::Result<R::File> {
         }
     }
     Err(io::Error::from(ErrorKind::TimedOut))
+}
+
+// Reads a file that was opened. It is absent exactly where the system says that there is no such file.
+fn read_opened<F: Read + Drop>(alloc: Global, opened: io::Result<F>, limit: u64) -> FileAnswer
+    ensures file { IfOk opened (λ file. Found (option_map Some (F.remaining file)) limit result) }
+    ensures within { IsWithin limit result }
+    ensures absent { (result ≡ FileAnswer.Absent) ↔ IsErrAnd opened (λ error. error_kind error ≡ ErrorKind.NotFound) }
+    ensures failed { IfErr opened (λ error. error_kind error ≢ ErrorKind.NotFound → result ≡ FileAnswer.Failed) }
+{
+    match opened {
+        Ok(mut file) => read_file(alloc, &mut file, limit),
+        Err(error) if error.kind() == ErrorKind::NotFound => FileAnswer::Absent,
+        Err(_) => FileAnswer::Failed,
+    }
 }
 
 // How many bytes one read of a file gives at most.
