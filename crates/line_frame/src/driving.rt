@@ -7,9 +7,9 @@ use crate::reading::Reading;
 use crate::{Finish, Machine};
 use outer_io::{Got, Sink, Source};
 use std::alloc::Global;
-use task_model::Row;
 
-const PIECE: usize = 4096;
+// How many bytes one read of a script gives at most.
+const PIECE: usize = 65536;
 
 /// Runs the lines of a script, of which at most `limit` bytes are looked at.
 pub fn drive<M: Machine, I: Source, O: Sink>(
@@ -28,11 +28,7 @@ pub fn drive<M: Machine, I: Source, O: Sink>(
     ensures write_failed { result ≡ Finish.WriteFault → Rose (O.faults out.old) (O.faults out.new) }
 {
     let mut room = [0u8; PIECE];
-    let mut reading = Reading {
-        kept: Row::new(alloc),
-        count: 0,
-        number: 1,
-    };
+    let mut reading = Reading::new(alloc);
     'script: loop {
         match input.read(&mut room) {
             Got::Took(count) => {
