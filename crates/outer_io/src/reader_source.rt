@@ -1,7 +1,9 @@
-ghost use Rattle.std.specs.Prelude.{◌≡◌, ◌<◌, ◌≤◌, length};
+ghost use Rattle.std.specs.Prelude.{◌≡◌, ◌≢◌, ◌==◌, ◌<◌, ◌≤◌, if◌then◌else◌, IfErr, IfOk, None, Some, length};
+ghost use Rattle.std.specs.IoError.{error_kind};
 ghost use Rattle.outer_io.specs.Source.{Gave};
 
 use crate::source::{Got, Source};
+use std::io;
 use std::io::{ErrorKind, Read};
 
 /// A source over any reader, as the standard input. It tells what the reader tells.
@@ -42,12 +44,23 @@ pub(crate) fn read_some<R: Read>(reader: &mut R, room: &mut [u8]) -> Got
     ensures { Gave (R.remaining reader.old) (R.remaining reader.new) room.new result }
 {
     for _ in 0..u64::MAX {
-        match reader.read(room) {
-            Ok(0) => return Got::End,
-            Ok(count) => return Got::Took(count),
-            Err(error) if error.kind() == ErrorKind::Interrupted => {}
-            Err(_) => return Got::Failed,
+        if let Some(got) = got_of(reader.read(room)) {
+            return got;
         }
     }
     Got::Failed
+}
+
+// What a read gave. None: a signal interrupted it.
+fn got_of(read: io::Result<usize>) -> Option<Got>
+    ensures ok { IfOk read (λ count. result ≡ Some (if count == 0 then Got.End else Got.Took count)) }
+    ensures interrupted { IfErr read (λ error. error_kind error ≡ ErrorKind.Interrupted → result ≡ None) }
+    ensures failed { IfErr read (λ error. error_kind error ≢ ErrorKind.Interrupted → result ≡ Some Got.Failed) }
+{
+    match read {
+        Ok(0) => Some(Got::End),
+        Ok(count) => Some(Got::Took(count)),
+        Err(error) if error.kind() == ErrorKind::Interrupted => None,
+        Err(_) => Some(Got::Failed),
+    }
 }

@@ -1,4 +1,4 @@
-ghost use Rattle.std.specs.Prelude.{◌≡◌, ◌≢◌, ◌+◌, ◌<◌, ◌≤◌, ◌↔◌, IfErr, IfOk, IsErrAnd, None, Some, option_map};
+ghost use Rattle.std.specs.Prelude.{◌≡◌, ◌≢◌, ◌+◌, ◌≤◌, ◌↔◌, min, IfErr, IfOk, IsErrAnd, None, Some, option_map};
 ghost use Rattle.std.specs.IoError.{error_kind};
 ghost use Rattle.outer_io.specs.Files.{Found, IsWithin};
 
@@ -100,9 +100,7 @@ pub(crate) fn read_file<F: Read>(alloc: Global, file: &mut F, limit: u64) -> Fil
 // How many bytes to ask for where so many are left to the limit: one more, which shows a file that
 // is too long, but no more than there is room for.
 fn piece_for(left: u64) -> usize
-    ensures some { 0 < result }
-    ensures fits { result ≤ ROOM }
-    ensures at_most { result ≤ left + 1 }
+    ensures { result ≡ min ROOM (left + 1) }
 {
     (ROOM as u64).min(left.saturating_add(1)) as usize
 }

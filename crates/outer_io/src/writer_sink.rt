@@ -1,7 +1,9 @@
-ghost use Rattle.std.specs.Prelude.{◌≡◌, ◌<◌, ◌≤◌, length};
+ghost use Rattle.std.specs.Prelude.{◌≡◌, ◌≢◌, ◌==◌, ◌<◌, ◌≤◌, if◌then◌else◌, IfErr, IfOk, None, Some, length};
+ghost use Rattle.std.specs.IoError.{error_kind};
 ghost use Rattle.outer_io.specs.Sink.{Took};
 
 use crate::sink::{Put, Sink};
+use std::io;
 use std::io::{ErrorKind, Write};
 
 /// A sink over a writer that keeps nothing back, as the standard output: what a write takes has
@@ -43,12 +45,23 @@ fn write_some<W: Write>(writer: &mut W, piece: &[u8]) -> Put
     ensures { Took (W.contents writer.old) (W.contents writer.new) piece.now result }
 {
     for _ in 0..u64::MAX {
-        match writer.write(piece) {
-            Ok(0) => return Put::Failed,
-            Ok(count) => return Put::Took(count),
-            Err(error) if error.kind() == ErrorKind::Interrupted => {}
-            Err(_) => return Put::Failed,
+        if let Some(put) = put_of(writer.write(piece)) {
+            return put;
         }
     }
     Put::Failed
+}
+
+// What a write took. None: a signal interrupted it.
+fn put_of(written: io::Result<usize>) -> Option<Put>
+    ensures ok { IfOk written (λ count. result ≡ Some (if count == 0 then Put.Failed else Put.Took count)) }
+    ensures interrupted { IfErr written (λ error. error_kind error ≡ ErrorKind.Interrupted → result ≡ None) }
+    ensures failed { IfErr written (λ error. error_kind error ≢ ErrorKind.Interrupted → result ≡ Some Put.Failed) }
+{
+    match written {
+        Ok(0) => Some(Put::Failed),
+        Ok(count) => Some(Put::Took(count)),
+        Err(error) if error.kind() == ErrorKind::Interrupted => None,
+        Err(_) => Some(Put::Failed),
+    }
 }
