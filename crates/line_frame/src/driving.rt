@@ -11,7 +11,12 @@ use std::alloc::Global;
 // How many bytes one read of a script gives at most.
 const PIECE: usize = 65536;
 
-/// Runs the lines of a script, of which at most `limit` bytes are looked at.
+/// Runs the lines of a script: each line is run, and its answer written, before the next is judged.
+///
+/// The run ends at the first line outside the grammar (`Bad`), at the first byte beyond `limit` bytes
+/// (`InputTooLong`), at the first read or write that fails, at want of memory, or where the script
+/// does (`Done`). Lines that end within the bytes that were read before are answered. Memory is taken
+/// for what is kept of a line, and by the machine.
 pub fn drive<M: Machine, I: Source, O: Sink>(
     alloc: Global,
     machine: &mut M,
