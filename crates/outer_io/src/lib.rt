@@ -1,5 +1,6 @@
 //! The outside of a program: bytes that come in, bytes that go out, and files, each with a count of its faults.
-//! Objects in memory tell their bytes and fail at chosen calls. Objects over real streams tell nothing.
+//! Objects in memory tell their bytes, and fail at chosen calls or never. Objects over streams tell what
+//! their streams tell, which for those of the system is nothing.
 #![tactic(auto)]
 
 mod failing_calls;
