@@ -7,11 +7,16 @@ use crate::reading::Reading;
 use crate::{Finish, Machine};
 use outer_io::{Got, Sink, Source};
 use std::alloc::Global;
-use task_model::Row;
 
-const PIECE: usize = 4096;
+// How many bytes one read of a script gives at most.
+const PIECE: usize = 65536;
 
-/// Runs the lines of a script, of which at most `limit` bytes are looked at.
+/// Runs the lines of a script: each line is run, and its answer written, before the next is judged.
+///
+/// The run ends at the first line outside the grammar (`Bad`), at the first byte beyond `limit` bytes
+/// (`InputTooLong`), at the first read or write that fails, at want of memory, or where the script
+/// does (`Done`). Lines that end within the bytes that were read before are answered. Memory is taken
+/// for what is kept of a line, and by the machine.
 pub fn drive<M: Machine, I: Source, O: Sink>(
     alloc: Global,
     machine: &mut M,
@@ -28,11 +33,7 @@ pub fn drive<M: Machine, I: Source, O: Sink>(
     ensures write_failed { result ≡ Finish.WriteFault → Rose (O.faults out.old) (O.faults out.new) }
 {
     let mut room = [0u8; PIECE];
-    let mut reading = Reading {
-        kept: Row::new(alloc),
-        count: 0,
-        number: 1,
-    };
+    let mut reading = Reading::new(alloc);
     'script: loop {
         match input.read(&mut room) {
             Got::Took(count) => {

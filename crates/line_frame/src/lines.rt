@@ -1,14 +1,14 @@
-ghost use Rattle.std.specs.Prelude.{◌≡◌, ◌+◌, ◌<◌, ◌≤◌, ◌^◌, ℕ, List, Option, [], ◌∷◌, ◌++◌, length, IfNone, MatchOption, Some, OnOk};
+ghost use Rattle.std.specs.Prelude.{◌≡◌, ◌+◌, ◌<◌, ◌≤◌, ◌^◌, ℕ, List, Option, [], ◌∷◌, ◌++◌, length, IfNone, IfOk, MatchOption, MatchResult, None, Some, Err, OnOk, slice_index, take};
 ghost use Rattle.outer_io.specs.Causes.{Rose};
 ghost use Rattle.line_frame.specs.Told.{Told, Comes};
-ghost use Rattle.line_frame.specs.Stands.{Goes, Answered, EndsAt, EndsScript};
+ghost use Rattle.line_frame.specs.Stands.{Goes, Answered, EndsAt, EndsScript, IsLine};
 ghost use Rattle.line_frame.specs.declared.finish.Finish.{Finish};
 
 use crate::reading::Reading;
 use crate::{Finish, LineStop, Machine};
+use memchr::memchr;
 use outer_io::{Sink, Written, write_all};
 use std::alloc::Global;
-use task_model::{OutOfMemory, Row};
 
 /// Takes the next bytes of a script: each line that ends is run, and its answer written. None: go on.
 pub(crate) fn take_piece<M: Machine, O: Sink>(
@@ -27,9 +27,11 @@ pub(crate) fn take_piece<M: Machine, O: Sink>(
     ensures count { O.faults out.old ≤ O.faults out.new }
     ensures failed { result ≡ Some Finish.WriteFault → Rose (O.faults out.old) (O.faults out.new) }
 {
-    for byte in piece {
-        if let Some(finish) = take_byte(alloc, machine, out, reading, limit, *byte) {
-            return Some(finish);
+    let mut at = 0;
+    while at < piece.len() {
+        match take_line(alloc, machine, out, reading, limit, &piece[at..]) {
+            Ok(taken) => at += taken,
+            Err(finish) => return Some(finish),
         }
     }
     None
@@ -58,17 +60,64 @@ pub(crate) fn end_script<M: Machine, O: Sink>(
     }
 }
 
-// Takes the next byte of a script.
-fn take_byte<M: Machine, O: Sink>(
+// Takes the next bytes of a script, up to the first LF among them. Ok: how many there are, go on.
+fn take_line<M: Machine, O: Sink>(
     alloc: Global,
     machine: &mut M,
     out: &mut O,
     reading: &mut Reading,
     limit: u64,
-    byte: u8,
+    bytes: &[u8],
+) -> Result<usize, Finish>
+    requires room { limit < 2 ^ 63 }
+    requires some { 0 < length bytes.now }
+    ensures goes { MatchResult result
+        (λ taken. Goes (M.tells machine.old) (M.tells machine.new) (O.taken out.old) (O.taken out.new) M.LONGEST limit reading.old reading.new (take taken bytes.now) None)
+        (λ finish. Goes (M.tells machine.old) (M.tells machine.new) (O.taken out.old) (O.taken out.new) M.LONGEST limit reading.old reading.new bytes.now (Some finish)) }
+    ensures some { IfOk result (λ taken. 0 < taken) }
+    ensures fits { IfOk result (λ taken. taken ≤ length bytes.now) }
+    ensures counted { IfOk result (λ taken. reading.new.count ≡ reading.old.count + taken) }
+    ensures within { OnOk result (reading.old.count ≤ limit → reading.new.count ≤ limit) }
+    ensures reads { result ≡ Err Finish.ReadFault → ⊥ }
+    ensures files { result ≡ Err Finish.FileFault → ⊥ }
+    ensures count { O.faults out.old ≤ O.faults out.new }
+    ensures failed { result ≡ Err Finish.WriteFault → Rose (O.faults out.old) (O.faults out.new) }
+{
+    let run = run_length(bytes);
+    if let Some(finish) = reading.take_run(M::LONGEST, limit, &bytes[..run]) {
+        return Err(finish);
+    }
+    if run == bytes.len() {
+        return Ok(run);
+    }
+    match take_lf(alloc, machine, out, reading, limit) {
+        Some(finish) => Err(finish),
+        None => Ok(run + 1),
+    }
+}
+
+// How many bytes stand before the first LF, or in all where there is none.
+fn run_length(bytes: &[u8]) -> usize
+    ensures fits { result ≤ length bytes.now }
+    ensures no_lf { IsLine (take result bytes.now) }
+    ensures lf { result < length bytes.now → slice_index bytes.now result ≡ 10 }
+{
+    match memchr(b'\n', bytes) {
+        Some(at) => at,
+        None => bytes.len(),
+    }
+}
+
+// Takes the LF that ends a line: the line is run, and its answer written.
+fn take_lf<M: Machine, O: Sink>(
+    alloc: Global,
+    machine: &mut M,
+    out: &mut O,
+    reading: &mut Reading,
+    limit: u64,
 ) -> Option<Finish>
     requires { limit < 2 ^ 63 }
-    ensures goes { Goes (M.tells machine.old) (M.tells machine.new) (O.taken out.old) (O.taken out.new) M.LONGEST limit reading.old reading.new (byte ∷ []) result }
+    ensures goes { Goes (M.tells machine.old) (M.tells machine.new) (O.taken out.old) (O.taken out.new) M.LONGEST limit reading.old reading.new (10 ∷ []) result }
     ensures counted { IfNone result ((reading.new.count ≡ reading.old.count + 1) × (reading.new.count ≤ limit)) }
     ensures reads { result ≡ Some Finish.ReadFault → ⊥ }
     ensures files { result ≡ Some Finish.FileFault → ⊥ }
@@ -79,31 +128,14 @@ fn take_byte<M: Machine, O: Sink>(
         return Some(Finish::InputTooLong);
     }
     reading.count += 1;
-    if byte == b'\n' {
-        return match end_line(alloc, machine, out, reading.kept.as_slice(), reading.number) {
-            Some(finish) => Some(finish),
-            None => {
-                reading.kept.truncate(0);
-                reading.number += 1;
-                None
-            }
-        };
+    match end_line(alloc, machine, out, reading.kept.as_slice(), reading.number) {
+        Some(finish) => Some(finish),
+        None => {
+            reading.kept.truncate(0);
+            reading.number += 1;
+            None
+        }
     }
-    match keep(&mut reading.kept, M::LONGEST, byte) {
-        Ok(()) => None,
-        Err(_) => Some(Finish::Memory),
-    }
-}
-
-// Keeps a byte of a line, unless more than the longest line is kept already.
-fn keep(kept: &mut Row<u8>, longest: usize, byte: u8) -> Result<(), OutOfMemory>
-    ensures short { OnOk result (length kept.old.list ≤ longest → kept.new.list ≡ kept.old.list ++ byte ∷ []) }
-    ensures long { OnOk result (longest < length kept.old.list → kept.new.list ≡ kept.old.list) }
-{
-    if kept.as_slice().len() > longest {
-        return Ok(());
-    }
-    kept.push(byte)
 }
 
 // Runs a line that has ended, and writes its answer.

@@ -7,7 +7,9 @@ ghost use Rattle.line_frame.specs.declared.finish.Finish.TheVariants.{Bad};
 use std::alloc::Global;
 use task_model::Row;
 
-/// Why a line has no answer.
+/// Why a line has no answer: it is outside the grammar at this column, which counts from 1, or memory
+/// ran out.
+#[derive(Clone, Copy, Debug, PartialEq, Eq)]
 pub enum LineStop {
     Bad { column: u64 },
     Memory,

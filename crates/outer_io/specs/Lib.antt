@@ -1,5 +1,7 @@
 pub mod Causes
+pub mod FailingCalls
 pub mod Files
-pub mod Held
+pub mod PlainFiles
+pub mod PlainSource
 pub mod Sink
 pub mod Source

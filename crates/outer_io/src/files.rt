@@ -5,7 +5,9 @@ ghost use Rattle.outer_io.specs.Files.{Found, IsWithin, KeepsFile};
 use std::alloc::Global;
 use task_model::{Row, TaskText};
 
-/// The answer to a request for a whole file.
+/// The answer to a request for a whole file: its bytes, that there is no such file, that it has
+/// more bytes than were asked for, a fault, or want of memory.
+#[derive(Drop)]
 pub enum FileAnswer {
     Bytes(Row<u8>),
     Absent,
@@ -19,8 +21,10 @@ pub trait Files {
     // What a name holds, where the object tells it: no file, or these bytes.
     ghost holds: { Self → List ℕ → Option (Option (List ℕ)) };
 
+    // How many requests have failed.
     ghost faults: { Self → ℕ };
 
+    /// Reads a whole file of at most `limit` bytes.
     fn read_whole(&mut self, alloc: Global, name: &TaskText, limit: u64) -> FileAnswer
         ensures file { Found (holds self.old name.now) limit result }
         ensures within { IsWithin limit result }

@@ -1,19 +1,31 @@
 //! The outside of a program: bytes that come in, bytes that go out, and files, each with a count of its faults.
-//! Objects in memory tell their bytes and fail at chosen calls. Objects over real streams tell nothing.
+//! Objects in memory tell their bytes, and fail at chosen calls or never. Objects over streams tell what
+//! their streams tell, which for those of the system is nothing.
 #![tactic(auto)]
 
+mod failing_calls;
 mod files;
 mod mem_files;
 mod mem_sink;
 mod mem_source;
+mod plain_files;
+mod plain_source;
+mod reader_source;
 mod sink;
 mod source;
-mod streams;
+mod system_files;
+#[cfg(test)]
+mod tests;
+mod writer_sink;
 
 pub use files::{FileAnswer, Files};
 pub use mem_files::MemFiles;
 pub use mem_sink::MemSink;
-pub use mem_source::{MemSource, PlainSource};
+pub use mem_source::MemSource;
+pub use plain_files::PlainFiles;
+pub use plain_source::PlainSource;
+pub use reader_source::ReaderSource;
 pub use sink::{Put, Sink, Written, write_all, write_four, write_two};
 pub use source::{Got, Source};
-pub use streams::{ReaderSource, SystemFiles, WriterSink};
+pub use system_files::SystemFiles;
+pub use writer_sink::WriterSink;

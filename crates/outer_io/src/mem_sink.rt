@@ -1,36 +1,39 @@
-ghost use Rattle.std.specs.Prelude.{◌≡◌, ◌<◌, [], Some};
+ghost use Rattle.std.specs.Prelude.{◌≡◌, ◌<◌, ◌≤◌, [], IsTrue, Some, length};
+ghost use Rattle.outer_io.specs.Causes.{Rose};
+ghost use Rattle.outer_io.specs.FailingCalls.{fails_next, IsCounted};
+ghost use Rattle.outer_io.specs.Sink.{Took, TookAtMost};
 
+use crate::failing_calls::FailingCalls;
 use crate::sink::{Put, Sink};
 use std::alloc::Global;
 use task_model::Row;
 
-/// A sink in memory that takes pieces, with writes that fail at chosen calls. A growth that is refused is a failure.
+/// A sink in memory that takes pieces, with writes that fail at chosen calls. A growth that is
+/// refused is a failure, too.
 #[derive(Drop)]
 pub struct MemSink {
     bytes: Row<u8>,
     piece: usize,
-    failing: Row<u64>,
-    calls: u64,
-    faults: u64,
+    plan: FailingCalls,
     ghost takes_some: { 0 < piece },
 }
 
 impl MemSink {
-    /// `failing` lists the calls that fail, counted from 1.
+    /// A write takes at most `piece` bytes. `failing` lists the calls that fail, counted from 1.
     pub fn new(alloc: Global, piece: usize, failing: Row<u64>) -> MemSink
         requires { 0 < piece }
         ensures taken { ⟦<MemSink as Sink>⟧.taken result ≡ Some [] }
-        ensures faults { ⟦<MemSink as Sink>⟧.faults result ≡ 0 }
+        ensures piece { result.piece ≡ piece }
+        ensures plan { result.plan ≡ record { failing = failing; calls = 0; faults = 0 } }
     {
         MemSink {
             bytes: Row::new(alloc),
             piece,
-            failing,
-            calls: 0,
-            faults: 0,
+            plan: FailingCalls::new(failing),
         }
     }
 
+    /// The bytes that were taken.
     pub fn taken(&self) -> &[u8]
         ensures { ⟦<MemSink as Sink>⟧.taken self.now ≡ Some result.now }
     {
@@ -41,17 +44,27 @@ impl MemSink {
 impl Sink for MemSink {
     ghost taken = { λ s. Some s.bytes.list };
 
-    ghost faults = { λ s. s.faults };
+    ghost faults = { λ s. s.plan.faults };
 
-    fn write(&mut self, piece: &[u8]) -> Put {
-        self.calls = self.calls.saturating_add(1);
-        let count = self.piece.min(piece.len());
-        if self.failing.as_slice().contains(&self.calls)
-            || self.bytes.extend(&piece[..count]).is_err()
-        {
-            self.faults = self.faults.saturating_add(1);
+    fn write(&mut self, piece: &[u8]) -> Put
+        requires { 0 < length piece.now }
+        ensures bytes { Took (Some self.old.bytes.list) (Some self.new.bytes.list) piece.now result }
+        ensures count { self.old.plan.faults ≤ self.new.plan.faults }
+        ensures failed { result ≡ Put.Failed → Rose self.old.plan.faults self.new.plan.faults }
+        ensures at_most { TookAtMost self.old.piece result }
+        ensures listed { IsTrue (fails_next self.old.plan) → result ≡ Put.Failed }
+        ensures counted { IsCounted self.old.plan self.new.plan }
+    {
+        if self.plan.next_fails() {
             return Put::Failed;
         }
-        Put::Took(count)
+        let count = self.piece.min(piece.len());
+        match self.bytes.extend(&piece[..count]) {
+            Ok(()) => Put::Took(count),
+            Err(_) => {
+                self.plan.add_fault();
+                Put::Failed
+            }
+        }
     }
 }

@@ -1,108 +1,53 @@
-ghost use Rattle.std.specs.Prelude.{◌≡◌, ◌<◌, ◌≤◌, ◌+◌, length, take, drop, Some};
+ghost use Rattle.std.specs.Prelude.{◌≡◌, ◌<◌, ◌≤◌, ◌↔◌, IsTrue, Some, length};
+ghost use Rattle.outer_io.specs.Causes.{Rose};
+ghost use Rattle.outer_io.specs.FailingCalls.{fails_next, IsCounted};
+ghost use Rattle.outer_io.specs.PlainSource.{left_of};
+ghost use Rattle.outer_io.specs.Source.{Gave, GaveAtMost};
 
+use crate::failing_calls::FailingCalls;
+use crate::plain_source::PlainSource;
 use crate::source::{Got, Source};
 use task_model::Row;
 
 /// Bytes in memory that come in pieces, with reads that fail at chosen calls.
 #[derive(Drop)]
 pub struct MemSource {
-    bytes: Row<u8>,
-    at: usize,
-    piece: usize,
-    failing: Row<u64>,
-    calls: u64,
-    faults: u64,
-    ghost gives_some: { 0 < piece },
-    ghost in_range: { at ≤ length bytes.list },
+    plain: PlainSource,
+    plan: FailingCalls,
 }
 
 impl MemSource {
-    /// `failing` lists the calls that fail, counted from 1.
+    /// A read gives at most `piece` bytes. `failing` lists the calls that fail, counted from 1.
     pub fn new(bytes: Row<u8>, piece: usize, failing: Row<u64>) -> MemSource
         requires { 0 < piece }
         ensures left { ⟦<MemSource as Source>⟧.left result ≡ Some bytes.list }
-        ensures faults { ⟦<MemSource as Source>⟧.faults result ≡ 0 }
+        ensures piece { result.plain.piece ≡ piece }
+        ensures plan { result.plan ≡ record { failing = failing; calls = 0; faults = 0 } }
     {
         MemSource {
-            bytes,
-            at: 0,
-            piece,
-            failing,
-            calls: 0,
-            faults: 0,
+            plain: PlainSource::new(bytes, piece),
+            plan: FailingCalls::new(failing),
         }
     }
 }
 
 impl Source for MemSource {
-    ghost left = { λ s. Some (drop s.at s.bytes.list) };
+    ghost left = { λ s. Some (left_of s.plain) };
 
-    ghost faults = { λ s. s.faults };
+    ghost faults = { λ s. s.plan.faults };
 
-    fn read(&mut self, room: &mut [u8]) -> Got {
-        self.calls = self.calls.saturating_add(1);
-        if self.failing.as_slice().contains(&self.calls) {
-            self.faults = self.faults.saturating_add(1);
+    fn read(&mut self, room: &mut [u8]) -> Got
+        requires { 0 < length room.old }
+        ensures bytes { Gave (Some (left_of self.old.plain)) (Some (left_of self.new.plain)) room.new result }
+        ensures count { self.old.plan.faults ≤ self.new.plan.faults }
+        ensures failed { result ≡ Got.Failed → Rose self.old.plan.faults self.new.plan.faults }
+        ensures at_most { GaveAtMost self.old.plain.piece result }
+        ensures listed { (result ≡ Got.Failed) ↔ IsTrue (fails_next self.old.plan) }
+        ensures counted { IsCounted self.old.plan self.new.plan }
+    {
+        if self.plan.next_fails() {
             return Got::Failed;
         }
-        let count = copy_next(self.bytes.as_slice(), self.at, self.piece, room);
-        if count == 0 {
-            return Got::End;
-        }
-        self.at += count;
-        Got::Took(count)
+        self.plain.read(room)
     }
-}
-
-/// Bytes in memory that come in pieces, and never fail.
-#[derive(Drop)]
-pub struct PlainSource {
-    bytes: Row<u8>,
-    at: usize,
-    piece: usize,
-    ghost gives_some: { 0 < piece },
-    ghost in_range: { at ≤ length bytes.list },
-}
-
-impl PlainSource {
-    pub fn new(bytes: Row<u8>, piece: usize) -> PlainSource
-        requires { 0 < piece }
-        ensures { ⟦<PlainSource as Source>⟧.left result ≡ Some bytes.list }
-    {
-        PlainSource {
-            bytes,
-            at: 0,
-            piece,
-        }
-    }
-}
-
-impl Source for PlainSource {
-    ghost left = { λ s. Some (drop s.at s.bytes.list) };
-
-    ghost faults = { λ _. 0 };
-
-    fn read(&mut self, room: &mut [u8]) -> Got {
-        let count = copy_next(self.bytes.as_slice(), self.at, self.piece, room);
-        if count == 0 {
-            return Got::End;
-        }
-        self.at += count;
-        Got::Took(count)
-    }
-}
-
-// Copies the next bytes to the front of `room`, at most a piece, and says how many.
-fn copy_next(bytes: &[u8], at: usize, piece: usize, room: &mut [u8]) -> usize
-    requires positive { 0 < piece }
-    requires in_range { at ≤ length bytes.now }
-    requires has_room { 0 < length room.old }
-    ensures copied { take result room.new ≡ take result (drop at bytes.now) }
-    ensures fits { result ≤ length room.new }
-    ensures there { at + result ≤ length bytes.now }
-    ensures none { result ≡ 0 → at ≡ length bytes.now }
-{
-    let count = piece.min(room.len()).min(bytes.len() - at);
-    room[..count].copy_from_slice(&bytes[at..at + count]);
-    count
 }

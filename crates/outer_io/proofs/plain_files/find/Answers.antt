@@ -2,8 +2,8 @@ use Rattle.std.proofs.Common.{◌≡◌, ◌∙◌, ◌+◌, ◌<◌, ℕ, List,
 use Rattle.std.proofs.lemmas.List.{drop_more}
 use Rattle.std.specs.Cmp.Lexicographic.{pointwise}
 use Rattle.task_model.specs.Rowed.{Rowed}
-use Rattle.outer_io.specs.Held.{held}
-use Rattle.outer_io.proofs.mem_files.find.Goals as goal
+use Rattle.outer_io.specs.PlainFiles.{held}
+use Rattle.outer_io.proofs.plain_files.find.Goals as goal
 
 -- a name that isn't the one is passed over
 passed : (names : List (List ℕ)) (contents : List (Rowed ℕ)) (name other : List ℕ) (i : ℕ) → i < length names → i < length contents

@@ -1,0 +1,80 @@
+ghost use Rattle.std.specs.Prelude.{[], ◌∷◌, ◌<◌, ◌^◌, refl};
+ghost use Rattle.std.specs.List.{flat_map};
+
+use crate::{Finish, LineStop, Machine, drive};
+use outer_io::{MemSink, MemSource};
+use std::alloc::Global;
+use std::process::Abort;
+use std::test::Fail;
+use task_model::{OutOfMemory, Row};
+
+/// A machine that answers each line with the same two bytes.
+#[derive(Drop)]
+struct Yes;
+
+impl Machine for Yes {
+    ghost LONGEST = { 3 };
+
+    const LONGEST: usize = 3;
+
+    ghost tells = { λ _ _ lines finish. record { output = flat_map (λ _. 121 ∷ 10 ∷ []) lines; finish = finish } };
+
+    fn run_line(&mut self, alloc: Global, _line: &[u8]) -> Result<Row<u8>, LineStop> {
+        let mut text = Row::new(alloc);
+        match text.extend(b"y\n") {
+            Ok(()) => Ok(text),
+            Err(_) => Err(LineStop::Memory),
+        }
+    }
+
+    ghost no_lines = { λ _ _ _. refl };
+
+    ghost cut_line = { λ _ _ _ _ _. refl };
+}
+
+fn row<T: Copy + Drop>(alloc: Global, items: &[T]) -> Result<Row<T>, OutOfMemory> {
+    let mut row = Row::new(alloc);
+    for item in items {
+        row.push(*item)?;
+    }
+    Ok(row)
+}
+
+// Four lines, the last of which has no LF, in pieces of this size. The read and the write of these
+// numbers fail.
+fn run(
+    rt: &(impl AllocGlobal + Abort),
+    piece: usize,
+    limit: u64,
+    read: u64,
+    write: u64,
+    want: (Finish, &[u8]),
+) -> Result<(), OutOfMemory>
+    requires piece { 0 < piece }
+    requires limit { limit < 2 ^ 63 }
+{
+    let alloc = rt.alloc();
+    let mut input = MemSource::new(
+        row(alloc, b"a\nlong line\n\nd")?,
+        piece,
+        row(alloc, &[read])?,
+    );
+    let mut out = MemSink::new(alloc, 9, row(alloc, &[write])?);
+    let finish = drive(alloc, &mut Yes, &mut input, &mut out, limit);
+    assert_eq!(rt; finish, want.0);
+    assert_eq!(rt; out.taken(), want.1);
+    Ok(())
+}
+
+#[test]
+fn a_script_is_run_in_pieces_of_any_size(rt: HostRuntime) -> Result<(), Fail> {
+    for piece in [1, 5, 99] {
+        run(&rt, piece, 14, 0, 0, (Finish::Done, b"y\ny\ny\ny\n"))?;
+        run(&rt, piece, 13, 0, 0, (Finish::InputTooLong, b"y\ny\ny\n"))?;
+        run(&rt, piece, 11, 0, 0, (Finish::InputTooLong, b"y\n"))?;
+        run(&rt, piece, 99, 0, 2, (Finish::WriteFault, b"y\n"))?;
+    }
+    run(&rt, 5, 99, 2, 0, (Finish::ReadFault, b"y\n"))?;
+    run(&rt, 99, 99, 2, 0, (Finish::ReadFault, b"y\ny\ny\n"))?;
+    Ok(())
+}
