@@ -1,0 +1,5 @@
+mod SentenceLemmas
+mod LineLemmas
+mod SessionLemmas
+mod WorkLemmas
+mod PromiseLemmas

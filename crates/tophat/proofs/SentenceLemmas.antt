@@ -1,0 +1,24 @@
+-- A sentence of words and numbers, written in two writes.
+use Rattle.std.proofs.Common.{◌≡◌, ℕ, List, [], ◌∷◌, ◌++◌, Option, ap, ◌∙◌, subst}
+use Rattle.std.specs.Io.KnownBytes.{Appends}
+use Rattle.outer_io.specs.Sink.{Wrote}
+use Rattle.outer_io.specs.declared.sink.Written.{Written}
+use Rattle.outer_io.specs.declared.sink.Written.TheVariants.{Failed}
+use Rattle.outer_io.proofs.Bytes.{wrote_then, wrote_part}
+
+-- a word, a number, a word and a number were written, and then an LF
+pub pair_then : (old mid new : Option (List ℕ)) (a x b y d e : List ℕ) (r : Written) → x ≡ d → y ≡ e → Appends old mid (a ++ x ++ (b ++ y)) → Wrote mid new (10 ∷ []) r
+    → Wrote old new (a ++ d ++ (b ++ e) ++ 10 ∷ []) r
+pair_then old mid new a x b y d e r p q one two =
+    let text : List ℕ = a ++ x ++ (b ++ y) in
+    let same : text ≡ a ++ d ++ (b ++ e) = ap (λ z. a ++ z ++ (b ++ y)) p ∙ ap (λ z. a ++ d ++ (b ++ z)) q in
+    subst (λ (z : List ℕ). Wrote old new (z ++ 10 ∷ []) r) same (wrote_then old mid new text (10 ∷ []) r one two)
+
+-- of a word, a number, a word and a number the first part was written
+pub pair_part : (old new : Option (List ℕ)) (a x b y d e : List ℕ) → x ≡ d → y ≡ e → Wrote old new (a ++ x ++ (b ++ y)) Failed
+    → Wrote old new (a ++ d ++ (b ++ e) ++ 10 ∷ []) Failed
+pair_part old new a x b y d e p q one =
+    let text : List ℕ = a ++ x ++ (b ++ y) in
+    let same : text ≡ a ++ d ++ (b ++ e) = ap (λ z. a ++ z ++ (b ++ y)) p ∙ ap (λ z. a ++ d ++ (b ++ z)) q in
+    subst (λ (z : List ℕ). Wrote old new (z ++ 10 ∷ []) Failed) same (wrote_part old new text (10 ∷ []) one)
+

@@ -1,0 +1,11 @@
+pub mod Words
+pub mod Line
+pub mod Reads
+pub mod Session
+pub mod CutLine
+pub mod Ending
+pub mod Reading
+pub mod Top
+pub mod Worked
+pub mod Went
+pub mod Promise

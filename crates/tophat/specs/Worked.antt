@@ -1,0 +1,49 @@
+-- What a run did.
+use Rattle.std.specs.Prelude.{ℕ, ◌≡◌, List, [], Option, None, Some, Result, Ok, Err, ⊤}
+use Rattle.std.specs.Io.KnownBytes.{Appends, Consumes}
+use Rattle.outer_io.specs.Sink.{IsStart}
+use Rattle.task_model.specs.Text.{Text}
+use Rattle.task_model.specs.Program.{ProgramTerm}
+use Rattle.world_core.specs.World.{SeenWorld, WorldTerm, world_term}
+use Rattle.line_frame.specs.Told.{Told, Comes}
+use Rattle.line_frame.specs.Drove.{IsTold}
+use Rattle.line_frame.specs.declared.finish.Finish.{Finish}
+use Rattle.line_frame.specs.declared.finish.Finish.TheVariants.{ReadFault}
+use Rattle.tophat.specs.Reading.{IsReading, IsReadingOf}
+use Rattle.tophat.specs.Top.{Limits, by_program, by_file, top_text, so_far}
+
+-- the known file is this
+abbrev pub IsFile : Option (Option Text) → Option Text → Type 0
+IsFile None file = ⊤
+IsFile (Some known) file = known ≡ file
+
+-- The file and the script are those that the objects told, where they tell. What was written is what is told by them and by the file's
+-- program, and the end is the told one; or it is the first part of that, and the end is a fault or want of memory. After a fault of the
+-- input it is the whole output of the lines that end within the bytes that were read.
+pub record Worked (l : Limits) (named : Option Text) (holds : Option (Option Text)) (left_old left_new taken_old taken_new : Option Text) (finish : Finish) : Type 0 where
+  pub file : Option Text
+  pub script : Text
+  pub read : Text
+  pub written : Text
+  pub file_told : IsFile holds file
+  pub script_told : IsTold left_old script
+  pub begins : IsStart read script
+  pub consumed : Consumes left_old left_new read
+  pub took : Appends taken_old taken_new written
+  pub comes : (reading : Option ProgramTerm) → IsReadingOf file reading → Comes (top_text l named file reading script) written finish
+  pub answered : (reading : Option ProgramTerm) → IsReadingOf file reading → finish ≡ ReadFault → so_far l file reading read ≡ record { output = written; finish = ReadFault }
+
+-- a world was opened where this is told of every way to go on, or the end comes with nothing written
+abbrev pub Opens : ((WorldTerm → Told) → Told) → Result SeenWorld Finish → Type 0
+Opens told_by (Ok w) = (told : WorldTerm → Told) → told_by told ≡ told (world_term w)
+Opens told_by (Err finish) = (told : WorldTerm → Told) → Comes (told_by told) [] finish
+
+-- the same of bytes, by the program that they have
+abbrev pub OpensBytes : ℕ → Text → Result SeenWorld Finish → Type 0
+OpensBytes budget bytes result = (reading : Option ProgramTerm) → IsReading bytes reading → Opens (by_program budget reading) result
+
+-- the same of the file that was found
+pub record Opening (l : Limits) (holds : Option (Option Text)) (result : Result SeenWorld Finish) : Type 0 where
+  pub file : Option Text
+  pub file_told : IsFile holds file
+  pub opens : (reading : Option ProgramTerm) → IsReadingOf file reading → Opens (by_file l file reading) result

@@ -1,0 +1,46 @@
+ghost use Rattle.std.specs.Prelude.{◌≡◌, ◌⊎◌};
+ghost use Rattle.outer_io.specs.Causes.{Rose};
+ghost use Rattle.tophat.specs.Words as grammar;
+ghost use Rattle.tophat.specs.Top.{limits};
+ghost use Rattle.tophat.specs.Went.{Went};
+ghost use Rattle.tophat.specs.Promise.{Promised};
+
+use crate::ending::{status, tell};
+use crate::words::name_of;
+use crate::work::work;
+use outer_io::{Files, Sink, Source};
+use std::alloc::Global;
+use std::marker::Brand;
+use std::sync::ledger::Blank;
+use task_model::TaskText;
+
+/// Does what the words of a command line ask for, without the program's own name, and answers the status.
+///
+/// `run FILE` reads the program in FILE, opens it, and runs the script on the input (docs/FORMATS.md, "Words" and
+/// "Statuses"). A fault of `err` changes no status.
+pub fn tophat<F: Files, I: Source, O: Sink, E: Sink>(
+    alloc: Global,
+    words: &[TaskText],
+    files: &mut F,
+    input: &mut I,
+    out: &mut O,
+    err: &mut E,
+) -> u8
+    // What was written to both sinks, and the status.
+    ensures went { Went limits words.now (F.holds files.old (grammar.name_of words.now)) (I.left input.old) (I.left input.new)
+        (O.taken out.old) (O.taken out.new) (E.taken err.old) (E.taken err.new)
+        (record { before = F.faults files.old; now = F.faults files.new }) (record { before = I.faults input.old; now = I.faults input.new })
+        (record { before = O.faults out.old; now = O.faults out.new }) (record { before = E.faults err.old; now = E.faults err.new }) result }
+
+    // Where the objects tell their bytes: the status and the output are the told ones, or the status is 5, 6 or 8
+    // and the output is the first part of that.
+    ensures told { Promised limits (grammar.file_of words.now) (F.holds files.old (grammar.name_of words.now)) (I.left input.old) (O.taken out.old) (O.taken out.new) result }
+
+    // A fault is answered only where a count rose.
+    ensures read_fault { result ≡ 5 → Rose (F.faults files.old) (F.faults files.new) ⊎ Rose (I.faults input.old) (I.faults input.new) }
+    ensures write_fault { result ≡ 6 → Rose (O.faults out.old) (O.faults out.new) }
+{
+    let finish = work::<F, I, O, Brand>(alloc, words, files, input, out, Blank::new(1));
+    let _ = tell(err, name_of(words), finish);
+    status(finish)
+}
