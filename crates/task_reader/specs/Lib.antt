@@ -1,1 +1,5 @@
 pub mod PlainText
+pub mod Marks
+pub mod Lexes
+pub mod Numbers
+pub mod Spots

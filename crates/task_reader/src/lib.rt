@@ -2,3 +2,8 @@
 #![tactic(auto)]
 
 ghost use Rattle.task_reader.specs.PlainText.{IsPlainText};
+
+mod front;
+mod mark;
+mod runs;
+mod spot;

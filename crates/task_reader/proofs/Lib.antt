@@ -1,0 +1,6 @@
+pub mod Fronts
+pub mod Leading
+pub mod Longest
+pub mod MarkLemmas
+pub mod RunLemmas
+pub mod Words

@@ -1,0 +1,44 @@
+ghost use Rattle.std.specs.Prelude.{◌≡◌, ℕ, List, [], ◌∷◌, MatchOption, IfOk, pos};
+ghost use Rattle.task_model.specs.Token.{TokenTerm, number_from};
+ghost use Rattle.task_model.specs.Text.{Text};
+ghost use Rattle.task_reader.specs.Marks.{mark_token};
+ghost use Rattle.task_reader.specs.PlainText as plain;
+ghost use Rattle.task_reader.specs.Spots.{spot_terms};
+
+use crate::mark::Mark;
+use crate::spot::{Spot, Token, Number};
+use std::alloc::Global;
+use task_model::{Row, OutOfMemory};
+
+/// The place of this mark, if it stands first, and the tokens after it.
+pub(crate) fn strip<'t>(spots: &'t [Spot<'t>], mark: Mark) -> Option<(u64, &'t [Spot<'t>])>
+    ensures { MatchOption result
+        ((place : ℕ) (rest : List TokenTerm) → spot_terms spots.now ≡ mark_token mark place ∷ rest → ⊥)
+        (λ r. spot_terms spots.now ≡ mark_token mark r.0 ∷ spot_terms r.1.now) }
+{
+    let (first, rest) = spots.split_first()?;
+    match first.token {
+        Token::Mark(found) if found == mark => Some((first.from, rest)),
+        _ => None,
+    }
+}
+
+pub(crate) fn number<'t>(spots: &'t [Spot<'t>]) -> Option<(i64, u64, &'t [Spot<'t>])>
+    ensures { MatchOption result
+        ((digits : Text) (place : ℕ) (rest : List TokenTerm) → spot_terms spots.now ≡ plain.number digits place ∷ rest → ⊥)
+        (λ r. (digits : Text) × (spot_terms spots.now ≡ plain.number digits r.1 ∷ spot_terms r.2.now) × (r.0 ≡ pos (number_from 0 digits))) }
+{
+    let (first, rest) = spots.split_first()?;
+    match first.token {
+        Token::Number(number) => Some((number.value as i64, first.from, rest)),
+        _ => None,
+    }
+}
+
+pub(crate) fn test_row<'s>(alloc: Global, source: &'s [u8]) -> Result<Row<Spot<'s>>, OutOfMemory>
+    ensures { IfOk result (λ r. spot_terms r.list ≡ mark_token Mark.Task 0 ∷ []) }
+{
+    let mut row = Row::new(alloc);
+    row.push(Spot { token: Token::Mark(Mark::Task), from: 0 })?;
+    Ok(row)
+}
