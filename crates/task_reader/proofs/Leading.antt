@@ -1,5 +1,5 @@
 -- From what stands first to what follows it.
-use Rattle.std.proofs.Common.{◌≡◌, ◌≢◌, ℕ, suc, ◌+◌, ◌-◌, ◌<◌, ◌≤◌, Bool, true, false, not, List, [], ◌∷◌, ◌++◌, length, length-append, refl, sym, ap, ◌∙◌, subst, inl, inr, ◌⊎◌, arith, append_assoc}
+use Rattle.std.proofs.Common.{◌≡◌, ◌≢◌, ℕ, suc, ◌+◌, ◌-◌, ◌<◌, ◌≤◌, Bool, true, false, not, List, [], ◌∷◌, ◌++◌, length, length-append, refl, sym, ap, ◌∙◌, subst, inl, inr, ◌⊎◌, arith, append_assoc, append-nil}
 use Rattle.std.specs.Prelude.{◌==◌, if◌then◌else◌, ◌||◌}
 use Rattle.std.specs.Char.{is_ascii_digit}
 use Rattle.std.specs.List.{list_all}
@@ -90,6 +90,12 @@ stands_one m k bytes rest more h j =
 pub at_place : {place : ℕ} {bytes : Text} {new : List TokenTerm} {next other : ℕ} {rest : Text} → next ≡ other → Leads place bytes new next rest → Leads place bytes new other rest
 at_place {place = place} {bytes = bytes} {new = new} {rest = rest} e h = subst (λ n. Leads place bytes new n rest) e h
 
+-- as code says it: the place grows by as much as the bytes become fewer
+pub leads_by : {place : ℕ} {new : List TokenTerm} (bytes front rest : Text) → bytes ≡ front ++ rest → Leads place bytes new (place + length front) rest → Leads place bytes new (place + (length bytes - length rest)) rest
+leads_by {place = place} bytes front rest e h =
+    let length_is : length bytes ≡ length front + length rest = ap length e ∙ length-append front rest in
+    at_place (omega (arith, length_is)) h
+
 pub leads_more : {place : ℕ} {bytes : Text} {new : List TokenTerm} {next : ℕ} {rest : Text} {more : List TokenTerm} {last : ℕ} {end : Text} → Leads place bytes new next rest → Leads next rest more last end → Leads place bytes (new ++ more) last end
 leads_more {place = place} {bytes = bytes} {new = new} {next = next} {rest = rest} {more = more} {last = last} {end = end} h j = record {
   forth = λ ts l. subst (Lexes place bytes) (sym (append_assoc new more ts)) (h.forth (more ++ ts) (j.forth ts l));
@@ -98,6 +104,10 @@ leads_more {place = place} {bytes = bytes} {new = new} {next = next} {rest = res
       let (vs, e', l'') = j.back us l' in
       (vs, e ∙ ap (λ x. new ++ x) e' ∙ sym (append_assoc new more vs), l'');
 }
+
+pub leads_next : (source rest after : Text) (new more : List TokenTerm) → length rest ≤ length source → length after < length rest → Leads 0 source new (length source - length rest) rest
+    → Leads (length source - length rest) rest more ((length source - length rest) + (length rest - length after)) after → Leads 0 source (new ++ more) (length source - length after) after
+leads_next source rest after new more le lt h j = at_place (omega arith) (leads_more h j)
 
 pub blank_leads : (place b : ℕ) (rest : Text) → is_blank b ≡ true → Leads place (b ∷ rest) [] (place + 1) rest
 blank_leads place b rest is = record {
@@ -198,6 +208,26 @@ number_leads place bytes t rest h = record {
     back ts (a_number u more us j e l) =
         let same = run_one is_ascii_digit bytes t rest u more h.run j.run in
         (us, e ∙ ap (λ x. plain.number x place ∷ us) (sym same.0), subst (λ r. Lexes (place + length t) r us) (sym same.1) (subst (λ x. Lexes (place + length x) more us) (sym same.0) l))
+
+pub lexes_end : (place : ℕ) → Lexes place [] []
+lexes_end place = record { pieces = []; bytes_are = refl; right = tt; are = refl; plain = tt }
+
+pub lexes_end_only : (place : ℕ) (ts : List TokenTerm) → Lexes place [] ts → ts ≡ []
+lexes_end_only place ts l = go (front place [] ts l)
+  where
+    go : Front place [] ts → ts ≡ []
+    go (nothing e same) = same
+    go (a_blank b rest e h l) = absurd cc
+    go (a_comment t rest e h ends l) = absurd cc
+    go (a_mark m rest us h e l) = let k : at_end ≡ at_mark = sort-stands m [] rest h in absurd cc
+    go (a_number t rest us h e l) = let k : at_end ≡ at_digit = sort-number [] t rest h in absurd cc
+
+-- at the end of the bytes
+pub lexes_whole : (bytes : Text) (new : List TokenTerm) (next : ℕ) → Leads 0 bytes new next [] → Lexes 0 bytes new × ((ts : List TokenTerm) → Lexes 0 bytes ts → ts ≡ new)
+lexes_whole bytes new next h =
+    (subst (Lexes 0 bytes) (append-nil new) (h.forth [] (lexes_end next)), λ ts l.
+    let (us, e, l') = h.back ts l in
+    e ∙ ap (λ x. new ++ x) (lexes_end_only next us l') ∙ append-nil new)
 
 -- nothing plain stands first
 pub none_leads : (place b : ℕ) (bs : Text) (ts : List TokenTerm) → is_blank b ≡ false → b ≢ 35 → ((m : Mark) (rest : Text) → Stands m (b ∷ bs) rest → ⊥) → ((t rest : Text) → IsNumberAt (b ∷ bs) t rest → ⊥) → Lexes place (b ∷ bs) ts → ⊥

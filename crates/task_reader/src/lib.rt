@@ -4,6 +4,7 @@
 ghost use Rattle.task_reader.specs.PlainText.{IsPlainText};
 
 mod front;
+mod lexer;
 mod mark;
 mod runs;
 mod spot;
