@@ -60,15 +60,15 @@ sort-stands : (m : Mark) (bytes rest : Text) → Stands m bytes rest → sort by
 sort-stands m bytes rest h = ap sort h.0 ∙ sort-mark m rest
 
 -- ---- one mark stands at a place
-abbrev edit_or_enter : Text → Mark
+abbrev pub edit_or_enter : Text → Mark
 edit_or_enter [] = Edit
 edit_or_enter (b ∷ bs) = if b == 100 then Edit else Enter
 
-abbrev told : Text → Mark
+abbrev pub told : Text → Mark
 told [] = And
 told (b ∷ bs) = if b == 116 then Task else if b == 109 then Main else if b == 105 then Int else if b == 101 then edit_or_enter bs else if b == 40 then Open else if b == 41 then Close else if b == 44 then Comma else if b == 58 then Colon else if b == 61 then Equals else And
 
-told-mark : (m : Mark) (rest : Text) → told (spelling_of m ++ rest) ≡ m
+pub told-mark : (m : Mark) (rest : Text) → told (spelling_of m ++ rest) ≡ m
 told-mark Task rest = refl
 told-mark Main rest = refl
 told-mark Int rest = refl

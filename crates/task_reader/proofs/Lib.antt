@@ -3,4 +3,6 @@ pub mod Leading
 pub mod Longest
 pub mod MarkLemmas
 pub mod RunLemmas
+pub mod TokenLemmas
+pub mod TypeLemmas
 pub mod Words

@@ -2,4 +2,5 @@ pub mod PlainText
 pub mod Marks
 pub mod Lexes
 pub mod Numbers
+pub mod Reads
 pub mod Spots

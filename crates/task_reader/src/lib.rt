@@ -7,4 +7,6 @@ mod front;
 mod lexer;
 mod mark;
 mod runs;
+mod part;
 mod spot;
+mod types;
