@@ -1,3 +1,5 @@
+pub mod AtomLemmas
+pub mod ChainLemmas
 pub mod Fronts
 pub mod Leading
 pub mod Longest

@@ -9,4 +9,5 @@ mod mark;
 mod runs;
 mod part;
 mod spot;
+mod tasks;
 mod types;
