@@ -4,6 +4,7 @@ pub mod Fronts
 pub mod Leading
 pub mod Longest
 pub mod MarkLemmas
+pub mod ProgramLemmas
 pub mod RunLemmas
 pub mod TokenLemmas
 pub mod TypeLemmas

@@ -1,12 +1,13 @@
 -- What a reader of the front of some tokens answers: the one parse that stands there, or that none does within the limits.
 use Rattle.std.specs.Prelude.{◌≡◌, ℕ, ◌+◌, ◌≤◌, List, [], ◌∷◌, ◌++◌}
+use Rattle.task_model.specs.Accepted.{IsPlain}
 use Rattle.task_model.specs.Basic.{BasicTerm}
 use Rattle.task_model.specs.Task.{TaskTerm, task_term}
 use Rattle.task_model.specs.Token.{TokenTerm}
-use Rattle.task_reader.specs.declared.mark.Mark.TheVariants.{And}
+use Rattle.task_reader.specs.declared.mark.Mark.TheVariants.{Task, Main, Open, Close, Colon, Equals, And}
 use Rattle.task_reader.specs.declared.part.Part.{Part}
 use Rattle.task_reader.specs.Marks.{mark_token}
-use Rattle.task_reader.specs.PlainText.{TypeParse, AtomParse, edit_number, enter_int, group, ChainParse, single, joined, type_tokens, atom_tokens, chain_tokens, type_levels, atom_levels, chain_levels, type_of, atom_task, chain_task, atom_start, chain_start, atom_places, chain_places}
+use Rattle.task_reader.specs.PlainText.{TypeParse, AtomParse, edit_number, enter_int, group, ChainParse, single, joined, ProgramParse, program_tokens, program_levels, program_of, type_tokens, atom_tokens, chain_tokens, type_levels, atom_levels, chain_levels, type_of, atom_task, chain_task, atom_start, chain_start, atom_places, chain_places}
 
 -- ---- types
 abbrev pub NoType : ℕ → List TokenTerm → Type 0
@@ -76,3 +77,44 @@ pub record IsChain (room : ℕ) (ts : List TokenTerm) (part : PartTerm) (rest : 
   pub fits : Fits room part
   pub is : chain_part parse ≡ part
   pub only : (d : ChainParse) (s : List TokenTerm) → NoAnd s → ts ≡ chain_tokens d ++ s → d ≡ parse
+
+-- ---- programs
+-- the tokens of `task main() :` at these places, and what follows
+abbrev pub head_tokens : ℕ → ℕ → ℕ → ℕ → ℕ → List TokenTerm → List TokenTerm
+head_tokens t m o c k s = mark_token Task t ∷ (mark_token Main m ∷ (mark_token Open o ∷ (mark_token Close c ∷ (mark_token Colon k ∷ s))))
+
+abbrev pub NoHead : List TokenTerm → Type 0
+NoHead ts = (t m o c k : ℕ) (s : List TokenTerm) → ts ≡ head_tokens t m o c k s → ⊥
+
+pub record IsHead (ts : List TokenTerm) (start : ℕ) (rest : List TokenTerm) : Type 0 where
+  pub main : ℕ
+  pub opens : ℕ
+  pub closes : ℕ
+  pub colon : ℕ
+  pub split : ts ≡ head_tokens start main opens closes colon rest
+
+-- the tokens of `=` and a task
+abbrev pub NoBody : List TokenTerm → Type 0
+NoBody ts = (q : ℕ) (d : ChainParse) → Fits 200 (chain_part d) → ts ≡ mark_token Equals q ∷ chain_tokens d → ⊥
+
+pub record IsBody (ts : List TokenTerm) (part : PartTerm) : Type 0 where
+  pub equals : ℕ
+  pub parse : ChainParse
+  pub split : ts ≡ mark_token Equals equals ∷ chain_tokens parse
+  pub fits : Fits 200 part
+  pub is : chain_part parse ≡ part
+  pub only : (q : ℕ) (d : ChainParse) → ts ≡ mark_token Equals q ∷ chain_tokens d → d ≡ parse
+
+abbrev pub NoProgram : List TokenTerm → Type 0
+NoProgram ts = (d : ProgramParse) → program_tokens d ≡ ts → program_levels d ≤ 200 → IsPlain (program_of d) → ⊥
+
+-- the tokens are a plain program that starts here, with this result and this body
+pub record IsProgram (ts : List TokenTerm) (start : ℕ) (b : BasicTerm) (part : PartTerm) : Type 0 where
+  pub parse : ProgramParse
+  pub reads : program_tokens parse ≡ ts
+  pub levels : program_levels parse ≤ 200
+  pub plain : IsPlain (program_of parse)
+  pub start_is : parse.task ≡ start
+  pub result_is : type_of parse.result ≡ b
+  pub body_is : chain_part parse.body ≡ part
+  pub only : (d : ProgramParse) → program_tokens d ≡ ts → d ≡ parse
