@@ -1,17 +1,17 @@
 -- `edit`, `enter` and groups at the front of tokens.
-use Rattle.std.proofs.Common.{◌≡◌, ℕ, suc, max, ◌+◌, ◌-◌, ◌<◌, ◌≤◌, List, [], ◌∷◌, ◌++◌, refl, sym, ap, ◌∙◌, subst, arith, append_assoc}
+use Rattle.std.proofs.Common.{◌≡◌, ℕ, suc, ◌-◌, ◌<◌, ◌≤◌, List, [], ◌∷◌, ◌++◌, refl, sym, ap, ◌∙◌, arith}
 use Rattle.std.specs.Prelude.{pos}
 use Rattle.std.proofs.lemmas.List.{append_cancel_left}
 use Rattle.task_model.specs.Basic.{int_type}
 use Rattle.task_model.specs.Host.{int_expr}
-use Rattle.task_model.specs.Task.{TaskTerm, edit, enter}
+use Rattle.task_model.specs.Task.{edit, enter}
 use Rattle.task_model.specs.Text.{Text}
 use Rattle.task_model.specs.Token.{TokenTerm, number_from}
 use Rattle.task_reader.specs.declared.mark.Mark.TheVariants.{Int, Edit, Enter, Open, Close, And}
 use Rattle.task_reader.specs.Marks.{mark_token}
 use Rattle.task_reader.specs.PlainText as plain
 use Rattle.task_reader.specs.PlainText.{AtomParse, edit_number, enter_int, group, ChainParse, single, joined, atom_tokens, chain_tokens, atom_levels, chain_levels}
-use Rattle.task_reader.specs.Reads.{PartTerm, atom_part, chain_part, Fits, NoAnd, NoAtom, IsAtom, NoChain, IsChain}
+use Rattle.task_reader.specs.Reads.{PartTerm, atom_part, NoAnd, NoAtom, IsAtom, NoChain, IsChain}
 use Rattle.task_reader.proofs.TokenLemmas.{same_first, same_place, same_rest, same_mark, one_part}
 
 mutual

@@ -1,11 +1,11 @@
 -- Tasks with `<&>` between them at the front of tokens.
-use Rattle.std.proofs.Common.{◌≡◌, ℕ, suc, max, ◌+◌, ◌-◌, ◌<◌, ◌≤◌, List, [], ◌∷◌, ◌++◌, refl, sym, ap, ◌∙◌, subst, arith, append_assoc, append-nil}
+use Rattle.std.proofs.Common.{◌≡◌, ℕ, suc, max, ◌+◌, ◌-◌, ◌<◌, ◌≤◌, List, [], ◌∷◌, ◌++◌, refl, sym, ap, ◌∙◌, arith, append_assoc, append-nil}
 use Rattle.std.proofs.lemmas.List.{append_cancel_left}
-use Rattle.task_model.specs.Task.{TaskTerm, and_task}
+use Rattle.task_model.specs.Task.{and_task}
 use Rattle.task_model.specs.Token.{TokenTerm}
 use Rattle.task_reader.specs.declared.mark.Mark.TheVariants.{And}
 use Rattle.task_reader.specs.Marks.{mark_token}
-use Rattle.task_reader.specs.PlainText.{AtomParse, ChainParse, single, joined, atom_tokens, chain_tokens, atom_levels, chain_levels, atom_places, chain_places}
+use Rattle.task_reader.specs.PlainText.{AtomParse, ChainParse, single, joined, atom_tokens, chain_tokens, atom_levels, chain_levels}
 use Rattle.task_reader.specs.Reads.{atom_count, chain_count, PartTerm, atom_part, chain_part, Fits, NoAnd, NoAtom, IsAtom, NoChain, IsChain}
 use Rattle.task_reader.proofs.TokenLemmas.{same_place, same_rest}
 

@@ -1,7 +1,5 @@
 -- What stands first in bytes whose tokens are plain.
-use Rattle.std.proofs.Common.{◌≡◌, ◌≢◌, ℕ, suc, ◌+◌, ◌<◌, ◌≤◌, Bool, true, false, not, List, [], ◌∷◌, ◌++◌, length, refl, sym, ap, ◌∙◌, subst, inl, inr, ◌⊎◌, arith, append_assoc}
-use Rattle.std.specs.Prelude.{◌==◌, if◌then◌else◌, ◌||◌}
-use Rattle.std.specs.Char.{is_ascii_digit}
+use Rattle.std.proofs.Common.{◌≡◌, ◌≢◌, ℕ, ◌+◌, ◌<◌, ◌≤◌, true, false, List, [], ◌∷◌, ◌++◌, length, refl, sym, ap, ◌∙◌, subst, inl, inr, arith}
 use Rattle.std.specs.List.{list_all}
 use Rattle.std.proofs.lemmas.Bool.Decides.{nat_tests}
 use Rattle.task_model.specs.Text.{Text}
@@ -9,11 +7,10 @@ use Rattle.task_model.specs.Token.{TokenTerm, TokenKindTerm, number_token, Piece
 use Rattle.task_reader.specs.PlainText as plain
 use Rattle.task_reader.specs.declared.mark.Mark.{Mark}
 use Rattle.task_reader.specs.declared.mark.Mark.TheVariants.{Task, Main, Int, Edit, Enter, Open, Close, Comma, Colon, Equals, And}
-use Rattle.task_reader.specs.Marks.{spelling_of, kind_of, mark_token, goes_on, Stands}
-use Rattle.task_reader.specs.Numbers.{is_blank, is_in_line, Fails, IsRun, IsNumberAt}
-use Rattle.task_reader.specs.Lexes.{IsPlainToken, ArePlain, Lexes, Leads}
-use Rattle.task_reader.proofs.Longest.{LowFirst, AreDigits-all, all-AreDigits, mark_spells, mark_longest, mark_stops, digits_longest, digits_stop}
-use Rattle.task_reader.proofs.RunLemmas.{run_one}
+use Rattle.task_reader.specs.Marks.{spelling_of, mark_token, Stands}
+use Rattle.task_reader.specs.Numbers.{is_blank, is_in_line, Fails, IsNumberAt}
+use Rattle.task_reader.specs.Lexes.{ArePlain, Lexes}
+use Rattle.task_reader.proofs.Longest.{LowFirst, AreDigits-all, all-AreDigits, mark_stops, digits_stop}
 
 -- ---- the tests of bytes
 pub IsBlank-is : (b : ℕ) → IsBlank b → is_blank b ≡ true

@@ -1,12 +1,12 @@
 -- From what stands first to what follows it.
-use Rattle.std.proofs.Common.{◌≡◌, ◌≢◌, ℕ, suc, ◌+◌, ◌-◌, ◌<◌, ◌≤◌, Bool, true, false, not, List, [], ◌∷◌, ◌++◌, length, length-append, refl, sym, ap, ◌∙◌, subst, inl, inr, ◌⊎◌, arith, append_assoc, append-nil}
-use Rattle.std.specs.Prelude.{◌==◌, if◌then◌else◌, ◌||◌}
+use Rattle.std.proofs.Common.{◌≡◌, ◌≢◌, ℕ, ◌+◌, ◌-◌, ◌<◌, ◌≤◌, true, false, List, [], ◌∷◌, ◌++◌, length, length-append, refl, sym, ap, ◌∙◌, subst, inl, inr, arith, append_assoc, append-nil}
+use Rattle.std.specs.Prelude.{◌==◌, if◌then◌else◌}
 use Rattle.std.specs.Char.{is_ascii_digit}
 use Rattle.std.specs.List.{list_all}
 use Rattle.std.proofs.lemmas.Bool.Decides.{nat_tests}
 use Rattle.std.proofs.lemmas.List.{append_cancel_left}
 use Rattle.task_model.specs.Text.{Text}
-use Rattle.task_model.specs.Token.{TokenTerm, TokenKindTerm, number_token, Piece, blank, comment, lexeme, IsBlank, IsWithinLimits, IsLongest, AreDigits, number_from}
+use Rattle.task_model.specs.Token.{TokenTerm, number_token, blank, comment, lexeme, IsBlank, IsWithinLimits, IsLongest, number_from}
 use Rattle.task_reader.specs.PlainText as plain
 use Rattle.task_reader.specs.declared.mark.Mark.{Mark}
 use Rattle.task_reader.specs.declared.mark.Mark.TheVariants.{Task, Main, Int, Edit, Enter, Open, Close, Comma, Colon, Equals, And}
@@ -224,10 +224,12 @@ lexes_end_only place ts l = go (front place [] ts l)
 
 -- at the end of the bytes
 pub lexes_whole : (bytes : Text) (new : List TokenTerm) (next : ℕ) → Leads 0 bytes new next [] → Lexes 0 bytes new × ((ts : List TokenTerm) → Lexes 0 bytes ts → ts ≡ new)
-lexes_whole bytes new next h =
-    (subst (Lexes 0 bytes) (append-nil new) (h.forth [] (lexes_end next)), λ ts l.
-    let (us, e, l') = h.back ts l in
-    e ∙ ap (λ x. new ++ x) (lexes_end_only next us l') ∙ append-nil new)
+lexes_whole bytes new next h = (
+  subst (Lexes 0 bytes) (append-nil new) (h.forth [] (lexes_end next)),
+  λ ts l.
+      let (us, e, l') = h.back ts l in
+      e ∙ ap (λ x. new ++ x) (lexes_end_only next us l') ∙ append-nil new,
+)
 
 -- nothing plain stands first
 pub none_leads : (place b : ℕ) (bs : Text) (ts : List TokenTerm) → is_blank b ≡ false → b ≢ 35 → ((m : Mark) (rest : Text) → Stands m (b ∷ bs) rest → ⊥) → ((t rest : Text) → IsNumberAt (b ∷ bs) t rest → ⊥) → Lexes place (b ∷ bs) ts → ⊥

@@ -8,4 +8,5 @@ pub mod ProgramLemmas
 pub mod RunLemmas
 pub mod TokenLemmas
 pub mod TypeLemmas
+pub mod WholeLemmas
 pub mod Words

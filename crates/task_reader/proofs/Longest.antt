@@ -1,9 +1,8 @@
 -- Where a plain token ends.
-use Rattle.std.proofs.Common.{◌≡◌, ◌≢◌, ℕ, suc, ◌+◌, ◌*◌, ◌-◌, ◌<◌, ◌≤◌, Bool, true, false, ◌&&◌, ◌||◌, List, [], ◌∷◌, ◌++◌, refl, sym, ap, ◌∙◌, subst, inl, inr, ◌⊎◌, arith, eqb}
+use Rattle.std.proofs.Common.{◌≡◌, ◌≢◌, ℕ, ◌<◌, Bool, true, false, [], ◌∷◌, ◌++◌, refl, subst, arith}
 use Rattle.std.specs.Prelude.{codes}
 use Rattle.std.specs.Char.{is_ascii_alphabetic, is_ascii_digit}
-use Rattle.std.specs.Cmp.Lexicographic.{pointwise}
-use Rattle.std.specs.List.{list_all, list_any}
+use Rattle.std.specs.List.{list_all}
 use Rattle.std.proofs.lemmas.Bool.Decides.{nat_tests}
 use Rattle.task_model.specs.Text.{Text}
 use Rattle.task_model.specs.Token.{TokenKindTerm, name_token, keyword_token, number_token, text_token, symbol_token, keywords, is_keyword, is_symbol, IsDigit, AreDigits, number_from, Spells, IsLongest}
@@ -11,7 +10,7 @@ use Rattle.task_reader.specs.declared.mark.Mark.{Mark}
 use Rattle.task_reader.specs.declared.mark.Mark.TheVariants.{Task, Main, Int, Edit, Enter, Open, Close, Comma, Colon, Equals, And}
 use Rattle.task_reader.specs.Marks.{spelling_of, kind_of, is_word_byte, grows_by, goes_on}
 use Rattle.task_reader.specs.Numbers.{Fails}
-use Rattle.task_reader.proofs.Words.{Class, letter, digit, quote, other, class, class_of, class-digit, first_class, any_same, word_inside, ascii_word}
+use Rattle.task_reader.proofs.Words.{letter, digit, other, class, class-digit, first_class, any_same, word_inside, ascii_word}
 
 -- the first byte is ASCII, if there is one
 abbrev pub LowFirst : Text → Type 0

@@ -1,5 +1,5 @@
 -- The marks in their order, and that no two stand at one place.
-use Rattle.std.proofs.Common.{◌≡◌, ℕ, ◌<◌, List, [], ◌∷◌, ◌++◌, length, get_or, refl, arith}
+use Rattle.std.proofs.Common.{ℕ}
 use Rattle.task_reader.specs.declared.mark.Mark.{Mark}
 use Rattle.task_reader.specs.declared.mark.Mark.TheVariants.{Task, Main, Int, Edit, Enter, Open, Close, Comma, Colon, Equals, And}
 

@@ -1,10 +1,10 @@
 -- Programs as tokens.
-use Rattle.std.proofs.Common.{◌≡◌, ℕ, suc, max, ◌+◌, ◌*◌, ◌-◌, ◌<◌, ◌≤◌, ◌⊎◌, inl, inr, List, [], ◌∷◌, ◌++◌, refl, sym, ap, ◌∙◌, subst, arith, append-nil, length, false}
+use Rattle.std.proofs.Common.{◌≡◌, ℕ, suc, ◌*◌, ◌≤◌, inl, inr, List, [], ◌∷◌, ◌++◌, refl, sym, ap, ◌∙◌, subst, arith, append-nil, length, false}
 use Rattle.std.specs.Prelude.{◌==◌}
 use Rattle.std.proofs.lemmas.List.{append_cancel_left}
 use Rattle.task_model.specs.Accepted.{symbols_of, PlainType, main_program, IsPlain}
-use Rattle.task_model.specs.Basic.{BasicTerm, int_type, pair_type}
-use Rattle.task_model.specs.Program.{ProgramTerm, DefTerm, task_body}
+use Rattle.task_model.specs.Basic.{BasicTerm, int_type}
+use Rattle.task_model.specs.Program.{DefTerm, task_body}
 use Rattle.task_model.specs.Task.{TaskTerm}
 use Rattle.task_model.specs.Token.{TokenTerm, number_from}
 use Rattle.task_reader.specs.declared.mark.Mark.TheVariants.{Task, Main, Int, Edit, Enter, Open, Close, Comma, Colon, Equals, And}
@@ -12,8 +12,8 @@ use Rattle.task_reader.specs.declared.spot.Spot.{Spot}
 use Rattle.task_reader.specs.Lexes.{ArePlain}
 use Rattle.task_reader.specs.Spots.{spot_terms}
 use Rattle.task_reader.specs.Marks.{mark_token}
-use Rattle.task_reader.specs.PlainText.{TypeParse, int_word, pair_of, AtomParse, edit_number, enter_int, group, ChainParse, single, joined, ProgramParse, type_tokens, atom_tokens, chain_tokens, program_tokens, type_levels, atom_levels, chain_levels, program_levels, type_of, atom_task, chain_task, program_of, atom_start, chain_start, atom_places, chain_places, program_places}
-use Rattle.task_reader.specs.Reads.{NoType, IsType, NoChain, IsChain, NoAnd, Fits, PartTerm, chain_part, atom_count, chain_count, head_tokens, NoHead, IsHead, NoBody, IsBody, NoProgram, IsProgram}
+use Rattle.task_reader.specs.PlainText.{TypeParse, int_word, pair_of, AtomParse, edit_number, enter_int, group, ChainParse, single, joined, ProgramParse, type_tokens, atom_tokens, chain_tokens, program_tokens, chain_levels, type_of, atom_task, chain_task, program_of}
+use Rattle.task_reader.specs.Reads.{IsType, NoChain, IsChain, NoAnd, PartTerm, atom_count, chain_count, head_tokens, IsHead, NoBody, IsBody, NoProgram, IsProgram}
 use Rattle.task_reader.proofs.TokenLemmas.{same_place, same_rest}
 use Rattle.task_reader.proofs.TypeLemmas.{after_type}
 
@@ -37,9 +37,22 @@ mutual
   chain_plain (joined c p a) = ArePlain-append (chain_tokens c) (mark_token And p ∷ atom_tokens a) (chain_plain c) (inl (And, p, refl), atom_plain a)
 
 pub program_plain : (d : ProgramParse) → ArePlain (program_tokens d)
-program_plain d =
-    (inl (Task, d.task, refl), (inl (Main, d.main, refl), (inl (Open, d.open_parenthesis, refl), (inl (Close, d.close_parenthesis, refl), (inl (Colon, d.colon, refl),
-    ArePlain-append (type_tokens d.result) (mark_token Equals d.equals ∷ chain_tokens d.body) (type_plain d.result) (inl (Equals, d.equals, refl), chain_plain d.body))))))
+program_plain d = (
+  inl (Task, d.task, refl),
+  (
+    inl (Main, d.main, refl),
+    (
+      inl (Open, d.open_parenthesis, refl),
+      (
+        inl (Close, d.close_parenthesis, refl),
+        (
+          inl (Colon, d.colon, refl),
+          ArePlain-append (type_tokens d.result) (mark_token Equals d.equals ∷ chain_tokens d.body) (type_plain d.result) (inl (Equals, d.equals, refl), chain_plain d.body),
+        ),
+      ),
+    ),
+  ),
+)
 
 -- ---- a type has one symbol for each `edit` and `enter`, and one for each operator between them
 mutual

@@ -1,11 +1,10 @@
 -- Types at the front of tokens.
-use Rattle.std.proofs.Common.{◌≡◌, ℕ, suc, max, ◌+◌, ◌-◌, ◌<◌, ◌≤◌, List, [], ◌∷◌, ◌++◌, refl, sym, ap, ◌∙◌, subst, arith, append_assoc, append-nil}
+use Rattle.std.proofs.Common.{◌≡◌, ℕ, suc, max, ◌-◌, ◌≤◌, List, ◌∷◌, ◌++◌, refl, sym, ap, ◌∙◌, subst, arith}
 use Rattle.std.proofs.lemmas.List.{append_cancel_left}
 use Rattle.task_model.specs.Basic.{BasicTerm, int_type, pair_type}
 use Rattle.task_model.specs.Token.{TokenTerm}
-use Rattle.task_reader.specs.declared.mark.Mark.{Mark}
 use Rattle.task_reader.specs.declared.mark.Mark.TheVariants.{Int, Open, Close, Comma}
-use Rattle.task_reader.specs.Marks.{spelling_of, mark_token}
+use Rattle.task_reader.specs.Marks.{mark_token}
 use Rattle.task_reader.specs.PlainText.{TypeParse, int_word, pair_of, type_tokens, type_levels, type_of}
 use Rattle.task_reader.specs.Reads.{NoType, IsType}
 use Rattle.task_reader.proofs.TokenLemmas.{same_place, same_rest, same_mark, two_parts}

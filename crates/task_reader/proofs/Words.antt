@@ -1,7 +1,7 @@
 -- Bytes in words, and what the first byte of a token says.
-use Rattle.std.proofs.Common.{◌≡◌, ◌≢◌, ℕ, suc, ◌+◌, ◌*◌, ◌-◌, ◌<◌, ◌≤◌, Bool, true, false, not, ◌&&◌, ◌||◌, List, [], ◌∷◌, ◌++◌, length, length-append, get_or, refl, sym, ap, ◌∙◌, subst, inl, inr, ◌⊎◌, arith, cond, eqb}
-use Rattle.std.specs.Prelude.{◌==◌, encode_utf8, if◌then◌else◌, nat_le}
-use Rattle.std.specs.Char.{is_ascii_alphabetic, is_ascii_alphanumeric, is_ascii_digit}
+use Rattle.std.proofs.Common.{◌≡◌, ℕ, ◌<◌, Bool, true, false, not, List, [], ◌∷◌, ◌++◌, length, length-append, get_or, refl, sym, ap, ◌∙◌, subst, arith, eqb}
+use Rattle.std.specs.Prelude.{◌==◌, if◌then◌else◌}
+use Rattle.std.specs.Char.{is_ascii_alphabetic, is_ascii_digit}
 use Rattle.std.specs.Cmp.Lexicographic.{pointwise, same_text}
 use Rattle.std.specs.List.{list_all, list_any}
 use Rattle.std.specs.Str.{encode_utf8_all, all_scalars, NonePass, NoCharPasses}
@@ -12,7 +12,7 @@ use Rattle.std.proofs.lemmas.Str.{NoCharPasses-byte, char_from_byte, encode_asci
 use Rattle.unicode_ident.specs.Ident.{is_xid_start, is_xid_continue}
 use Rattle.unicode_ident.proofs.IdentLemmas.{is_xid_start-ascii, is_xid_continue-ascii, is_xid_start-is_xid_continue}
 use Rattle.task_model.specs.Text.{Text}
-use Rattle.task_model.specs.Token.{TokenKindTerm, name_token, keyword_token, number_token, text_token, symbol_token, IsWord, AllContinue, keywords, symbols, IsDigit, AreDigits, Spells}
+use Rattle.task_model.specs.Token.{TokenKindTerm, name_token, keyword_token, number_token, text_token, symbol_token, IsWord, AllContinue, keywords, symbols, IsDigit, Spells}
 use Rattle.task_reader.specs.Marks.{is_word_byte}
 
 -- a byte of a word that is ASCII continues an ASCII word

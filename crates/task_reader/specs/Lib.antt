@@ -1,3 +1,4 @@
+pub mod Answer
 pub mod PlainText
 pub mod Marks
 pub mod Lexes

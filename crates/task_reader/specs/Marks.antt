@@ -1,5 +1,5 @@
 -- The tokens of a plain program that are always spelled the same.
-use Rattle.std.specs.Prelude.{◌≡◌, ℕ, Bool, false, codes, List, [], ◌∷◌, ◌++◌, ◌==◌, ◌||◌}
+use Rattle.std.specs.Prelude.{◌≡◌, ℕ, Bool, false, codes, [], ◌∷◌, ◌++◌, ◌==◌, ◌||◌}
 use Rattle.std.specs.Char.{is_ascii_alphanumeric}
 use Rattle.task_model.specs.Text.{Text}
 use Rattle.task_model.specs.Token.{TokenKindTerm, TokenTerm, name_token, keyword_token, symbol_token}

@@ -1,5 +1,5 @@
 -- What a reader of the front of some tokens answers: the one parse that stands there, or that none does within the limits.
-use Rattle.std.specs.Prelude.{◌≡◌, ℕ, ◌+◌, ◌≤◌, List, [], ◌∷◌, ◌++◌}
+use Rattle.std.specs.Prelude.{◌≡◌, ℕ, ◌+◌, ◌≤◌, List, ◌∷◌, ◌++◌}
 use Rattle.task_model.specs.Accepted.{IsPlain}
 use Rattle.task_model.specs.Basic.{BasicTerm}
 use Rattle.task_model.specs.Task.{TaskTerm, task_term}

@@ -39,11 +39,14 @@ fn piece(bytes: &[u8]) -> Option<(Option<Token<'_>>, &[u8])>
 }
 
 /// The tokens of a source, if each is one that a plain program may have.
-pub(crate) fn plain_tokens<'s>(alloc: Global, source: &'s [u8]) -> Result<Option<Row<Spot<'s>>>, OutOfMemory>
+pub(crate) fn plain_tokens<'s>(
+    alloc: Global,
+    source: &'s [u8],
+) -> Result<Option<Row<Spot<'s>>>, OutOfMemory>
     ensures { IfOk result (λ o. MatchOption o
         ((ts : List TokenTerm) → Lexes 0 source.now ts → ⊥)
         (λ spots. Lexes 0 source.now (spot_terms spots.list)
-            × ((ts : List TokenTerm) → Lexes 0 source.now ts → ts ≡ spot_terms spots.list))) }
+        × ((ts : List TokenTerm) → Lexes 0 source.now ts → ts ≡ spot_terms spots.list))) }
 {
     let mut spots = Row::new(alloc);
     let mut rest = source;

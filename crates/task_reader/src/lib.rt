@@ -1,15 +1,16 @@
 //! Programs from their texts.
 #![tactic(auto)]
 
-ghost use Rattle.task_reader.specs.PlainText.{IsPlainText};
-
 mod front;
 mod lexer;
 mod mark;
-mod program;
-mod runs;
 mod part;
+mod program;
+mod read;
+mod runs;
 mod spot;
 mod tasks;
 mod typed;
 mod types;
+
+pub use read::{Read, ReadKind, ReadStop, read_program};

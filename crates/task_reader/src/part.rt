@@ -39,10 +39,20 @@ pub(crate) fn places_of(
 impl Part {
     ghost use Rattle.task_reader.specs.Reads.{part_term};
 
-    pub(crate) fn edit(alloc: Global, start: u64, place: u64, value: u64) -> Result<Part, OutOfMemory>
+    pub(crate) fn edit(
+        alloc: Global,
+        start: u64,
+        place: u64,
+        value: u64,
+    ) -> Result<Part, OutOfMemory>
         requires { value < 2 ^ 63 }
         ensures { IfOk result (λ r. part_term r ≡ record {
-            task = edit (int_expr (pos value)); levels = 2; count = 1; start = start; places = start ∷ (place ∷ []) }) }
+          task = edit (int_expr (pos value));
+          levels = 2;
+          count = 1;
+          start = start;
+          places = start ∷ (place ∷ []);
+        }) }
     {
         Ok(Part {
             task: Task::Edit(Host::Int(value as i64)),
@@ -55,7 +65,12 @@ impl Part {
 
     pub(crate) fn enter(alloc: Global, start: u64) -> Result<Part, OutOfMemory>
         ensures { IfOk result (λ r. part_term r ≡ record {
-            task = enter int_type; levels = 2; count = 1; start = start; places = start ∷ [] }) }
+          task = enter int_type;
+          levels = 2;
+          count = 1;
+          start = start;
+          places = start ∷ [];
+        }) }
     {
         Ok(Part {
             task: Task::Enter(Basic::Int),
@@ -72,11 +87,19 @@ impl Part {
         requires right_levels { right.levels + 1 < 2 ^ 64 }
         requires count { self.count + right.count < 2 ^ 64 }
         ensures { IfOk result (λ r. part_term r ≡ record {
-            task = and_task (task_term self.task) (task_term right.task);
-            levels = suc (max self.levels right.levels); count = self.count + right.count;
-            start = self.start; places = self.start ∷ (self.places.list ++ right.places.list) }) }
+          task = and_task (task_term self.task) (task_term right.task);
+          levels = suc (max self.levels right.levels);
+          count = self.count + right.count;
+          start = self.start;
+          places = self.start ∷ (self.places.list ++ right.places.list);
+        }) }
     {
-        let places = places_of(alloc, self.start, self.places.as_slice(), right.places.as_slice())?;
+        let places = places_of(
+            alloc,
+            self.start,
+            self.places.as_slice(),
+            right.places.as_slice(),
+        )?;
         Ok(Part {
             levels: self.levels.max(right.levels) + 1,
             count: self.count + right.count,

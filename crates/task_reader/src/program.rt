@@ -90,11 +90,7 @@ pub(crate) fn read_definition<'t>(
 }
 
 /// The program of one task `main`.
-pub(crate) fn program_of(
-    alloc: Global,
-    basic: Basic,
-    task: Task,
-) -> Result<Program, OutOfMemory>
+pub(crate) fn program_of(alloc: Global, basic: Basic, task: Task) -> Result<Program, OutOfMemory>
     ensures { IfOk result (λ p. program_term p ≡ main_program (basic_term basic) (task_term task)) }
 {
     let main = Def {

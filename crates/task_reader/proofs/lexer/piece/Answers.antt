@@ -1,5 +1,4 @@
-use Rattle.std.proofs.Common.{◌≡◌, ◌∷◌, ◌++◌, [], ◌+◌, true, false, length, sym, ap, ◌∙◌, subst, refl, arith}
-use Rattle.task_reader.specs.Lexes.{Leads, Lexes}
+use Rattle.std.proofs.Common.{◌≡◌, ◌∷◌, [], ◌+◌, true, false, length, sym, ap, ◌∙◌, arith}
 use Rattle.task_reader.specs.Marks.{spelling_of}
 use Rattle.task_reader.specs.Numbers as numbers
 use Rattle.task_reader.proofs.Leading.{leads_by, blank_leads, comment_leads, mark_leads, number_leads, none_leads, at_place}

@@ -1,9 +1,8 @@
-use Rattle.std.proofs.Common.{◌≡◌, ◌∷◌, ◌++◌, [], ◌+◌, ◌-◌, ◌≤◌, Some, None, length, sym, ap, ◌∙◌, subst, refl, arith, append-nil}
+use Rattle.std.proofs.Common.{◌≡◌, [], ◌-◌, length, sym, ap, ◌∙◌, arith, append-nil}
 use Rattle.std.proofs.lemmas.Bool.{eqb-true}
 use Rattle.std.proofs.lemmas.List.{nil_from_length, map-append}
-use Rattle.task_reader.specs.Lexes.{Leads, Lexes}
-use Rattle.task_reader.specs.Spots.{spot_term, spot_terms, piece_terms}
-use Rattle.task_reader.proofs.Leading.{at_place, leads_next, lexes_whole}
+use Rattle.task_reader.specs.Spots.{spot_term, spot_terms}
+use Rattle.task_reader.proofs.Leading.{leads_next, lexes_whole}
 use Rattle.task_reader.proofs.lexer.plain_tokens.Goals as goal
 
 pub returns-in_default : goal.returns-in_default

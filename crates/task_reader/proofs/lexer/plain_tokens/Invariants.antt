@@ -1,4 +1,4 @@
-use Rattle.std.proofs.Common.{◌≡◌, ◌-◌, ◌≤◌, length}
+use Rattle.std.proofs.Common.{◌-◌, ◌≤◌, length}
 use Rattle.task_reader.specs.Lexes.{Leads}
 use Rattle.task_reader.specs.Spots.{spot_terms}
 use Rattle.task_reader.proofs.lexer.plain_tokens.Given as goal

@@ -1,4 +1,4 @@
-use Rattle.std.proofs.Common.{◌≡◌, ℕ, List, ◌<◌}
+use Rattle.std.proofs.Common.{ℕ, List, ◌<◌}
 use Rattle.task_reader.specs.declared.mark.Mark.{Mark}
 use Rattle.task_reader.specs.Marks.{Stands}
 use Rattle.task_reader.proofs.MarkLemmas.{position}

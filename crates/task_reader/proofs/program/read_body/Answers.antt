@@ -1,8 +1,5 @@
-use Rattle.std.proofs.Common.{◌≡◌, [], sym, ap, ◌∙◌, length}
-use Rattle.std.proofs.lemmas.Bool.{eqb-true}
-use Rattle.std.proofs.lemmas.List.{nil_from_length}
-use Rattle.task_reader.specs.Spots.{spot_terms}
-use Rattle.task_reader.proofs.ProgramLemmas.{no_equals, no_chain, no_end, body_read, spots_left}
+use Rattle.std.proofs.Common.{sym, ◌∙◌}
+use Rattle.task_reader.proofs.ProgramLemmas.{no_end, spots_left}
 use Rattle.task_reader.proofs.program.read_body.Goals as goal
 
 pub returns-else-is_empty : goal.returns-else-is_empty

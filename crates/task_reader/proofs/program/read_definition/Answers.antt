@@ -1,7 +1,4 @@
 use Rattle.std.proofs.Common.{◌≡◌, true, false, refl}
-use Rattle.task_model.specs.Accepted.{PlainType}
-use Rattle.task_model.specs.Basic.{basic_term}
-use Rattle.task_model.specs.Task.{task_term}
 use Rattle.task_reader.proofs.ProgramLemmas.{no_body, no_type, whole}
 use Rattle.task_reader.proofs.program.read_definition.Goals as goal
 

@@ -1,4 +1,4 @@
-use Rattle.std.proofs.Common.{◌≡◌, ◌<◌, ◌*◌, ◌+◌, ◌-◌, length, drop, get_or, arith}
+use Rattle.std.proofs.Common.{◌<◌, ◌*◌, ◌+◌, ◌-◌, length, drop, get_or, arith}
 use Rattle.task_reader.proofs.RunLemmas.{number_from-le, number_from-drop}
 use Rattle.task_reader.proofs.runs.value.Goals as goal
 

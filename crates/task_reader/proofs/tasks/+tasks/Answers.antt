@@ -1,5 +1,4 @@
-use Rattle.std.proofs.Common.{◌≡◌, ◌≤◌, ◌-◌, ◌+◌, sym, ap, ◌∙◌, subst, arith, add-one}
-use Rattle.task_reader.specs.Reads.{part_term}
+use Rattle.std.proofs.Common.{arith, add-one}
 use Rattle.task_reader.proofs.AtomLemmas as atoms
 use Rattle.task_reader.proofs.ChainLemmas as chains
 use Rattle.task_reader.proofs.tasks.+tasks.Goals as goal

@@ -1,7 +1,4 @@
-use Rattle.std.proofs.Common.{◌≡◌, ◌≤◌, ◌-◌, sym, ap, ◌∙◌, subst, arith}
-use Rattle.task_model.specs.Basic.{BasicTerm, basic_term, pair_type}
-use Rattle.task_reader.specs.Reads.{NoType, IsType}
-use Rattle.task_reader.specs.Spots.{spot_terms}
+use Rattle.std.proofs.Common.{arith}
 use Rattle.task_reader.proofs.TypeLemmas.{no_room, no_start, int_read, no_first, no_comma, no_second, no_close, pair_read}
 use Rattle.task_reader.proofs.types.+read_type.Goals as goal
 
