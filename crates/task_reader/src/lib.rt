@@ -10,6 +10,8 @@ mod read;
 mod runs;
 mod spot;
 mod tasks;
+#[cfg(test)]
+mod tests;
 mod typed;
 mod types;
 
