@@ -42,6 +42,6 @@ promised l words (Some file) (Some script) left_new (Some first) taken_new said_
     let d = w.worked in
     let known : IsReadingOf d.file reading = subst (λ (f : Option Text). IsReadingOf f reading) d.file_told h in
     let same : top_text l (file_of words) d.file reading d.script ≡ top_text l (file_of words) file reading script =
-        ap (λ f. top_text l (file_of words) f reading d.script) (sym d.file_told) ∙ ap (top_text l (file_of words) file reading) (sym d.script_told) in
+    ap (λ f. top_text l (file_of words) f reading d.script) (sym d.file_told) ∙ ap (top_text l (file_of words) file reading) (sym d.script_told) in
     writes_told (top_text l (file_of words) file reading script) first d.written taken_new w.finish status w.status_is (took_is first taken_new d.written d.took)
-      (subst (λ (t : Told). Comes t d.written w.finish) same (d.comes reading known))
+    (subst (λ (t : Told). Comes t d.written w.finish) same (d.comes reading known))

@@ -21,4 +21,3 @@ pair_part old new a x b y d e p q one =
     let text : List ℕ = a ++ x ++ (b ++ y) in
     let same : text ≡ a ++ d ++ (b ++ e) = ap (λ z. a ++ z ++ (b ++ y)) p ∙ ap (λ z. a ++ d ++ (b ++ z)) q in
     subst (λ (z : List ℕ). Wrote old new (z ++ 10 ∷ []) Failed) same (wrote_part old new text (10 ∷ []) one)
-

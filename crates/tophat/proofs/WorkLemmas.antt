@@ -48,9 +48,9 @@ pub opened_world : (c : CheckedTerm) (budget : ℕ) (w : WorldTerm) → w.checke
     → (told : WorldTerm → Told) → by_opening c budget (opening_decided c budget) told ≡ told w
 opened_world c budget w e b h o told =
     opened_state c budget w.state o (opening_decided c budget) told
-      ∙ ap (λ (z : CheckedTerm). told (record { checked = z; budget = budget; history = opened c.program budget ∷ []; state = w.state })) (sym e)
-      ∙ ap (λ (z : ℕ). told (record { checked = w.checked; budget = z; history = opened c.program budget ∷ []; state = w.state })) (sym b)
-      ∙ ap (λ z. told (record { checked = w.checked; budget = w.budget; history = z; state = w.state })) (sym h)
+    ∙ ap (λ (z : CheckedTerm). told (record { checked = z; budget = budget; history = opened c.program budget ∷ []; state = w.state })) (sym e)
+    ∙ ap (λ (z : ℕ). told (record { checked = w.checked; budget = z; history = opened c.program budget ∷ []; state = w.state })) (sym b)
+    ∙ ap (λ z. told (record { checked = w.checked; budget = w.budget; history = z; state = w.state })) (sym h)
 
 pub never_opened : (c : CheckedTerm) (budget : ℕ) → ((s : State) → IsOpening c budget s → ⊥) → (told : WorldTerm → Told) → by_opening c budget (opening_decided c budget) told ≡ ends OverBudget
 never_opened c budget none told = by (opening_decided c budget)

@@ -7,7 +7,8 @@ use crate::sentence::write_pair;
 use line_frame::Finish;
 use outer_io::{Sink, Written, write_all, write_four};
 
-const USAGE: &[u8] = b"usage: tophat run FILE [--budget N] | check FILE | soak N SEED | drill SEATS N | serve FILE [--budget N] [--seats N] [--workers N] [--port N] [--connections N]\n";
+const USAGE: &[u8] =
+    b"usage: tophat run FILE [--budget N] | check FILE | soak N SEED | drill SEATS N | serve FILE [--budget N] [--seats N] [--workers N] [--port N] [--connections N]\n";
 
 /// The status of an end (docs/FORMATS.md, "Statuses").
 pub(crate) fn status(finish: Finish) -> u8

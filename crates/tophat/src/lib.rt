@@ -8,6 +8,8 @@ mod line;
 mod line_parts;
 mod runner;
 mod sentence;
+#[cfg(test)]
+mod tests;
 mod top;
 mod words;
 mod work;

@@ -160,7 +160,9 @@ fn number_of(digits: &[u8], most: u64) -> Option<u64>
         if !digit.is_ascii_digit() {
             return None;
         }
-        value = value.checked_mul(10)?.checked_add(u64::from(*digit - b'0'))?;
+        value = value
+            .checked_mul(10)?
+            .checked_add(u64::from(*digit - b'0'))?;
         rest = more;
     }
     if value > most { None } else { Some(value) }

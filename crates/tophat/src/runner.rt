@@ -45,7 +45,10 @@ impl<L: Ledger> Runner<L> {
         ensures text { IfOk result (λ text. text.list ≡ reply_of (world_term self.old.world) (gives (entry_term entry))) }
         ensures next { IfOk result (λ _. world_term self.new.world ≡ next_of (world_term self.old.world) (gives (entry_term entry))) }
     {
-        match self.world.handle(alloc, entry.seat, entry.input, &mut self.steps) {
+        match self
+            .world
+            .handle(alloc, entry.seat, entry.input, &mut self.steps)
+        {
             Ok(taken) => taken_text(alloc, taken),
             Err(ActStop::NotOffered) => row_of(alloc, b"not offered\n"),
             Err(ActStop::Over) => row_of(alloc, b"over budget\n"),

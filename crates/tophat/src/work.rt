@@ -19,7 +19,9 @@ use world_core::{OpenStop, World};
 
 // The limits of a program's file and of a script in bytes, and the budget in units.
 const FILE_LIMIT: u64 = 1_048_576;
+
 const SCRIPT_LIMIT: u64 = 67_108_864;
+
 const BUDGET: u32 = 10_000;
 
 /// Does what the words ask for, but for the text on the error sink.
@@ -90,11 +92,7 @@ fn open<F: Files, L: Ledger>(
 }
 
 // Opens the program of these bytes.
-fn open_bytes<L: Ledger>(
-    alloc: Global,
-    bytes: &[u8],
-    steps: &mut Steps<L>,
-) -> Result<World, Finish>
+fn open_bytes<L: Ledger>(alloc: Global, bytes: &[u8], steps: &mut Steps<L>) -> Result<World, Finish>
     ensures opened { OpensBytes limits.budget bytes.now result }
     ensures file { result ≡ Err Finish.FileFault → ⊥ }
     ensures read { result ≡ Err Finish.ReadFault → ⊥ }

@@ -16,7 +16,7 @@ behind n bytes =
 pub returns-in-Some : goal.returns-in-Some
 returns-in-Some c =
     words_front c.in-Some.at c.args.bytes.now c.in-Some.ensures.0.high (λ k lt e. c.in-Some.ensures.0.before k (omega arith) lt (eq-eqb _ _ e)) (eqb-true _ _ c.in-Some.ensures.1)
-      ∙ ap (λ (rest : Text). take c.in-Some.at c.args.bytes.now ∷ words_of rest) (behind c.in-Some.at c.args.bytes.now)
+    ∙ ap (λ (rest : Text). take c.in-Some.at c.args.bytes.now ∷ words_of rest) (behind c.in-Some.at c.args.bytes.now)
 
 pub returns-in-None : goal.returns-in-None
 returns-in-None c = words_whole c.args.bytes.now (λ k lt e. c.in-None.ensures k (omega arith) lt (eq-eqb _ _ e))

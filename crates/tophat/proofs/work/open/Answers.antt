@@ -7,7 +7,7 @@ use Rattle.tophat.proofs.work.open.Goals as goal
 pub returns-in-Bytes-clause-opened : goal.returns-in-Bytes-clause-opened
 returns-in-Bytes-clause-opened g c =
     opening_bytes limits _ c.in-Bytes.bytes c.open_bytes.result c.in-Bytes.ensures.file c.in-Bytes.ensures.within
-      (subst (λ bytes. OpensBytes limits.budget bytes c.open_bytes.result) c.as_slice.ensures c.open_bytes.ensures.opened)
+    (subst (λ bytes. OpensBytes limits.budget bytes c.open_bytes.result) c.as_slice.ensures c.open_bytes.ensures.opened)
 
 pub returns-in-TooLong-clause-opened : goal.returns-in-TooLong-clause-opened
 returns-in-TooLong-clause-opened g c = opening_over limits _ c.in-TooLong.ensures.file

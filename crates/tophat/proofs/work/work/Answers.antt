@@ -9,4 +9,4 @@ use Rattle.tophat.proofs.work.work.Goals as goal
 pub returns-in-None-clause-worked : goal.returns-in-None-clause-worked
 returns-in-None-clause-worked g c =
     subst (λ named. Worked limits named (g.F.Files.holds c.args.files.now (name_of c.args.words.now)) (g.I.Source.left c.args.input.now) (g.I.Source.left c.args.input.now) (g.O.Sink.taken c.args.out.now) (g.O.Sink.taken c.args.out.now) Usage)
-      c.in-None.ensures (worked_usage limits _ _ _)
+    c.in-None.ensures (worked_usage limits _ _ _)
