@@ -1,3 +1,5 @@
+ghost use Rattle.std.specs.Prelude.{◌<◌};
+
 use crate::tophat;
 use outer_io::{MemFiles, MemSink, MemSource};
 use std::alloc::Global;
@@ -5,67 +7,60 @@ use std::process::Abort;
 use std::test::Fail;
 use task_model::{OutOfMemory, Row, TaskText};
 
+const PAIR: &[u8] = b"task main() : (int, int) = edit 1 <&> enter int\n";
+
+// The words, the file `p.th`, the script, and the numbers of the calls on files, input, output and errors that fail.
+#[derive(Clone, Copy)]
+struct Case<'a> {
+    words: &'a [&'a str],
+    program: &'a [u8],
+    script: &'a [u8],
+    fails: [u64; 4],
+}
+
+const RUN: Case<'static> = Case {
+    words: &["run", "p.th"],
+    program: PAIR,
+    script: b"",
+    fails: [0, 0, 0, 0],
+};
+
 fn bytes(alloc: Global, text: &[u8]) -> Result<Row<u8>, OutOfMemory> {
     let mut row = Row::new(alloc);
     row.extend(text)?;
     Ok(row)
 }
 
-fn calls(alloc: Global, numbers: &[u64]) -> Result<Row<u64>, OutOfMemory> {
+fn one<T: Drop>(alloc: Global, item: T) -> Result<Row<T>, OutOfMemory> {
     let mut row = Row::new(alloc);
-    for number in numbers {
-        row.push(*number)?;
+    row.push(item)?;
+    Ok(row)
+}
+
+fn words(alloc: Global, words: &[&str]) -> Result<Row<TaskText>, OutOfMemory> {
+    let mut row = Row::new(alloc);
+    for word in words {
+        row.push(TaskText::of(alloc, word)?)?;
     }
     Ok(row)
 }
 
-// The words, the file `p.th`, the script, and the calls that fail.
-#[derive(Clone, Copy)]
-struct Case<'a> {
-    words: &'a [&'a str],
-    program: &'a [u8],
-    script: &'a [u8],
-    files_fail: &'a [u64],
-    input_fails: &'a [u64],
-    out_fails: &'a [u64],
-    err_fails: &'a [u64],
+fn files(alloc: Global, program: &[u8], fails: u64) -> Result<MemFiles, OutOfMemory> {
+    let names = one(alloc, TaskText::of(alloc, "p.th")?)?;
+    let contents = one(alloc, bytes(alloc, program)?)?;
+    Ok(MemFiles::new(names, contents, one(alloc, fails)?))
 }
 
-const PAIR: &[u8] = b"task main() : (int, int) = edit 1 <&> enter int\n";
-
-const RUN: Case<'static> = Case {
-    words: &["run", "p.th"],
-    program: PAIR,
-    script: b"",
-    files_fail: &[],
-    input_fails: &[],
-    out_fails: &[],
-    err_fails: &[],
-};
-
-// A status, and what both sinks took.
-#[derive(Drop)]
-struct Came {
-    status: u8,
-    out: Row<u8>,
-    err: Row<u8>,
-}
-
-fn outcome(alloc: Global, case: &Case<'_>, piece: usize) -> Result<Came, OutOfMemory> {
-    let piece = piece.max(1);
-    let mut words = Row::new(alloc);
-    for word in case.words {
-        words.push(TaskText::of(alloc, word)?)?;
-    }
-    let mut names = Row::new(alloc);
-    names.push(TaskText::of(alloc, "p.th")?)?;
-    let mut contents = Row::new(alloc);
-    contents.push(bytes(alloc, case.program)?)?;
-    let mut files = MemFiles::new(names, contents, calls(alloc, case.files_fail)?);
+// Runs a case in pieces of this size: the status, and what both sinks took.
+fn run(alloc: Global, case: &Case<'_>, piece: usize) -> Result<(u8, MemSink, MemSink), OutOfMemory>
+    requires { 0 < piece }
+{
+    let words = words(alloc, case.words)?;
+    let mut files = files(alloc, case.program, case.fails[0])?;
     let script = bytes(alloc, case.script)?;
-    let mut input = MemSource::new(script, piece, calls(alloc, case.input_fails)?);
-    let mut out = MemSink::new(alloc, piece, calls(alloc, case.out_fails)?);
-    let mut err = MemSink::new(alloc, piece, calls(alloc, case.err_fails)?);
+    let mut input = MemSource::new(script, piece, one(alloc, case.fails[1])?);
+    let mut out = MemSink::new(alloc, piece, one(alloc, case.fails[2])?);
+    let mut err = MemSink::new(alloc, piece, one(alloc, case.fails[3])?);
     let status = tophat(
         alloc,
         words.as_slice(),
@@ -74,24 +69,21 @@ fn outcome(alloc: Global, case: &Case<'_>, piece: usize) -> Result<Came, OutOfMe
         &mut out,
         &mut err,
     );
-    Ok(Came {
-        status,
-        out: bytes(alloc, out.taken())?,
-        err: bytes(alloc, err.taken())?,
-    })
+    Ok((status, out, err))
 }
 
-// Runs a case in pieces of this size.
 fn expect(
     rt: &(impl Abort + AllocGlobal),
     case: &Case<'_>,
     piece: usize,
     want: (u8, &[u8], &[u8]),
-) -> Result<(), Fail> {
-    let came = outcome(rt.alloc(), case, piece).map_err(|_| "memory")?;
-    assert_eq!(rt; came.status, want.0, "pieces of {piece}");
-    assert_eq!(rt; came.out.as_slice(), want.1, "pieces of {piece}");
-    assert_eq!(rt; came.err.as_slice(), want.2, "pieces of {piece}");
+) -> Result<(), OutOfMemory>
+    requires { 0 < piece }
+{
+    let (status, out, err) = run(rt.alloc(), case, piece)?;
+    assert_eq!(rt; status, want.0);
+    assert_eq!(rt; out.taken(), want.1);
+    assert_eq!(rt; err.taken(), want.2);
     Ok(())
 }
 
@@ -144,6 +136,8 @@ fn scripts(rt: HostRuntime) -> Result<(), Fail> {
 const USAGE: &[u8] =
     b"usage: tophat run FILE [--budget N] | check FILE | soak N SEED | drill SEATS N | serve FILE [--budget N] [--seats N] [--workers N] [--port N] [--connections N]\n";
 
+const NOT_BUILT: &[u8] = b"tophat: p.th: byte 0: NotBuilt\n";
+
 #[test]
 fn refusals(rt: HostRuntime) -> Result<(), Fail> {
     let table: [(&[&str], &[u8], u8, &[u8]); 8] = [
@@ -162,20 +156,14 @@ fn refusals(rt: HostRuntime) -> Result<(), Fail> {
             &["run", "p.th"],
             b"task main() : int = fail int",
             1,
-            b"tophat: p.th: byte 0: NotBuilt\n",
+            NOT_BUILT,
         ),
-        (
-            &["run", "p.th"],
-            b"\xff",
-            1,
-            b"tophat: p.th: byte 0: NotBuilt\n",
-        ),
+        (&["run", "p.th"], b"\xff", 1, NOT_BUILT),
     ];
     for (words, program, status, err) in table {
         let case = Case {
             words,
             program,
-            script: b"1 show",
             ..RUN
         };
         expect(&rt, &case, 5, (status, b"", err))?;
@@ -185,191 +173,94 @@ fn refusals(rt: HostRuntime) -> Result<(), Fail> {
 
 #[test]
 fn faults(rt: HostRuntime) -> Result<(), Fail> {
-    let script = b"1 show\n1 .F set 2\n".as_slice();
-    let case = Case { script, ..RUN };
-    let shown = b"version 0 seat 1\n. and\n.F edit int 1\n.S enter int\n".as_slice();
-    let read = b"tophat: read fault\n".as_slice();
-    let write = b"tophat: write fault\n".as_slice();
-    expect(
-        &rt,
-        &Case {
-            files_fail: &[1],
-            ..case
-        },
-        8,
-        (5, b"", read),
-    )?;
-    expect(
-        &rt,
-        &Case {
-            input_fails: &[1],
-            ..case
-        },
-        8,
-        (5, b"", read),
-    )?;
-    // The first line has ended within the 8 bytes that were read before.
-    expect(
-        &rt,
-        &Case {
-            input_fails: &[2],
-            ..case
-        },
-        8,
-        (5, shown, read),
-    )?;
-    expect(
-        &rt,
-        &Case {
-            out_fails: &[1],
-            ..case
-        },
-        8,
-        (6, b"", write),
-    )?;
-    expect(
-        &rt,
-        &Case {
-            out_fails: &[2],
-            ..case
-        },
-        8,
-        (6, b"version ", write),
-    )?;
-    // A fault of the error sink changes no status.
-    let bad = Case {
-        script: b"x",
-        ..RUN
-    };
-    expect(
-        &rt,
-        &Case {
-            err_fails: &[1],
-            ..bad
-        },
-        8,
-        (3, b"", b""),
-    )?;
-    expect(
-        &rt,
-        &Case {
-            err_fails: &[2],
-            ..bad
-        },
-        8,
-        (3, b"", b"tophat: "),
-    )
+    let page = b"version 0 seat 1\n. and\n.F edit int 1\n.S enter int\n".as_slice();
+    let script = b"1 show\nx".as_slice();
+    // In pieces of 8 bytes. A fault of the error sink changes no status.
+    let table: [([u64; 4], u8, &[u8], &[u8]); 7] = [
+        ([1, 0, 0, 0], 5, b"", b"tophat: read fault\n"),
+        ([0, 1, 0, 0], 5, b"", b"tophat: read fault\n"),
+        ([0, 2, 0, 0], 5, page, b"tophat: read fault\n"),
+        ([0, 0, 1, 0], 6, b"", b"tophat: write fault\n"),
+        ([0, 0, 2, 0], 6, b"version ", b"tophat: write fault\n"),
+        ([0, 0, 0, 1], 3, page, b""),
+        ([0, 0, 0, 2], 3, page, b"tophat: "),
+    ];
+    for (fails, status, out, err) in table {
+        expect(
+            &rt,
+            &Case {
+                script,
+                fails,
+                ..RUN
+            },
+            8,
+            (status, out, err),
+        )?;
+    }
+    Ok(())
 }
 
-// `task main() : int = ` and a number in so many parentheses.
-fn nested(alloc: Global, count: usize) -> Result<Row<u8>, OutOfMemory> {
-    let mut text = bytes(alloc, b"task main() : int = ")?;
-    for _ in 0..count {
-        text.push(b'(')?;
+// The text, behind so many bytes and before so many others.
+fn between(
+    alloc: Global,
+    text: &[u8],
+    before: (u8, usize),
+    behind: (u8, usize),
+) -> Result<Row<u8>, OutOfMemory> {
+    let mut row = Row::new(alloc);
+    for _ in 0..before.1 {
+        row.push(before.0)?;
     }
-    text.extend(b"edit 5")?;
-    for _ in 0..count {
-        text.push(b')')?;
+    row.extend(text)?;
+    for _ in 0..behind.1 {
+        row.push(behind.0)?;
     }
-    Ok(text)
+    Ok(row)
 }
 
 // An edit and its number are two levels, and each pair of parentheses is one.
 #[test]
 fn levels(rt: HostRuntime) -> Result<(), Fail> {
-    let refused = b"tophat: p.th: byte 0: NotBuilt\n".as_slice();
-    let deepest = nested(rt.alloc(), 198).map_err(|_| "memory")?;
-    let deeper = nested(rt.alloc(), 199).map_err(|_| "memory")?;
-    let case = Case {
-        script: b"1 show",
-        ..RUN
-    };
+    let alloc = rt.alloc();
     let shown = b"version 0 seat 1\n. edit int 5\n".as_slice();
-    expect(
-        &rt,
-        &Case {
-            program: deepest.as_slice(),
-            ..case
-        },
-        64,
-        (0, shown, b""),
-    )?;
-    expect(
-        &rt,
-        &Case {
-            program: deeper.as_slice(),
-            ..case
-        },
-        64,
-        (1, b"", refused),
-    )
-}
-
-const LONGEST: usize = 1_048_576;
-
-// `text`, with so many blanks before it.
-fn padded(alloc: Global, blanks: usize, text: &[u8]) -> Result<Row<u8>, OutOfMemory> {
-    let mut row = Row::new(alloc);
-    for _ in 0..blanks {
-        row.push(b' ')?;
+    let table: [(usize, u8, &[u8], &[u8]); 2] = [(198, 0, shown, b""), (199, 1, b"", NOT_BUILT)];
+    for (count, status, out, err) in table {
+        let body = between(alloc, b"edit 5", (b'(', count), (b')', count))?;
+        let mut program = bytes(alloc, b"task main() : int = ")?;
+        program.extend(body.as_slice())?;
+        let case = Case {
+            program: program.as_slice(),
+            script: b"1 show",
+            ..RUN
+        };
+        expect(&rt, &case, 64, (status, out, err))?;
     }
-    row.extend(text)?;
-    Ok(row)
+    Ok(())
 }
 
-// `1 .F set 0..07`, a line of this length.
-fn long_line(alloc: Global, length: usize) -> Result<Row<u8>, OutOfMemory> {
-    let mut row = bytes(alloc, b"1 .F set ")?;
-    for _ in 10..length {
-        row.push(b'0')?;
-    }
-    row.push(b'7')?;
-    Ok(row)
-}
+const MOST: usize = 1_048_576;
 
+// A file, and then a line, at its limit and with one byte more.
 #[test]
 fn limits(rt: HostRuntime) -> Result<(), Fail> {
     let alloc = rt.alloc();
-    let whole = padded(alloc, LONGEST - PAIR.len(), PAIR).map_err(|_| "memory")?;
-    let more = padded(alloc, LONGEST + 1 - PAIR.len(), PAIR).map_err(|_| "memory")?;
-    let line = long_line(alloc, LONGEST).map_err(|_| "memory")?;
-    let longer = long_line(alloc, LONGEST + 1).map_err(|_| "memory")?;
-    let long = b"tophat: p.th: too long\n".as_slice();
-    let bad = b"tophat: line 1 column 1\n".as_slice();
-    expect(
-        &rt,
-        &Case {
-            program: whole.as_slice(),
+    let table: [(usize, usize, u8, &[u8], &[u8]); 4] = [
+        (MOST, 11, 0, b"taken 1\n", b""),
+        (MOST + 1, 11, 7, b"", b"tophat: p.th: too long\n"),
+        (48, MOST, 0, b"taken 1\n", b""),
+        (48, MOST + 1, 3, b"", b"tophat: line 1 column 1\n"),
+    ];
+    for (file, line, status, out, err) in table {
+        let program = between(alloc, PAIR, (b' ', file.saturating_sub(48)), (b' ', 0))?;
+        let digits = between(alloc, b"07", (b'0', line.saturating_sub(11)), (b'0', 0))?;
+        let mut script = bytes(alloc, b"1 .F set ")?;
+        script.extend(digits.as_slice())?;
+        let case = Case {
+            program: program.as_slice(),
+            script: script.as_slice(),
             ..RUN
-        },
-        65_536,
-        (0, b"", b""),
-    )?;
-    expect(
-        &rt,
-        &Case {
-            program: more.as_slice(),
-            ..RUN
-        },
-        65_536,
-        (7, b"", long),
-    )?;
-    expect(
-        &rt,
-        &Case {
-            script: line.as_slice(),
-            ..RUN
-        },
-        65_536,
-        (0, b"taken 1\n", b""),
-    )?;
-    expect(
-        &rt,
-        &Case {
-            script: longer.as_slice(),
-            ..RUN
-        },
-        65_536,
-        (3, b"", bad),
-    )
+        };
+        expect(&rt, &case, 65_536, (status, out, err))?;
+    }
+    Ok(())
 }
