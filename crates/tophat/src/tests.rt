@@ -240,23 +240,37 @@ fn levels(rt: HostRuntime) -> Result<(), Fail> {
 
 const MOST: usize = 1_048_576;
 
-// A file, and then a line, at its limit and with one byte more.
+// At the limit, and with one byte more.
 #[test]
-fn limits(rt: HostRuntime) -> Result<(), Fail> {
-    let alloc = rt.alloc();
-    let table: [(usize, usize, u8, &[u8], &[u8]); 4] = [
-        (MOST, 11, 0, b"taken 1\n", b""),
-        (MOST + 1, 11, 7, b"", b"tophat: p.th: too long\n"),
-        (48, MOST, 0, b"taken 1\n", b""),
-        (48, MOST + 1, 3, b"", b"tophat: line 1 column 1\n"),
+fn long_files(rt: HostRuntime) -> Result<(), Fail> {
+    let table: [(usize, u8, &[u8]); 2] = [
+        (MOST, 0, b""),
+        (MOST + 1, 7, b"tophat: p.th: too long\n"),
     ];
-    for (file, line, status, out, err) in table {
-        let program = between(alloc, PAIR, (b' ', file.saturating_sub(48)), (b' ', 0))?;
-        let digits = between(alloc, b"07", (b'0', line.saturating_sub(11)), (b'0', 0))?;
-        let mut script = bytes(alloc, b"1 .F set ")?;
-        script.extend(digits.as_slice())?;
+    for (length, status, err) in table {
+        let blanks = length.saturating_sub(PAIR.len());
+        let program = between(rt.alloc(), PAIR, (b' ', blanks), (b' ', 0))?;
         let case = Case {
             program: program.as_slice(),
+            ..RUN
+        };
+        expect(&rt, &case, 65_536, (status, b"", err))?;
+    }
+    Ok(())
+}
+
+#[test]
+fn long_lines(rt: HostRuntime) -> Result<(), Fail> {
+    let table: [(usize, u8, &[u8], &[u8]); 2] = [
+        (MOST, 0, b"taken 1\n", b""),
+        (MOST + 1, 3, b"", b"tophat: line 1 column 1\n"),
+    ];
+    for (length, status, out, err) in table {
+        let zeros = length.saturating_sub(10);
+        let mut script = bytes(rt.alloc(), b"1 .F set ")?;
+        let number = between(rt.alloc(), b"7", (b'0', zeros), (b' ', 0))?;
+        script.extend(number.as_slice())?;
+        let case = Case {
             script: script.as_slice(),
             ..RUN
         };
