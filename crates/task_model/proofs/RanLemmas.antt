@@ -235,6 +235,11 @@ pub ran_last : {c : CheckedTerm} {q : Judgement} {Y : Type 0} {view : Y → Deri
 ran_last (Ok x) a = ran_ask give a (ran_give refl)
 ran_last (Err s) a = ran_ask_stops give a
 
+-- what is made of the last part's answer is the result
+pub ran_last_made : {c : CheckedTerm} {q : Judgement} {A X : Type 0} (make : Derived q → A) {va : X → Derived q} {view : X → A} {old new : Left} (r : Result X Stop) → ((x : X) → view x ≡ make (va x)) → Asked c q va old new r → Ran c (ask q (λ s. give (make s))) view old new r
+ran_last_made make (Ok x) e a = ran_ask (λ s. give (make s)) a (ran_give (e x))
+ran_last_made make (Err s) e a = ran_ask_stops (λ s. give (make s)) a
+
 -- what is made takes memory alone
 pub ran_made : {c : CheckedTerm} {A X : Type 0} (x : A) {view : X → A} {old : Left} (made : Result X OutOfMemory) (r : Result X Stop) → IfOk made (λ y. view y ≡ x) → IfOk r (λ y. made ≡ Ok y) → IfErr r (λ s. s ≡ Memory) → Ran c (give x) view old old r
 ran_made x {view = view} made (Ok y) h ok err = ran_give (IfOk-at_ok (λ z. view z ≡ x) ok h)

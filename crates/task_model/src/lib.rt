@@ -21,6 +21,8 @@ mod row;
 mod steps;
 mod stops;
 mod task;
+#[cfg(test)]
+mod tests;
 mod text;
 mod tree;
 mod tree_copies;
