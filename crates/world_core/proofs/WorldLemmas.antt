@@ -74,7 +74,6 @@ pub opening_never : {X : Type 0} (view : X → State) (c : CheckedTerm) (budget 
 opening_never view c budget old new Over bu bh e p s o = let w = o.3 in let wu = w.units in let wh = w.height in p s o.0 o.1 o.2 (omega arith) (omega arith)
 opening_never view c budget old new Memory bu bh e p s o = absurd (cc)
 
-
 -- ---- what a standing world shows
 pub standing_state : (w : WorldTerm) → IsStanding w → IsState w.history w.state
 standing_state w s = subst (λ h. IsState h w.state) (sym s.begins) (w.checked.types, s.accepted, s.reached)

@@ -11,4 +11,5 @@ mod settling;
 mod world;
 
 pub use answers::{OpenStop, Taken};
+pub use task_model::ActStop;
 pub use world::World;

@@ -125,10 +125,13 @@ impl World {
     }
 
     /// What the store holds at a place.
-    pub fn at(&self, place: usize) -> Option<&Value>
+    pub fn at(&self, place: u64) -> Option<&Value>
         ensures { option_map (λ v. v.now) result ≡ slice_get self.now.store place }
     {
-        self.store.as_slice().get(place)
+        match usize::try_from(place) {
+            Ok(place) => self.store.as_slice().get(place),
+            Err(_) => None,
+        }
     }
 
     /// The terminal page for a seat, 1 to 64 (docs/FORMATS.md, "Pages").
