@@ -1,5 +1,5 @@
 -- Words of lines, paths and numbers.
-use Rattle.std.proofs.Common.{◌≡◌, ◌≢◌, ℕ, zero, suc, ◌+◌, ◌*◌, ◌-◌, ◌<◌, ◌≤◌, ◌==◌, Bool, true, false, List, [], ◌∷◌, ◌++◌, length, take, drop, get_or, Option, None, Some, refl, sym, ap, ◌∙◌, subst, arith, eq-eqb}
+use Rattle.std.proofs.Common.{◌≡◌, ◌≢◌, ℕ, zero, suc, ◌+◌, ◌*◌, ◌-◌, ◌<◌, ◌==◌, Bool, true, false, List, [], ◌∷◌, ◌++◌, length, take, drop, get_or, Option, None, Some, refl, ap, ◌∙◌, arith, eq-eqb}
 use Rattle.std.proofs.lemmas.Bool.{eqb-true}
 use Rattle.std.specs.Prelude.{slice_index}
 use Rattle.std.specs.Prelude.{if◌then◌else◌}
@@ -9,7 +9,7 @@ use Rattle.task_model.specs.Text.{Text}
 use Rattle.task_model.specs.declared.input.Turn.{Turn}
 use Rattle.std.specs.Option.{option_map}
 use Rattle.tophat.specs.Reads.{words_behind}
-use Rattle.tophat.specs.Line.{with_byte, words_of, by_words, number_after, number_of, with_turn}
+use Rattle.tophat.specs.Line.{with_byte, words_of, by_words, number_after, number_of}
 
 no_space : (byte : ℕ) (words : List Text) → byte ≢ 32 → if byte == 32 then [] ∷ words else with_byte byte words ≡ with_byte byte words
 no_space byte words none = by (byte == 32) refl

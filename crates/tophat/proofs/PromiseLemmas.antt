@@ -6,7 +6,6 @@ use Rattle.line_frame.specs.Told.{Told, Comes}
 use Rattle.line_frame.specs.declared.finish.Finish.{Finish}
 use Rattle.line_frame.specs.declared.finish.Finish.TheVariants.{FileFault, ReadFault, WriteFault, Memory}
 use Rattle.task_model.specs.Text.{Text}
-use Rattle.task_model.specs.Program.{ProgramTerm}
 use Rattle.tophat.specs.Ending.{status_of}
 use Rattle.tophat.specs.Promise.{IsCutShort, WritesTold, Promised}
 use Rattle.tophat.specs.Reading.{IsReadingOf}

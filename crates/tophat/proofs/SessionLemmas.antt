@@ -1,11 +1,8 @@
 -- What is told of a script, by what the world's calls answer.
-use Rattle.std.proofs.Common.{◌≡◌, ℕ, ◌+◌, ◌<◌, ◌≤◌, Bool, true, false, nat_le, List, ◌∷◌, length, take, Option, Some, None, Result, Ok, Err, refl, sym, ap, ◌∙◌, subst, arith, inl, inr}
-use Rattle.line_frame.specs.Told.{Told}
-use Rattle.line_frame.specs.declared.finish.Finish.{Finish}
+use Rattle.std.proofs.Common.{◌≡◌, ℕ, Ok, Err, sym, ap, ◌∙◌}
 use Rattle.task_model.specs.Text.{Text}
 use Rattle.task_model.specs.Input.{EntryTerm}
 use Rattle.task_model.specs.Outcome.{Outcome, IsOutcome, taken, not_offered, over_budget}
-use Rattle.task_model.specs.Widget.{AreWidgets}
 use Rattle.task_model.specs.Page.{page_text}
 use Rattle.task_model.specs.State.{version_of}
 use Rattle.task_model.proofs.OutcomeLemmas.{outcome_exists, outcome_once}
@@ -14,8 +11,8 @@ use Rattle.std.specs.Prelude.{◌++◌, codes, decimal}
 use Rattle.task_model.specs.declared.stops.ActStop.TheVariants.{NotOffered, Over}
 use Rattle.world_core.specs.declared.answers.Taken.{Taken}
 use Rattle.world_core.specs.World.{WorldTerm, Replies, IsPage}
-use Rattle.tophat.specs.Line.{LineTerm, shows, gives}
-use Rattle.tophat.specs.Session.{outcome_of, widgets_of, answer_text, world_after, reply_of, next_of}
+use Rattle.tophat.specs.Line.{shows, gives}
+use Rattle.tophat.specs.Session.{outcome_of, answer_text, world_after, reply_of, next_of}
 
 pub page_is : (w : WorldTerm) (seat : ℕ) (text : Text) → IsPage w seat text → text ≡ reply_of w (shows seat)
 page_is w seat text p =

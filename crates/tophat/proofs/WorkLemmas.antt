@@ -1,5 +1,5 @@
 -- What a run did, from what its calls did.
-use Rattle.std.proofs.Common.{◌≡◌, ℕ, ◌+◌, ◌<◌, ◌≤◌, List, [], ◌∷◌, ◌++◌, length, replicate, Option, None, Some, refl, sym, ◌∙◌, ap, subst, inl, inr, ◌⊎◌, arith}
+use Rattle.std.proofs.Common.{◌≡◌, ℕ, ◌+◌, ◌<◌, ◌≤◌, List, [], ◌∷◌, length, replicate, Option, None, Some, refl, sym, ◌∙◌, ap, subst, inl, inr, ◌⊎◌, arith}
 use Rattle.task_model.specs.Item.{opened}
 use Rattle.task_model.specs.Tree.{State}
 use Rattle.task_model.specs.Program.{ProgramTerm}
@@ -12,7 +12,7 @@ use Rattle.line_frame.specs.Told.{Comes}
 use Rattle.line_frame.specs.Drove.{Drove, IsTold}
 use Rattle.line_frame.specs.Script.{whole_of, cut_of}
 use Rattle.line_frame.specs.declared.finish.Finish.{Finish}
-use Rattle.line_frame.specs.declared.finish.Finish.TheVariants.{Done, Refused, Usage, Bad, OverBudget, FileFault, ReadFault, WriteFault, Absent, FileTooLong, InputTooLong, Memory}
+use Rattle.line_frame.specs.declared.finish.Finish.TheVariants.{Refused, Usage, OverBudget, FileFault, ReadFault, WriteFault, FileTooLong}
 use Rattle.line_frame.proofs.ScriptLemmas.{is_within, is_over}
 use Rattle.outer_io.specs.Causes.{Rose}
 use Rattle.outer_io.specs.Files.{Found}

@@ -1,13 +1,12 @@
 -- Of a line that is too long, one byte more than the longest is enough.
-use Rattle.std.specs.Prelude.{ℕ, ◌≡◌, ◌+◌, ◌<◌, nat_le, List, ◌∷◌, length, take, Option, None, refl}
+use Rattle.std.specs.Prelude.{ℕ, ◌≡◌, ◌+◌, ◌<◌, nat_le, List, ◌∷◌, length, take, None, refl}
 use Rattle.std.proofs.Common.{◌∙◌, ap, sym, false, inl, inr, arith, length-take}
 use Rattle.std.proofs.lemmas.Bool.Decides.{leb_tells}
 use Rattle.std.proofs.lemmas.List.{take_all}
-use Rattle.line_frame.specs.Told.{Told}
 use Rattle.line_frame.specs.declared.finish.Finish.{Finish}
 use Rattle.task_model.specs.Text.{Text}
 use Rattle.world_core.specs.World.{WorldTerm}
-use Rattle.tophat.specs.Line.{LineTerm, line_of}
+use Rattle.tophat.specs.Line.{line_of}
 use Rattle.tophat.specs.Session.{told_by, tells_from}
 
 cut_over : (longest : ℕ) (line : Text) → longest < length line → nat_le (length (take (longest + 1) line)) longest ≡ false

@@ -1,5 +1,5 @@
 -- The status of each end, and its text on the error sink (docs/FORMATS.md, "Statuses").
-use Rattle.std.specs.Prelude.{ℕ, List, [], ◌∷◌, ◌++◌, codes, decimal}
+use Rattle.std.specs.Prelude.{ℕ, [], ◌++◌, codes, decimal}
 use Rattle.task_model.specs.Text.{Text}
 use Rattle.line_frame.specs.declared.finish.Finish.{Finish}
 use Rattle.line_frame.specs.declared.finish.Finish.TheVariants.{Done, Refused, Usage, Bad, OverBudget, FileFault, ReadFault, WriteFault, Absent, FileTooLong, InputTooLong, Memory}

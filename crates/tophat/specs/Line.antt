@@ -2,8 +2,8 @@
 use Rattle.std.specs.Prelude.{ℕ, ℤ, pos, neg_ℤ, ◌+◌, ◌-◌, ◌*◌, ◌==◌, nat_le, Bool, List, [], ◌∷◌, length, take, slice_index, Option, None, Some, codes, option_map, if◌then◌else◌, ◌&&◌}
 use Rattle.std.specs.Char.{is_ascii_digit}
 use Rattle.task_model.specs.Text.{Text, same_text}
-use Rattle.task_model.specs.Value.{ValueTerm, int_value}
-use Rattle.task_model.specs.Input.{InputTerm, set_act, EntryTerm, entry_term}
+use Rattle.task_model.specs.Value.{int_value}
+use Rattle.task_model.specs.Input.{set_act, EntryTerm, entry_term}
 use Rattle.task_model.specs.declared.input.Turn.{Turn}
 use Rattle.task_model.specs.declared.input.Turn.TheVariants as turns
 use Rattle.tophat.specs.declared.line.Line.{Line}

@@ -1,5 +1,5 @@
 -- The promise of the top call where the objects tell their bytes.
-use Rattle.std.specs.Prelude.{ℕ, ◌≡◌, ◌⊎◌, List, ◌++◌, Option, None, Some, ⊤}
+use Rattle.std.specs.Prelude.{ℕ, ◌≡◌, ◌⊎◌, ◌++◌, Option, Some, ⊤}
 use Rattle.outer_io.specs.Sink.{IsStart}
 use Rattle.task_model.specs.Text.{Text}
 use Rattle.task_model.specs.Program.{ProgramTerm}

@@ -1,5 +1,5 @@
 -- The program of a file.
-use Rattle.std.specs.Prelude.{ℕ, ◌≡◌, List, Option, None, Some}
+use Rattle.std.specs.Prelude.{ℕ, List, Option, None, Some}
 use Rattle.task_model.specs.Text.{Text}
 use Rattle.task_model.specs.Program.{ProgramTerm}
 use Rattle.task_reader.specs.PlainText.{IsPlainText}

@@ -1,6 +1,5 @@
 -- What a reader of lines and of their parts answers.
-use Rattle.std.specs.Prelude.{ℕ, ◌≡◌, Bool, not, ◌==◌, Option, None, Some, List, [], ◌∷◌, Result, Ok, Err, ⊤}
-use Rattle.std.specs.List.{list_all}
+use Rattle.std.specs.Prelude.{◌≡◌, Option, None, Some, List, [], ◌∷◌, Result, Ok, Err, ⊤}
 use Rattle.task_model.specs.Text.{Text}
 use Rattle.task_model.specs.State.{IsSeat}
 use Rattle.line_frame.specs.declared.machine.LineStop.{LineStop}

@@ -1,5 +1,5 @@
 -- What `run` writes and how it ends, by the words, the file, its program and the script.
-use Rattle.std.specs.Prelude.{ℕ, nat_le, List, [], ◌∷◌, length, replicate, Option, None, Some, if◌then◌else◌}
+use Rattle.std.specs.Prelude.{ℕ, nat_le, [], ◌∷◌, length, replicate, Option, None, Some, if◌then◌else◌}
 use Rattle.task_model.specs.Text.{Text}
 use Rattle.task_model.specs.Basic.{int_type}
 use Rattle.task_model.specs.Tree.{State}

@@ -16,8 +16,8 @@ use Rattle.task_model.specs.Checked.{CheckedTerm, checked_term}
 use Rattle.task_model.specs.Judgements.{Normal}
 use Rattle.task_model.specs.Spends.{Spends}
 use Rattle.task_model.specs.Outcome.{IsTaken}
-use Rattle.task_model.specs.Accepted.{symbols_of, main_name, IsAccepted}
-use Rattle.task_model.specs.State.{IsOpening, IsState, IsLegal, IsTerminal, IsSeat, IsBudget, HaveSeats, version_of}
+use Rattle.task_model.specs.Accepted.{symbols_of, main_name}
+use Rattle.task_model.specs.State.{IsOpening, IsState, IsLegal, IsTerminal, IsSeat, HaveSeats, version_of}
 use Rattle.task_model.specs.declared.tree.Tree.{Tree}
 use Rattle.task_model.specs.declared.input.Entry.{Entry}
 use Rattle.task_model.specs.declared.item.Item.{Item}

@@ -1,6 +1,5 @@
-use Rattle.std.proofs.Common.{◌≡◌, ◌∷◌, List, ap, ◌∙◌}
-use Rattle.task_model.specs.Text.{Text}
-use Rattle.tophat.specs.Line.{words_of, by_words}
+use Rattle.std.proofs.Common.{◌∷◌, ap, ◌∙◌}
+use Rattle.tophat.specs.Line.{by_words}
 use Rattle.tophat.proofs.LineLemmas.{word_more, five_words}
 use Rattle.tophat.proofs.line_parts.parts_of.Goals as goal
 

@@ -1,4 +1,4 @@
-use Rattle.std.proofs.Common.{◌≡◌, refl, subst}
+use Rattle.std.proofs.Common.{refl, subst}
 use Rattle.tophat.specs.Top.{limits}
 use Rattle.tophat.specs.Worked.{OpensBytes}
 use Rattle.tophat.proofs.WorkLemmas.{opening_bytes, opening_over, opening_failed}

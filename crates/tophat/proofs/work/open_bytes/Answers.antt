@@ -1,4 +1,4 @@
-use Rattle.std.proofs.Common.{◌≡◌, refl, subst}
+use Rattle.std.proofs.Common.{refl, subst}
 use Rattle.task_model.specs.Program.{program_term}
 use Rattle.task_reader.specs.Answer.{IsRefusal}
 use Rattle.tophat.specs.Top.{limits, by_program}

@@ -1,4 +1,4 @@
-use Rattle.std.proofs.Common.{◌≡◌, ◌∷◌, [], sym, ◌∙◌, ap, subst}
+use Rattle.std.proofs.Common.{◌∷◌, [], sym, ◌∙◌, ap, subst}
 use Rattle.task_model.specs.Item.{opened}
 use Rattle.task_model.specs.Program.{program_term}
 use Rattle.task_model.specs.State.{IsOpening}

@@ -3,7 +3,7 @@ use Rattle.line_frame.specs.declared.finish.Finish.TheVariants.{Usage}
 use Rattle.tophat.specs.Top.{limits}
 use Rattle.tophat.specs.Words.{name_of}
 use Rattle.tophat.specs.Worked.{Worked}
-use Rattle.tophat.proofs.WorkLemmas.{named_file, worked_usage}
+use Rattle.tophat.proofs.WorkLemmas.{worked_usage}
 use Rattle.tophat.proofs.work.work.Goals as goal
 
 pub returns-in-None-clause-worked : goal.returns-in-None-clause-worked

@@ -1,7 +1,7 @@
 use Rattle.std.proofs.Common.{ap, ◌∙◌, refl}
 use Rattle.task_model.proofs.RanLemmas.{stopped, ran_give, ran_ask, ran_ask_stops, asked_rule, asked_rule_stops}
 use Rattle.task_model.specs.Tree.{tree_term, and_tree, at}
-use Rattle.world_core.proofs.SettlingLemmas.{ran_last_made}
+use Rattle.task_model.proofs.RanLemmas.{ran_last_made}
 use Rattle.world_core.proofs.settling.+stride.Goals as goal
 
 pub stride_at-returns-in_err-stride_form-clause-asked : goal.stride_at-returns-in_err-stride_form-clause-asked
