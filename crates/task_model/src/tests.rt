@@ -94,9 +94,10 @@ fn a_copy_of_a_tree(rt: HostRuntime) -> Result<(), Fail> {
     let mut slots = Row::new(alloc);
     slots.push(Slot::Place(6))?;
     let tree = Tree::Then(left, Cont { body: 4, slots });
-    match copy_tree(alloc, &tree)? {
+    let copy = copy_tree(alloc, &tree)?;
+    match &copy {
         Tree::Then(left, k) => {
-            assert!(rt; matches!(*left, Tree::Share(Basic::Int, 9)));
+            assert!(rt; matches!(**left, Tree::Share(Basic::Int, 9)));
             assert_eq!(rt; k.body, 4);
             assert!(rt; matches!(k.slots.as_slice(), [Slot::Place(6)]));
         }
