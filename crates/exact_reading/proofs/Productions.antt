@@ -1,5 +1,6 @@
 -- Productions as sequences, and what a reader that goes through one may say.
 use Rattle.std.proofs.Common.{◌≡◌, ℕ, suc, ◌+◌, ◌≤◌, List, [], ◌∷◌, ◌++◌, length, Result, Ok, Err, refl, sym, ap, ◌∙◌, subst, inl, inr, ◌⊎◌, arith}
+use Rattle.exact_reading.specs.declared.stop.Kind.{Kind}
 use Rattle.exact_reading.specs.declared.stop.Kind.TheVariants.{Unexpected, TooNested}
 use Rattle.exact_reading.specs.declared.stop.Stop.{Stop}
 use Rattle.exact_reading.specs.declared.stop.Stop.TheVariants.{Fault, Memory}
@@ -101,3 +102,23 @@ least_alive n room B le s = (s.text, s.result, s.here, omega (arith, s.few))
 
 pub least_ever : {T V : Type 0} (n : ℕ) (B : Language T (V × ℕ)) → Least n B → Alive B Always []
 least_ever n B s = (s.text, s.result, s.here, tt)
+
+-- less may follow
+pub tighter : {T X : Type 0} {A : Language T X} {F : X → Type 0} {E E' : List T → Type 0} {ts : List T} {r : Answer T X} → ((z : List T) → E' z → E z) → Right A F E ts r → Right A F E' ts r
+tighter {T} {X} {A = A} {F = F} {E = E} {E' = E'} {ts = ts} {r = r} ends right = record { by = go r right.by }
+  where
+    dead : (G : X → Type 0) (front back : List T) → Dead A G E front back → Dead A G E' front back
+    dead G front back d a y z h g hz b = d a y z h g (ends z hz) b
+
+    faulty : (front back : List T) (kind : Kind) → Faulty A F E front back kind → Faulty A F E' front back kind
+    faulty front back Unexpected d = dead Always front back d
+    faulty front back TooNested (d, alive) = (dead F front back d, alive)
+
+    go : (r : Answer T X) → Says A F E ts r → Says A F E' ts r
+    go (Ok r) f = record { front = f.front; split = f.split; found = f.found; fits = f.fits; only = λ a y z h hz b. f.only a y z h (ends z hz) b }
+    go (Err Memory) f = tt
+    go (Err (Fault kind left)) f = record { front = f.front; back = f.back; split = f.split; place = f.place; alive = f.alive; faulty = faulty f.front f.back kind f.faulty }
+
+-- want of memory is always right
+pub no_memory : {T X : Type 0} {A : Language T X} {F : X → Type 0} {E : List T → Type 0} {ts : List T} → Right A F E ts (Err Memory)
+no_memory = record { by = tt }

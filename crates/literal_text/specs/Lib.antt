@@ -1,0 +1,4 @@
+pub mod Literals
+pub mod Types
+pub mod Places
+pub mod Reads
