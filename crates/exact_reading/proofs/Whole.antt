@@ -123,3 +123,43 @@ always_unexpected {T} {A = A} {kind = kind} fault = record {
     go back Unexpected h = h
     go [] TooNested h = absurd h
     go (t ∷ back) TooNested (alive, dead) = dead
+
+-- another language with the same words
+pub same_fault : {T X : Type 0} (A C : Language T X) {F : X → Type 0} {ts : List T} {kind : Kind} {place : ℕ} → ((a : List T) (x : X) → A a x → C a x) → ((a : List T) (x : X) → C a x → A a x) → IsFirstFault A F ts kind place → IsFirstFault C F ts kind place
+same_fault {T} {X} A C {F = F} {kind = kind} into out fault = record {
+  front = fault.front;
+  back = fault.back;
+  split = fault.split;
+  at = fault.at;
+  begins = λ alive. onto fault.front (fault.begins (back_to [] alive));
+  nothing = λ none. fault.nothing (λ alive. none (onto [] alive));
+  stops = go fault.back kind fault.stops;
+}
+  where
+    onto : {G : X → Type 0} (u : List T) → Alive A G u → Alive C G u
+    onto u (w, x, h, g) = (w, x, into (u ++ w) x h, g)
+
+    back_to : {G : X → Type 0} (u : List T) → Alive C G u → Alive A G u
+    back_to u (w, x, h, g) = (w, x, out (u ++ w) x h, g)
+
+    go : (back : List T) (kind : Kind) → IsFault A F fault.front back kind → IsFault C F fault.front back kind
+    go [] Unexpected dead = λ x h. dead x (out fault.front x h)
+    go (t ∷ back) Unexpected dead = λ alive. dead (back_to (fault.front ++ (t ∷ [])) alive)
+    go [] TooNested dead = dead
+    go (t ∷ back) TooNested (alive, dead) = (onto (fault.front ++ (t ∷ [])) alive, λ some. dead (back_to (fault.front ++ (t ∷ [])) some))
+
+-- a language without words
+pub no_words : {T X : Type 0} {A : Language T X} {F : X → Type 0} (ts : List T) → ((a : List T) (x : X) → A a x → ⊥) → IsFirstFault A F ts Unexpected 0
+no_words {T} {A = A} {F = F} ts none = record {
+  front = [];
+  back = ts;
+  split = refl;
+  at = refl;
+  begins = λ (w, x, h, f). absurd (none w x h);
+  nothing = λ _. refl;
+  stops = go ts;
+}
+  where
+    go : (ts : List T) → IsFault A F [] ts Unexpected
+    go [] = λ x h. none [] x h
+    go (t ∷ ts) = λ (w, x, h, f). none ((t ∷ []) ++ w) x h

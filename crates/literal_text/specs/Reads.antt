@@ -251,9 +251,28 @@ pub record Whole (want : Option BasicTerm) (t : Text) (v : ValueTerm) : Type 0 w
   pub stands_for : v ≡ value parse
   pub fit : Fit want 64 v
 
--- the name of a type of at most so many symbols
-pub record TypeName (room : ℕ) (t : Text) (b : BasicTerm) : Type 0 where
+-- the name of a type of at most so many symbols, and how many they are
+pub record TypeName (room : ℕ) (t : Text) (x : BasicTerm × ℕ) : Type 0 where
   pub parse : types.Parse
   pub are : t ≡ types.bytes parse
-  pub stands_for : b ≡ types.basic parse
-  pub symbols : symbols_of b ≤ room
+  pub stands_for : x ≡ (types.basic parse, symbols_of (types.basic parse))
+  pub symbols : symbols_of (types.basic parse) ≤ room
+
+-- the name of a pair, and of a list
+pub record PairName (room : ℕ) (t : Text) (x : BasicTerm × ℕ) : Type 0 where
+  pub before : ℕ
+  pub first : types.Parse
+  pub between : ℕ
+  pub second : types.Parse
+  pub behind : ℕ
+  pub are : t ≡ types.bytes (types.pair before first between second behind)
+  pub stands_for : x ≡ (pair_type (types.basic first) (types.basic second), suc (symbols_of (types.basic first) + symbols_of (types.basic second)))
+  pub symbols : suc (symbols_of (types.basic first) + symbols_of (types.basic second)) ≤ room
+
+pub record ListName (room : ℕ) (t : Text) (x : BasicTerm × ℕ) : Type 0 where
+  pub before : ℕ
+  pub item : types.Parse
+  pub behind : ℕ
+  pub are : t ≡ types.bytes (types.list before item behind)
+  pub stands_for : x ≡ (list_type (types.basic item), suc (symbols_of (types.basic item)))
+  pub symbols : suc (symbols_of (types.basic item)) ≤ room

@@ -2,9 +2,13 @@
 #![tactic(auto)]
 
 mod ints;
+mod read;
 mod stop;
 mod texts;
+mod types;
+mod values;
 mod wanted;
 mod words;
 
+pub use read::{read_any, read_basic, read_value};
 pub use stop::{BadLiteral, LiteralStop};
