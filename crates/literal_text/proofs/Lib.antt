@@ -10,3 +10,4 @@ pub mod ListLemmas
 pub mod ChoiceLemmas
 pub mod TypeLemmas
 pub mod ReadLemmas
+pub mod PrintLemmas

@@ -2,3 +2,4 @@ pub mod Literals
 pub mod Types
 pub mod Places
 pub mod Reads
+pub mod Prints

@@ -2,6 +2,7 @@
 #![tactic(auto)]
 
 mod ints;
+mod print;
 mod read;
 mod stop;
 mod texts;
@@ -10,5 +11,6 @@ mod values;
 mod wanted;
 mod words;
 
+pub use print::{print_basic, print_value};
 pub use read::{read_any, read_basic, read_value};
 pub use stop::{BadLiteral, LiteralStop};
