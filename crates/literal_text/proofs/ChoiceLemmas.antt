@@ -149,8 +149,12 @@ module _ (want other : Option BasicTerm) (room : ℕ) where
 typed_pair_in : (c b : BasicTerm) (room : ℕ) → 1 ≤ room → (a : Text) (y : ValueTerm) → Marked 40 (PairEnd (Some c) (Some b) (room - 1)) a y → Lit (Some (pair_type c b)) room a y
 typed_pair_in c b room some a y h =
     let k = h.next in
-    record { parse = pair h.first.behind k.first k.between k.second k.behind; are = marked_are 40 (PairEnd (Some c) (Some b) (room - 1)) h ∙ ap (λ l. 40 ∷ (spaces h.first.behind ++ l)) k.are; stands_for = k.stands_for;
-      fit = subst (Fit (Some (pair_type c b)) room) (sym k.stands_for) (fit_pair some k.first_fits k.second_fits) }
+    record {
+      parse = pair h.first.behind k.first k.between k.second k.behind;
+      are = marked_are 40 (PairEnd (Some c) (Some b) (room - 1)) h ∙ ap (λ l. 40 ∷ (spaces h.first.behind ++ l)) k.are;
+      stands_for = k.stands_for;
+      fit = subst (Fit (Some (pair_type c b)) room) (sym k.stands_for) (fit_pair some k.first_fits k.second_fits);
+    }
 
 pub as_unit : {room : ℕ} {ts : Text} {r : Answer ℕ ValueTerm} → 1 ≤ room → Right UnitLiteral Always NoBlank ts r → Right (Lit (Some unit_type) room) Always Ends ts r
 as_unit {room = room} some right = tighter ends_blank (same_language UnitLiteral (Lit (Some unit_type) room) (unit_in (Some unit_type) room some refl) (unit_out room) right)
@@ -216,8 +220,14 @@ module _ (room : ℕ) (some : 1 ≤ room) where
       go (pair m v k w n) e f is =
           let fit = subst (Fit None room) f h.fit in
           let p = any_pair_fit {room = room} {v = value v} {w = value w} fit in
-          record { front = 40 ∷ spaces m; back = bytes v ++ (44 ∷ (spaces k ++ (bytes w ++ (41 ∷ spaces n)))); value = tt; split = e; first = record { behind = m; are = refl };
-            next = record { by = inr (two (levels_of (value v)) (levels_of (value w)) fit.levels (some_level (value v)), record { first = v; between = k; second = w; behind = n; are = refl; stands_for = f; first_fits = p.0; second_fits = p.1 }) } }
+          record {
+            front = 40 ∷ spaces m;
+            back = bytes v ++ (44 ∷ (spaces k ++ (bytes w ++ (41 ∷ spaces n))));
+            value = tt;
+            split = e;
+            first = record { behind = m; are = refl };
+            next = record { by = inr (two (levels_of (value v)) (levels_of (value w)) fit.levels (some_level (value v)), record { first = v; between = k; second = w; behind = n; are = refl; stands_for = f; first_fits = p.0; second_fits = p.1 }) };
+          }
       go (empty m n) e f is = absurd (omega (arith, is))
       go (list m v vs) e f is = absurd (omega (arith, is))
 

@@ -62,7 +62,9 @@ module _ (so_far : Text) (fits : length so_far ≤ 65536) where
           let n2 = length-append so_far t in
           let most = h.fits in
           record {
-            front = part_spelling p; back = spelled ps ++ (34 ∷ []); value = t;
+            front = part_spelling p;
+            back = spelled ps ++ (34 ∷ []);
+            value = t;
             split = e ∙ append_assoc (part_spelling p) (spelled ps) (34 ∷ []);
             first = record { part = p; are = refl; is = is; fits = omega (arith, n, n1, n2, most) };
             next = record { parts = ps; more = rest; are = refl; is = others; stands_for = whole; fits = h.fits };
@@ -114,9 +116,16 @@ text_in a y h =
 text_out : (a : Text) (y : ValueTerm) → TextLiteral a y → Bind (Tok 34) (λ _. Opened) a y
 text_out a y h = let (ps, quoted, is) = h.is in
     record {
-      front = 34 ∷ []; back = (spelled ps ++ (34 ∷ [])) ++ spaces h.behind; value = tt; split = h.are ∙ ap (λ l. l ++ spaces h.behind) quoted; first = refl;
+      front = 34 ∷ [];
+      back = (spelled ps ++ (34 ∷ [])) ++ spaces h.behind;
+      value = tt;
+      split = h.are ∙ ap (λ l. l ++ spaces h.behind) quoted;
+      first = refl;
       next = record {
-        front = spelled ps ++ (34 ∷ []); back = spaces h.behind; value = h.content; split = refl;
+        front = spelled ps ++ (34 ∷ []);
+        back = spaces h.behind;
+        value = h.content;
+        split = refl;
         first = record { parts = ps; more = h.content; are = refl; is = is; stands_for = refl; fits = h.fits };
         next = record { front = spaces h.behind; back = []; value = tt; split = sym (append_nil (spaces h.behind)); first = record { many = h.behind; are = refl }; next = record { none = refl; same = h.stands_for } };
       };

@@ -70,10 +70,16 @@ pair_out : (a y : Text) → HexEnd a y → HexPair a y
 pair_out a y h =
     let small = h.ascii in
     record {
-      front = h.high ∷ []; back = h.low ∷ []; value = hex_value h.high; split = h.are;
+      front = h.high ∷ [];
+      back = h.low ∷ [];
+      value = hex_value h.high;
+      split = h.are;
       first = record { digit = h.high; are = refl; hex = h.high_is; stands_for = refl; within = omega (arith, small) };
       next = record {
-        front = h.low ∷ []; back = []; value = hex_value h.low; split = refl;
+        front = h.low ∷ [];
+        back = [];
+        value = hex_value h.low;
+        split = refl;
         first = record { digit = h.low; are = refl; hex = h.low_is; stands_for = refl; within = hex_small h.low h.low_is };
         next = record { none = refl; same = h.stands_for };
       };

@@ -84,9 +84,16 @@ module _ (want : Option BasicTerm) (room : ℕ) where
       go (grammar.more k v ws) e f count fit =
           let m = longer vs (value v) in
           record {
-            front = 44 ∷ spaces k; back = bytes v ++ bytes ws; value = tt; split = e; first = record { behind = k; are = refl };
+            front = 44 ∷ spaces k;
+            back = bytes v ++ bytes ws;
+            value = tt;
+            split = e;
+            first = record { behind = k; are = refl };
             next = record {
-              front = bytes v; back = bytes ws; value = value v; split = refl;
+              front = bytes v;
+              back = bytes ws;
+              value = value v;
+              split = refl;
               first = record { parse = v; are = refl; stands_for = refl; fit = fit.0 };
               next = record { parse = ws; are = refl; stands_for = f ∙ ap (λ l. list_value (as_values l)) (sym (shifted vs (value v) (value ws))); count = omega (arith, count, m); fit = fit.1 };
             };
@@ -156,7 +163,10 @@ module _ (want : Option BasicTerm) (room : ℕ) where
 
   elements_out : (a : Text) (y : ValueTerm) → Elements want room a y → First a y
   elements_out a y h = let n = h.count in record {
-    front = bytes h.first; back = bytes h.others; value = value h.first; split = h.are;
+    front = bytes h.first;
+    back = bytes h.others;
+    value = value h.first;
+    split = h.are;
     first = record { parse = h.first; are = refl; stands_for = refl; fit = h.fit.0 };
     next = record { parse = h.others; are = refl; stands_for = h.stands_for; count = omega (arith, n); fit = h.fit.1 };
   }

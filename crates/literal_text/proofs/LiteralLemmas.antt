@@ -232,12 +232,22 @@ module _ (want other : Option BasicTerm) (room : ℕ) where
 
   pair_out : (a : Text) (y : ValueTerm) → PairEnd want other room a y → Pair0 a y
   pair_out a y h = record {
-    front = bytes h.first; back = 44 ∷ (spaces h.between ++ (bytes h.second ++ (41 ∷ spaces h.behind))); value = value h.first; split = h.are;
+    front = bytes h.first;
+    back = 44 ∷ (spaces h.between ++ (bytes h.second ++ (41 ∷ spaces h.behind)));
+    value = value h.first;
+    split = h.are;
     first = record { parse = h.first; are = refl; stands_for = refl; fit = h.first_fits };
     next = record {
-      front = 44 ∷ spaces h.between; back = bytes h.second ++ (41 ∷ spaces h.behind); value = tt; split = refl; first = record { behind = h.between; are = refl };
+      front = 44 ∷ spaces h.between;
+      back = bytes h.second ++ (41 ∷ spaces h.behind);
+      value = tt;
+      split = refl;
+      first = record { behind = h.between; are = refl };
       next = record {
-        front = bytes h.second; back = 41 ∷ spaces h.behind; value = value h.second; split = refl;
+        front = bytes h.second;
+        back = 41 ∷ spaces h.behind;
+        value = value h.second;
+        split = refl;
         first = record { parse = h.second; are = refl; stands_for = refl; fit = h.second_fits };
         next = word_is (41 ∷ []) (pair_value (value h.first) (value h.second)) h.behind refl h.stands_for;
       };

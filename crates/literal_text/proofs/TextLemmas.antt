@@ -67,8 +67,14 @@ module _ (lead : ℕ) where
   three_out : width_of lead ≡ 3 → (a : Text) (y : Text) → WideEnd lead a y → Three a y
   three_out w a y h =
       let (b, d, e, low, high, low', high') = decode_three h.character lead a (only_scalar h.character h.is.0) h.wide w (sym h.is.5 ∙ sym h.are) in
-      record { front = b ∷ []; back = d ∷ []; value = b; split = e; first = record { are = refl; above = low; below = high };
-        next = record { front = d ∷ []; back = []; value = d; split = refl; first = record { are = refl; above = low'; below = high' }; next = record { none = refl; same = sym h.are ∙ ap (λ l. lead ∷ l) e } } }
+      record {
+        front = b ∷ [];
+        back = d ∷ [];
+        value = b;
+        split = e;
+        first = record { are = refl; above = low; below = high };
+        next = record { front = d ∷ []; back = []; value = d; split = refl; first = record { are = refl; above = low'; below = high' }; next = record { none = refl; same = sym h.are ∙ ap (λ l. lead ∷ l) e } };
+      }
 
   four_in : width_of lead ≡ 4 → (a : Text) (y : Text) → Four a y → WideEnd lead a y
   four_in w a y h =
@@ -86,9 +92,21 @@ module _ (lead : ℕ) where
   four_out : width_of lead ≡ 4 → (a : Text) (y : Text) → WideEnd lead a y → Four a y
   four_out w a y h =
       let (b, d, x, e, low, high, low', high', low'', high'') = decode_four h.character lead a (only_scalar h.character h.is.0) h.wide w (sym h.is.5 ∙ sym h.are) in
-      record { front = b ∷ []; back = d ∷ (x ∷ []); value = b; split = e; first = record { are = refl; above = low; below = high };
-        next = record { front = d ∷ []; back = x ∷ []; value = d; split = refl; first = record { are = refl; above = low'; below = high' };
-          next = record { front = x ∷ []; back = []; value = x; split = refl; first = record { are = refl; above = low''; below = high'' }; next = record { none = refl; same = sym h.are ∙ ap (λ l. lead ∷ l) e } } } }
+      record {
+        front = b ∷ [];
+        back = d ∷ (x ∷ []);
+        value = b;
+        split = e;
+        first = record { are = refl; above = low; below = high };
+        next = record {
+          front = d ∷ [];
+          back = x ∷ [];
+          value = d;
+          split = refl;
+          first = record { are = refl; above = low'; below = high' };
+          next = record { front = x ∷ []; back = []; value = x; split = refl; first = record { are = refl; above = low''; below = high'' }; next = record { none = refl; same = sym h.are ∙ ap (λ l. lead ∷ l) e } };
+        };
+      }
 
   three_end_alive : (b : ℕ) → Alive (ThreeEnd b) Always []
   three_end_alive b = (128 ∷ [], _, record { front = 128 ∷ []; back = []; value = 128; split = refl; first = record { are = refl; above = omega arith; below = omega arith }; next = record { none = refl; same = refl } }, tt)

@@ -99,7 +99,11 @@ module _ (room : ℕ) where
       let x_most = g.first.symbols in
       let y_most = l.first.symbols in
       record {
-        before = h.first.behind; first = g.first.parse; between = k.first.behind; second = l.first.parse; behind = q.first.behind;
+        before = h.first.behind;
+        first = g.first.parse;
+        between = k.first.behind;
+        second = l.first.parse;
+        behind = q.first.behind;
         are = marked_are 40 Pair1 h ∙ ap (λ r. 40 ∷ (spaces h.first.behind ++ r)) (g.split ∙ ap (λ r. r ++ g.back) g.first.are ∙ ap (λ r. bytes g.first.parse ++ r) (marked_are 44 (Pair3 g.value) k ∙ ap (λ r. 44 ∷ (spaces k.first.behind ++ r)) (l.split ∙ ap (λ r. r ++ l.back) l.first.are ∙ ap (λ r. bytes l.first.parse ++ r) (word_are (41 ∷ []) (pair_type g.value.0 l.value.0, suc (g.value.1 + l.value.1)) q))));
         stands_for = q.next.same ∙ ap (λ p. (pair_type p.0 l.value.0, suc (p.1 + l.value.1))) x_is ∙ ap (λ p. (pair_type (basic g.first.parse) p.0, suc (symbols_of (basic g.first.parse) + p.1))) y_is;
         symbols = omega (arith, x_size, x_most, y_most, big);
@@ -111,14 +115,28 @@ module _ (room : ℕ) where
       let s1 = some_symbol (basic h.first) in
       let s2 = some_symbol (basic h.second) in
       record {
-        front = 40 ∷ spaces h.before; back = bytes h.first ++ (44 ∷ (spaces h.between ++ (bytes h.second ++ (41 ∷ spaces h.behind)))); value = tt; split = h.are; first = record { behind = h.before; are = refl };
+        front = 40 ∷ spaces h.before;
+        back = bytes h.first ++ (44 ∷ (spaces h.between ++ (bytes h.second ++ (41 ∷ spaces h.behind))));
+        value = tt;
+        split = h.are;
+        first = record { behind = h.before; are = refl };
         next = record {
-          front = bytes h.first; back = 44 ∷ (spaces h.between ++ (bytes h.second ++ (41 ∷ spaces h.behind))); value = (basic h.first, symbols_of (basic h.first)); split = refl;
+          front = bytes h.first;
+          back = 44 ∷ (spaces h.between ++ (bytes h.second ++ (41 ∷ spaces h.behind)));
+          value = (basic h.first, symbols_of (basic h.first));
+          split = refl;
           first = record { parse = h.first; are = refl; stands_for = refl; symbols = omega (arith, n, s2) };
           next = record {
-            front = 44 ∷ spaces h.between; back = bytes h.second ++ (41 ∷ spaces h.behind); value = tt; split = refl; first = record { behind = h.between; are = refl };
+            front = 44 ∷ spaces h.between;
+            back = bytes h.second ++ (41 ∷ spaces h.behind);
+            value = tt;
+            split = refl;
+            first = record { behind = h.between; are = refl };
             next = record {
-              front = bytes h.second; back = 41 ∷ spaces h.behind; value = (basic h.second, symbols_of (basic h.second)); split = refl;
+              front = bytes h.second;
+              back = 41 ∷ spaces h.behind;
+              value = (basic h.second, symbols_of (basic h.second));
+              split = refl;
               first = record { parse = h.second; are = refl; stands_for = refl; symbols = omega (arith, n, s1) };
               next = word_is (41 ∷ []) (pair_type (basic h.first) (basic h.second), suc (symbols_of (basic h.first) + symbols_of (basic h.second))) h.behind refl h.stands_for;
             };
@@ -209,7 +227,9 @@ module _ (room : ℕ) where
       let x_is = g.first.stands_for in
       let x_most = g.first.symbols in
       record {
-        before = h.first.behind; item = g.first.parse; behind = g.next.first.behind;
+        before = h.first.behind;
+        item = g.first.parse;
+        behind = g.next.first.behind;
         are = marked_are 91 List1 h ∙ ap (λ r. 91 ∷ (spaces h.first.behind ++ r)) (g.split ∙ ap (λ r. r ++ g.back) g.first.are ∙ ap (λ r. bytes g.first.parse ++ r) (word_are (93 ∷ []) (list_type g.value.0, suc g.value.1) g.next));
         stands_for = g.next.next.same ∙ ap (λ p. (list_type p.0, suc p.1)) x_is;
         symbols = omega (arith, x_most, big);
@@ -219,9 +239,16 @@ module _ (room : ℕ) where
   list_out a y h =
       let n = h.symbols in
       record {
-        front = 91 ∷ spaces h.before; back = bytes h.item ++ (93 ∷ spaces h.behind); value = tt; split = h.are; first = record { behind = h.before; are = refl };
+        front = 91 ∷ spaces h.before;
+        back = bytes h.item ++ (93 ∷ spaces h.behind);
+        value = tt;
+        split = h.are;
+        first = record { behind = h.before; are = refl };
         next = record {
-          front = bytes h.item; back = 93 ∷ spaces h.behind; value = (basic h.item, symbols_of (basic h.item)); split = refl;
+          front = bytes h.item;
+          back = 93 ∷ spaces h.behind;
+          value = (basic h.item, symbols_of (basic h.item));
+          split = refl;
           first = record { parse = h.item; are = refl; stands_for = refl; symbols = omega (arith, n) };
           next = word_is (93 ∷ []) (list_type (basic h.item), suc (symbols_of (basic h.item))) h.behind refl h.stands_for;
         };

@@ -5,6 +5,8 @@ mod ints;
 mod print;
 mod read;
 mod stop;
+#[cfg(test)]
+mod tests;
 mod texts;
 mod types;
 mod values;

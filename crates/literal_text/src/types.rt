@@ -64,7 +64,10 @@ fn pair(alloc: Global, room: usize, bytes: &[u8]) -> Result<(Measured, &[u8]), S
     let (second, rest) = basic(alloc, room - 1 - first.symbols, rest)?;
     let rest = word(rest, b")")?;
     let symbols = 1 + first.symbols + second.symbols;
-    let basic = Basic::Pair(Box::new(alloc, first.basic)?, Box::new(alloc, second.basic)?);
+    let basic = Basic::Pair(
+        Box::new(alloc, first.basic)?,
+        Box::new(alloc, second.basic)?,
+    );
     Ok((Measured { basic, symbols }, rest))
 }
 

@@ -102,7 +102,10 @@ fn pair<'a>(
     let rest = word(rest, b",")?;
     let (right, rest) = value(alloc, second, room, rest)?;
     let rest = word(rest, b")")?;
-    Ok((Value::Pair(Box::new(alloc, left)?, Box::new(alloc, right)?), rest))
+    Ok((
+        Value::Pair(Box::new(alloc, left)?, Box::new(alloc, right)?),
+        rest,
+    ))
 }
 
 /// A list whose elements have at most so many levels.

@@ -130,7 +130,7 @@ elements-loop-alloc-preserved t c =
     record {
       few = let n = ap length grown in let m = length-append c.loop-alloc.items.list (c.in_ok-next.next ∷ []) in let k = length-map c.loop-alloc.items.list value_term in omega (arith, n, m, k, few);
       goes_on = λ r h. c.loop-alloc.invariant.goes_on r (lists.next_right _ _ _ c.requires few c.loop-alloc-test.ensures c.in_ok-after.ensures c.in_ok-next.ensures
-        (subst (λ vs. Right (Further (want_of c.args.item) c.args.room vs) Always NoBlank c.in_ok-next.after.now r) terms h));
+          (subst (λ vs. Right (Further (want_of c.args.item) c.args.room vs) Always NoBlank c.in_ok-next.after.now r) terms h));
     }
 
 pub elements-returns-in_err-rest : goal.elements-returns-in_err-rest
