@@ -3,16 +3,17 @@
 
 use literal_text::read_any;
 use std::alloc::{AllocError, Global};
-use std::env;
-use std::io;
+use std::{env, io};
 
 fn main(rt: HostRuntime) -> io::Result<()> {
     let mut words = env::args(&rt)?.skip(1);
     let (Some(work), Some(size), Some(times)) = (words.next(), words.next(), words.next()) else {
         return rt.println("workbench: the words are text or list, a size, and how often");
     };
-    let (Ok(size), Ok(times)) = (size.as_str().parse::<usize>(), times.as_str().parse::<usize>())
-    else {
+    let (Ok(size), Ok(times)) = (
+        size.as_str().parse::<usize>(),
+        times.as_str().parse::<usize>(),
+    ) else {
         return rt.println("workbench: a size and a number of times are decimal numbers");
     };
     let literal = match work.as_str() {
