@@ -1,9 +1,9 @@
 -- A form, and then an operator and the form again, as often as they come, grouped to the left.
-use Rattle.std.proofs.Common.{◌≡◌, ℕ, suc, ◌+◌, ◌-◌, ◌≤◌, ◌<◌, max, List, [], ◌∷◌, ◌++◌, length, Ok, Err, refl, sym, ap, ◌∙◌, subst, arith, append_assoc}
+use Rattle.std.proofs.Common.{◌≡◌, ℕ, suc, ◌-◌, ◌≤◌, ◌<◌, max, List, [], ◌∷◌, ◌++◌, length, Ok, Err, refl, sym, ap, ◌∙◌, arith}
 use Rattle.exact_reading.specs.declared.stop.Stop.{Stop}
 use Rattle.exact_reading.specs.declared.stop.Stop.TheVariants.{Fault}
 use Rattle.exact_reading.specs.declared.stop.Kind.TheVariants.{TooNested}
-use Rattle.exact_reading.specs.Reading.{Language, Within, Begins, Alive, Always, Answer, Right, Tok, Anything, NoToken}
+use Rattle.exact_reading.specs.Reading.{Language, Within, Begins, Answer, Right, Tok, NoToken}
 use Rattle.exact_reading.proofs.Sequences.{Bind}
 use Rattle.exact_reading.proofs.Productions.{Least, Follows, least_bind, least_alive, least_ever, bind_right, bind_stop, by_production, tok_right, refused_deep, at_tokens}
 

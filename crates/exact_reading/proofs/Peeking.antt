@@ -1,9 +1,9 @@
 -- A choice by the second token.
-use Rattle.std.proofs.Common.{◌≡◌, ℕ, List, [], ◌∷◌, ◌++◌, Ok, Err, refl, sym, ap, ◌∙◌, subst, inl, inr, ◌⊎◌}
+use Rattle.std.proofs.Common.{◌≡◌, List, [], ◌∷◌, ◌++◌, Ok, Err, refl, sym, ap, ◌∙◌, subst, inl, inr, ◌⊎◌}
 use Rattle.exact_reading.specs.declared.stop.Kind.{Kind}
 use Rattle.exact_reading.specs.declared.stop.Kind.TheVariants.{Unexpected, TooNested}
 use Rattle.exact_reading.specs.declared.stop.Stop.TheVariants.{Fault, Memory}
-use Rattle.exact_reading.specs.Reading.{Language, Begins, Found, Dead, Alive, Always, Faulty, Refused, Answer, Says, Right}
+use Rattle.exact_reading.specs.Reading.{Language, Begins, Dead, Alive, Always, Faulty, Answer, Says, Right}
 use Rattle.exact_reading.proofs.Sequences.{begins_shorter, append_nil}
 
 -- The language is another one where the tokens go on after the first as these do. Something in it begins with the first token,

@@ -1,10 +1,10 @@
 -- Productions as sequences, and what a reader that goes through one may say.
-use Rattle.std.proofs.Common.{◌≡◌, ℕ, suc, ◌+◌, ◌≤◌, List, [], ◌∷◌, ◌++◌, length, Result, Ok, Err, refl, sym, ap, ◌∙◌, subst, inl, inr, ◌⊎◌, arith}
+use Rattle.std.proofs.Common.{◌≡◌, ℕ, ◌≤◌, List, [], ◌∷◌, ◌++◌, length, Ok, Err, refl, sym, ap, subst, arith}
 use Rattle.exact_reading.specs.declared.stop.Kind.{Kind}
 use Rattle.exact_reading.specs.declared.stop.Kind.TheVariants.{Unexpected, TooNested}
 use Rattle.exact_reading.specs.declared.stop.Stop.{Stop}
 use Rattle.exact_reading.specs.declared.stop.Stop.TheVariants.{Fault, Memory}
-use Rattle.exact_reading.specs.Reading.{Language, Begins, Found, Dead, Alive, Always, Faulty, Refused, Answer, Says, Right, Tok, Anything, NoToken, Within}
+use Rattle.exact_reading.specs.Reading.{Language, Begins, Found, Dead, Alive, Always, Faulty, Answer, Says, Right, Tok, Anything, NoToken, Within}
 use Rattle.exact_reading.proofs.Sequences.{Bind, Done, bind_found, bind_refused, narrow, tok_found, done_found, refuse_first, refuse_deep}
 
 -- what comes after a part ends it

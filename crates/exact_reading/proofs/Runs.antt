@@ -1,9 +1,9 @@
 -- Runs of tokens.
 use Rattle.std.proofs.Common.{◌≡◌, ℕ, zero, suc, ◌+◌, ◌<◌, ◌≤◌, List, [], ◌∷◌, ◌++◌, length, drop, get_or, replicate, Ok, Err, refl, sym, ap, ◌∙◌, subst, arith, add-one, drop-cons}
 use Rattle.exact_reading.specs.declared.stop.Stop.{Stop}
-use Rattle.exact_reading.specs.Reading.{Language, Begins, Alive, Always, Answer, Right, Tok, Run, Anything}
+use Rattle.exact_reading.specs.Reading.{Alive, Always, Answer, Right, Tok, Run, Anything}
 use Rattle.exact_reading.proofs.Sequences.{Bind, Done}
-use Rattle.exact_reading.proofs.Productions.{then_right, then_stop, done_right, same_language, at_tokens}
+use Rattle.exact_reading.proofs.Productions.{then_right, then_stop, done_right, same_language}
 
 -- one more copy behind others
 pub replicate_more : {T : Type 0} (n : ℕ) (t : T) (s : List T) → replicate n t ++ (t ∷ s) ≡ replicate (suc n) t ++ s

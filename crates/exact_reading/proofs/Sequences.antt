@@ -1,11 +1,10 @@
 -- Answers for a sequence, from the answers for its parts.
-use Rattle.std.proofs.Common.{◌≡◌, ℕ, suc, ◌+◌, ◌≤◌, List, [], ◌∷◌, ◌++◌, length, Ok, Err, refl, sym, ap, ◌∙◌, subst, inl, inr, ◌⊎◌, arith, append_assoc}
+use Rattle.std.proofs.Common.{◌≡◌, ℕ, List, [], ◌∷◌, ◌++◌, length, Ok, Err, refl, sym, ap, ◌∙◌, subst, inl, inr, ◌⊎◌, append_assoc}
 use Rattle.std.proofs.lemmas.List.{append_cancel_left}
 use Rattle.exact_reading.specs.declared.stop.Kind.{Kind}
 use Rattle.exact_reading.specs.declared.stop.Kind.TheVariants.{Unexpected, TooNested}
-use Rattle.exact_reading.specs.declared.stop.Stop.{Stop}
 use Rattle.exact_reading.specs.declared.stop.Stop.TheVariants.{Fault, Memory}
-use Rattle.exact_reading.specs.Reading.{Language, Begins, Found, Dead, Alive, Always, Faulty, Refused, Answer, Says, Tok, Anything, NoToken}
+use Rattle.exact_reading.specs.Reading.{Language, Begins, Found, Dead, Alive, Always, Faulty, Refused, Answer, Says, Tok, Anything}
 
 -- One language after another: the value of the first part chooses the second. A record, so that antt finds both.
 pub record Bind {T X Y : Type 0} (A : Language T X) (B : X → Language T Y) (ts : List T) (y : Y) : Type 0 where

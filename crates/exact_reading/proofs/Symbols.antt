@@ -1,9 +1,9 @@
 -- Productions as lists of symbols: what holds of a sequence, once for all productions of a grammar.
-use Rattle.std.proofs.Common.{◌≡◌, ℕ, suc, ◌+◌, ◌-◌, ◌≤◌, max, List, [], ◌∷◌, ◌++◌, length, Ok, Err, refl, sym, ap, ◌∙◌, subst, arith, append_assoc}
+use Rattle.std.proofs.Common.{◌≡◌, ℕ, suc, ◌≤◌, max, List, [], ◌∷◌, ◌++◌, length, Ok, Err, refl, sym, ap, ◌∙◌, subst, arith, append_assoc}
 use Rattle.exact_reading.specs.declared.stop.Stop.{Stop}
 use Rattle.exact_reading.specs.declared.stop.Stop.TheVariants.{Fault}
 use Rattle.exact_reading.specs.declared.stop.Kind.TheVariants.{TooNested}
-use Rattle.exact_reading.specs.Reading.{Language, Within, Begins, Alive, Always, Answer, Right, Tok, Anything}
+use Rattle.exact_reading.specs.Reading.{Language, Within, Begins, Always, Answer, Right, Tok, Anything}
 use Rattle.exact_reading.proofs.Sequences.{Bind, Done}
 use Rattle.exact_reading.proofs.Productions.{Least, Follows, least_done, least_bind, least_alive, least_ever, bind_right, bind_stop, done_right, by_production, at_tokens, tok_right, refused_deep}
 

@@ -4,7 +4,7 @@ use Rattle.std.proofs.lemmas.List.{append_cancel_left}
 use Rattle.exact_reading.specs.declared.stop.Kind.{Kind}
 use Rattle.exact_reading.specs.declared.stop.Kind.TheVariants.{Unexpected, TooNested}
 use Rattle.exact_reading.specs.declared.stop.Stop.TheVariants.{Fault}
-use Rattle.exact_reading.specs.Reading.{Language, Begins, Found, Dead, Alive, Always, Faulty, Refused, Right}
+use Rattle.exact_reading.specs.Reading.{Language, Begins, Found, Dead, Alive, Always, Faulty, Right}
 use Rattle.exact_reading.specs.Whole.{IsFault, IsFirstFault}
 use Rattle.exact_reading.proofs.Sequences.{append_nil}
 

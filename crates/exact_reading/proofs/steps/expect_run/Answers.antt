@@ -1,4 +1,3 @@
-use Rattle.std.proofs.Common.{arith}
 use Rattle.std.proofs.lemmas.Result.{err_from_is_err_and}
 use Rattle.exact_reading.proofs.Runs.{run_more, run_stop, run_done, drop_next, drop_end}
 use Rattle.exact_reading.proofs.steps.expect_run.Goals as goal
