@@ -44,12 +44,8 @@ fn built(alloc: Global, main: Definition, end: u64) -> Result<Read, OutOfMemory>
     ensures program { IfOk result (λ r. program_term r.program ≡ main_program (basic_term main.result) (task_term main.body.task)) }
     ensures places { IfOk result (λ r. r.places.list ≡ main.start ∷ (main.body.places.list ++ (end ∷ []))) }
 {
-    let Definition {
-        start,
-        result,
-        body,
-    } = main;
-    let places = places_of(alloc, start, body.places.as_slice(), &[end])?;
+    let places = places_of(alloc, main.start, main.body.places.as_slice(), &[end])?;
+    let Definition { result, body, .. } = main;
     let program = program_of(alloc, result, body.task)?;
     Ok(Read { program, places })
 }
