@@ -1,0 +1,6 @@
+pub mod Fault
+pub mod Front
+pub mod Parts
+pub mod Runs
+pub mod Spelling
+pub mod Tokens

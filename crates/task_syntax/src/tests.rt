@@ -1,0 +1,1 @@
+//! Tokens and faults of sources.
