@@ -6,6 +6,10 @@ ghost use Rattle.task_syntax.specs.Front.{Leads, StopsAt};
 ghost use Rattle.task_syntax.specs.Runs as runs;
 ghost use Rattle.task_syntax.specs.Runs.{Begins, IsRun, goes_on};
 ghost use Rattle.task_syntax.specs.Tokens.{AreTokens, AreSpans};
+ghost use Rattle.std.specs.Char.{is_ascii_digit};
+ghost use Rattle.std.specs.Prelude.{true};
+ghost use Rattle.std.specs.Str.{all_scalars};
+ghost use Rattle.unicode_ident.specs.Ident as ident;
 
 use crate::cursor::{first_char, place_of};
 use crate::keyword::Keyword;
@@ -27,7 +31,7 @@ fn is_blank(character: char) -> bool
 
 /// The name or the keyword at the front of a text, whose first character was passed, and what stands after it.
 fn word_at<'s>(text: &'s str, more: &'s str) -> (TokenKind, &'s str)
-    requires { (c : ℕ) × Begins text.now c more.now × (is_xid_start c ≡ true) }
+    requires { (c : ℕ) × Begins text.now c more.now × (all_scalars (c ∷ []) ≡ true) × (ident.is_xid_start c ≡ true) }
     ensures { Leads text.now result.0 result.1.now }
 {
     let rest = Run::Word.strip(more);
@@ -60,6 +64,7 @@ fn token_at<'s>(
     more: &'s str,
 ) -> Result<(TokenKind, &'s str), Stop<'s>>
     requires begins { Begins text.now first more.now }
+    requires scalar { all_scalars (first ∷ []) ≡ true }
     requires no_blank { runs.is_blank first ≡ false }
     requires no_comment { first ≢ 35 }
     ensures { MatchResult result (λ r. Leads text.now r.0 r.1.now) (λ stop. StopsAt text.now stop) }
