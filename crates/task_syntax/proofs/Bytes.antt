@@ -1,14 +1,16 @@
 -- Characters, runs of them, and their bytes.
-use Rattle.std.proofs.Common.{◌≡◌, ℕ, ◌+◌, ◌-◌, ◌<◌, ◌≤◌, Bool, true, false, List, [], ◌∷◌, ◌++◌, length, take, drop, refl, sym, ap, ◌∙◌, subst, arith, append_assoc, append-nil, length-append}
+use Rattle.std.proofs.Common.{◌≡◌, ℕ, ◌+◌, ◌*◌, ◌-◌, ◌<◌, ◌≤◌, Bool, true, false, List, [], ◌∷◌, ◌++◌, length, take, drop, get_or, refl, sym, ap, ◌∙◌, subst, arith, append_assoc, append-nil, length-append}
 use Rattle.std.specs.Prelude.{encode_utf8}
 use Rattle.std.specs.Char.{is_ascii_digit}
 use Rattle.std.specs.List.{list_all}
 use Rattle.std.specs.Str.{encode_utf8_all, all_scalars}
+use Rattle.std.proofs.Math.Seq.{drop-cons}
+use Rattle.std.proofs.Math.Utf8.{scalar}
 use Rattle.std.proofs.lemmas.Bool.Decides.{nat_tests}
-use Rattle.std.proofs.lemmas.Str.{encode_ascii, encode_same, cons_from_encodes}
+use Rattle.std.proofs.lemmas.Str.{encode_ascii, encode_same, cons_from_encodes, encodes-append}
 use Rattle.task_model.specs.Text.{Text}
-use Rattle.task_model.specs.Token.{AreDigits, IsDigit}
-use Rattle.task_syntax.specs.Runs.{Begins}
+use Rattle.task_model.specs.Token.{AreDigits, IsDigit, number_from}
+use Rattle.task_syntax.specs.Runs.{Begins, IsRun}
 
 -- ---- one character
 pub same_head : (a b : ℕ) (s t : Text) → a ∷ s ≡ b ∷ t → a ≡ b
@@ -93,3 +95,41 @@ take_front t rest = let n : length (t ++ rest) - length rest ≡ length t = omeg
 
 pub front_is : (text t rest : Text) → text ≡ t ++ rest → take (length text - length rest) text ≡ t
 front_is text t rest e = subst (λ x. take (length x - length rest) x ≡ t) (sym e) (take_front t rest)
+
+-- ---- numbers
+-- more digits make the number no smaller
+pub number_from-le : (t : List ℕ) (n : ℕ) → n ≤ number_from n t
+number_from-le [] n = omega arith
+number_from-le (b ∷ t) n = let more = number_from-le t (n * 10 + (b - 48)) in omega arith
+
+pub number_from-drop : (s : List ℕ) (i n : ℕ) → i < length s → number_from n (drop i s) ≡ number_from (n * 10 + (get_or s i 0 - 48)) (drop (i + 1) s)
+number_from-drop s i n lt = grind (arith, drop-cons s i 0 lt)
+
+-- ---- one character more of a run
+abbrev pub RunSoFar : (ℕ → Bool) → Text → Text → Type 0
+RunSoFar p text rest = (cs : List ℕ) × (text ≡ encode_utf8_all cs ++ rest) × (all_scalars cs ≡ true) × (list_all p cs ≡ true)
+
+list_all-push : (p : ℕ → Bool) (cs : List ℕ) (c : ℕ) → list_all p cs ≡ true → p c ≡ true → list_all p (cs ++ c ∷ []) ≡ true
+list_all-push p [] c all here = rw here refl
+list_all-push p (d ∷ cs) c all here = let first : p d ≡ true = grind (arith, all) in rw first (list_all-push p cs c (grind (arith, all)) here)
+
+all_scalars-push : (cs : List ℕ) (c : ℕ) → all_scalars cs ≡ true → all_scalars (c ∷ []) ≡ true → all_scalars (cs ++ c ∷ []) ≡ true
+all_scalars-push [] c all here = here
+all_scalars-push (d ∷ cs) c all here = let first : scalar d ≡ true = grind (arith, all) in rw first (all_scalars-push cs c (grind (arith, all)) here)
+
+pub run_push :
+    (p : ℕ → Bool) (text rest more : Text) (c : ℕ)
+    → RunSoFar p text rest
+    → Begins rest c more
+    → all_scalars (c ∷ []) ≡ true
+    → p c ≡ true
+    → RunSoFar p text more
+run_push p text rest more c (cs, split, scalars, passes) b one here = (
+  cs ++ c ∷ [],
+  split ∙ ap (λ x. encode_utf8_all cs ++ x) (b ∙ ap (λ x. x ++ more) (sym (append-nil (encode_utf8 c)))) ∙ sym (append_assoc (encode_utf8_all cs) (encode_utf8_all (c ∷ [])) more) ∙ ap (λ x. x ++ more) (sym (encodes-append cs (c ∷ []))),
+  all_scalars-push cs c scalars one,
+  list_all-push p cs c passes here,
+)
+
+pub run_shorter : (p : ℕ → Bool) (text rest : Text) (front : List ℕ) → IsRun p text front rest → length rest ≤ length text
+run_shorter p text rest front run = omega (arith, ap length run.split, length-append (encode_utf8_all front) rest)

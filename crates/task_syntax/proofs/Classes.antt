@@ -1,5 +1,5 @@
 -- What the first character of a token says of its kind.
-use Rattle.std.proofs.Common.{◌≡◌, ◌≢◌, ℕ, ◌+◌, ◌<◌, Bool, true, false, List, [], ◌∷◌, ◌++◌, refl, sym, ap, ◌∙◌, subst, arith, nat_lt, inl, inr}
+use Rattle.std.proofs.Common.{◌≡◌, ◌≢◌, ◌⊎◌, ℕ, ◌+◌, ◌<◌, Bool, true, false, List, [], ◌∷◌, ◌++◌, refl, sym, ap, ◌∙◌, subst, arith, nat_lt, inl, inr}
 use Rattle.std.specs.Prelude.{◌==◌, ◌&&◌, codes, if◌then◌else◌}
 use Rattle.std.specs.Char.{is_ascii_alphabetic, is_ascii_digit}
 use Rattle.std.specs.List.{list_all, list_any}
@@ -52,6 +52,18 @@ class-digit c e =
     let lt : c < 128 = grind (arith, nat_tests, e) in
     let no : is_ascii_alphabetic c ≡ false = grind (arith, nat_tests, e) in
     class_low c lt ∙ rw (no, e)
+
+pub class_other : (c : ℕ) → is_xid_start c ≡ false → is_ascii_digit c ≡ false → c ≢ 34 → (class c ≡ sign) ⊎ (class c ≡ none)
+class_other c no_letter no_digit no_quote =
+    let third : (c == 34) ≡ false = grind (arith, nat_tests, no_quote) in
+    subst (λ k. (k ≡ sign) ⊎ (k ≡ none)) (sym (class_is third)) (go (is_sign c))
+  where
+    class_is : (c == 34) ≡ false → class c ≡ (if is_sign c then sign else none)
+    class_is third = rw (no_letter, no_digit, third) refl
+
+    go : (b : Bool) → ((if b then sign else none) ≡ sign) ⊎ ((if b then sign else none) ≡ none)
+    go true = inl refl
+    go false = inr refl
 
 pub class-quote : class 34 ≡ quote
 class-quote = class_low 34 (omega arith)

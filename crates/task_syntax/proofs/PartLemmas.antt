@@ -33,7 +33,7 @@ escape_not c b e bad = escape_some e (sym (escape_is e) ∙ bad)
 abbrev pub Stuck : Text → Type 0
 Stuck r = (p : TextPart) (t back : Text) → PartIs p t → r ≡ part_spelling p ++ back → ⊥
 
-raw_not : (c b : ℕ) (bs r t : Text) → PartIs (raw c) t → b < 128 → b ∷ bs ≡ encode_utf8 c ++ r → ((b < 32) ⊎ ((b ≡ 34) ⊎ ((b ≡ 92) ⊎ (b ≡ 127)))) → ⊥
+pub raw_not : (c b : ℕ) (bs r t : Text) → PartIs (raw c) t → b < 128 → b ∷ bs ≡ encode_utf8 c ++ r → ((b < 32) ⊎ ((b ≡ 34) ⊎ ((b ≡ 92) ⊎ (b ≡ 127)))) → ⊥
 raw_not c b bs r t is lt e low = let same : c ≡ b = (begins_byte b bs c r lt e).0 in go low same
   where
     go : ((b < 32) ⊎ ((b ≡ 34) ⊎ ((b ≡ 92) ⊎ (b ≡ 127)))) → c ≡ b → ⊥

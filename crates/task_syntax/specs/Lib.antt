@@ -3,4 +3,5 @@ pub mod Front
 pub mod Parts
 pub mod Runs
 pub mod Spelling
+pub mod Table
 pub mod Tokens

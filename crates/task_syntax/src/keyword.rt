@@ -1,4 +1,6 @@
-ghost use Rattle.std.specs.Prelude.{◌≡◌, ℕ, List, MatchOption, false};
+ghost use Rattle.std.specs.Prelude.{◌≡◌, MatchOption, false, map};
+ghost use Rattle.std.specs.List.{list_any};
+ghost use Rattle.task_model.specs.Text.{same_text};
 ghost use Rattle.task_model.specs.Token.{is_keyword};
 ghost use Rattle.task_syntax.specs.Spelling.{keyword_spelling};
 
@@ -35,7 +37,7 @@ pub enum Keyword {
     Nil,
 }
 
-const KEYWORDS: [Keyword; 28] = [
+const KEYWORDS: &[Keyword] = &[
     Keyword::Fun,
     Keyword::Task,
     Keyword::Unit,
@@ -105,14 +107,23 @@ impl Keyword {
     /// The keyword with this spelling.
     pub(crate) fn spelled(word: &[u8]) -> Option<Keyword>
         ensures { MatchOption result
-            ((k : _) → word.now ≡ keyword_spelling k → ⊥)
+            (is_keyword word.now ≡ false)
             (λ k. word.now ≡ keyword_spelling k) }
     {
-        for keyword in KEYWORDS {
-            if word == keyword.spelling().as_bytes() {
-                return Some(keyword);
-            }
-        }
-        None
+        first_of(KEYWORDS, word)
     }
+}
+
+/// The first of these keywords that has this spelling.
+fn first_of(keywords: &[Keyword], word: &[u8]) -> Option<Keyword>
+    ensures { MatchOption result
+        (list_any (same_text word.now) (map keyword_spelling keywords.now) ≡ false)
+        (λ k. word.now ≡ keyword_spelling k) }
+{
+    for keyword in keywords {
+        if word == keyword.spelling().as_bytes() {
+            return Some(*keyword);
+        }
+    }
+    None
 }

@@ -36,11 +36,10 @@ fn word_at<'s>(text: &'s str, more: &'s str) -> (TokenKind, &'s str)
 {
     let rest = Run::Word.strip(more);
     let word = &text.as_bytes()[..text.len() - rest.len()];
-    let kind = match Keyword::spelled(word) {
-        Some(keyword) => TokenKind::Keyword(keyword),
-        None => TokenKind::Name,
-    };
-    (kind, rest)
+    match Keyword::spelled(word) {
+        Some(keyword) => (TokenKind::Keyword(keyword), rest),
+        None => (TokenKind::Name, rest),
+    }
 }
 
 /// The number at the front of a text that begins with a digit, and what stands after it.

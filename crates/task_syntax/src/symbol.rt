@@ -1,5 +1,7 @@
 ghost use Rattle.std.specs.Prelude.{◌≡◌, ◌++◌, ◌<◌, ◌≤◌, ℕ, List, length, MatchOption, IfSome};
+ghost use Rattle.std.specs.Prelude.{map};
 ghost use Rattle.task_syntax.specs.Spelling.{symbol_spelling};
+ghost use Rattle.task_syntax.specs.Table.{NoneBegins, FirstBegins};
 
 /// A sign, named for what it is for.
 #[derive(Clone, Copy, Debug, PartialEq, Eq)]
@@ -38,7 +40,7 @@ pub enum Symbol {
 }
 
 /// The symbols, longer ones first.
-const SYMBOLS: [Symbol; 31] = [
+const SYMBOLS: &[Symbol] = &[
     Symbol::InternalStep,
     Symbol::UserStep,
     Symbol::Pair,
@@ -121,16 +123,26 @@ impl Symbol {
     }
 }
 
+/// The first of these symbols that a text begins with, and what stands after it.
+fn first_of<'s>(symbols: &[Symbol], text: &'s str) -> Option<(Symbol, &'s str)>
+    ensures { MatchOption result
+        (NoneBegins text.now (map symbol_spelling symbols.now))
+        (λ r. FirstBegins text.now (map symbol_spelling symbols.now) (symbol_spelling r.0) r.1.now) }
+{
+    for symbol in symbols {
+        if let Some(rest) = symbol.strip(text) {
+            return Some((*symbol, rest));
+        }
+    }
+    None
+}
+
 /// The longest symbol at the front of a text, and what stands after it.
 pub(crate) fn symbol_at(text: &str) -> Option<(Symbol, &str)>
     ensures { MatchOption result
         ((s : _) (rest : List ℕ) → text.now ≡ symbol_spelling s ++ rest → ⊥)
-        (λ r. (text.now ≡ symbol_spelling r.0 ++ r.1.now) × ((s : _) (rest : List ℕ) → text.now ≡ symbol_spelling s ++ rest → length (symbol_spelling s) ≤ length (symbol_spelling r.0))) }
+        (λ r. (text.now ≡ symbol_spelling r.0 ++ r.1.now)
+        × ((s : _) (rest : List ℕ) → text.now ≡ symbol_spelling s ++ rest → length (symbol_spelling s) ≤ length (symbol_spelling r.0))) }
 {
-    for symbol in SYMBOLS {
-        if let Some(rest) = symbol.strip(text) {
-            return Some((symbol, rest));
-        }
-    }
-    None
+    first_of(SYMBOLS, text)
 }
