@@ -88,6 +88,25 @@ no_escape_letter c b h a d e f g = go (letter_in h)
     go (inr (inr (inr (inl x)))) = f x
     go (inr (inr (inr (inr x)))) = g x
 
+pub no_escape_other :
+    (text : Text) (c : ℕ) (rest : Text)
+    → Begins text c rest
+    → c ≢ 34
+    → c ≢ 92
+    → c ≢ 110
+    → c ≢ 116
+    → c ≢ 114
+    → c ≢ 120
+    → (p : TextPart) (t back : Text)
+    → PartIs p t
+    → 92 ∷ text ≡ part_spelling p ++ back
+    → ⊥
+no_escape_other text c rest begins n1 n2 n3 n4 n5 n6 p t back is e = go (escape_front text c rest begins p t back is e)
+  where
+    go : EscapeFront c rest t back → ⊥
+    go (by_letter byte h _) = no_escape_letter c byte h n1 n2 n3 n4 n5
+    go (by_digits a b x _ _) = n6 x
+
 -- a letter stands, and what it stands for
 pub letter_stands : (text : Text) (c byte : ℕ) (rest : Text) → Escapes c byte → byte < 128 → Begins text c rest → PartStands (92 ∷ text) byte rest
 letter_stands text c byte rest h lt b = (letter c, ap (λ x. 92 ∷ x) (begins_low text c rest (letter_low h) b), (byte, h, encode_ascii byte lt))

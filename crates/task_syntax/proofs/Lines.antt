@@ -36,8 +36,8 @@ no_lf (c ∷ cs) all =
 -- ---- the end of a line
 pub ends_line : (after : Text) → IsUtf8 after → ((c : ℕ) (back : Text) → Begins after c back → goes_on Line c ≡ false) → EndsLine after
 ends_line [] utf8 ends = tt
-ends_line (b ∷ bs) ([], _, e) ends = absurd cc
-ends_line (b ∷ bs) (c ∷ cs, _, e) ends =
+ends_line (b ∷ bs) ([], (_, e)) ends = absurd cc
+ends_line (b ∷ bs) (c ∷ cs, (_, e)) ends =
     let stops : not (c == 10) ≡ false = ends c (encode_utf8_all cs) (sym e) in
     let lf : c ≡ 10 = grind (arith, nat_tests, stops) in
     same_head b c bs (encode_utf8_all cs) (begins_low (b ∷ bs) c (encode_utf8_all cs) (omega (arith, lf)) (sym e)) ∙ lf

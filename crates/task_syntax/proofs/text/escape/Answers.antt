@@ -1,8 +1,8 @@
-use Rattle.std.proofs.Common.{◌≡◌, ◌≢◌, ◌∷◌, ◌++◌, ⊎_elim, ℕ, [], refl, sym, ◌∙◌, ap, subst, arith}
+use Rattle.std.proofs.Common.{rules, ◌≡◌, ◌≢◌, ◌∷◌, ◌++◌, ⊎_elim, ℕ, [], refl, sym, ◌∙◌, ap, subst, arith}
 use Rattle.task_model.specs.Text.{Text}
 use Rattle.task_model.specs.Token.{quote, backslash, line_feed, tab, carriage_return, hex, PartIs, Escapes}
 use Rattle.task_syntax.specs.Runs.{Begins}
-use Rattle.task_syntax.proofs.EscapeLemmas.{EscapeFront, by_letter, by_digits, escape_front, no_escape_end, no_escape_letter, letter_stands}
+use Rattle.task_syntax.proofs.EscapeLemmas.{EscapeFront, by_letter, by_digits, escape_front, no_escape_end, no_escape_letter, no_escape_other, letter_stands}
 use Rattle.task_syntax.proofs.TableLemmas.{weaker}
 use Rattle.task_syntax.proofs.Bytes.{begins_low}
 use Rattle.task_syntax.proofs.text.escape.Goals as goal
@@ -39,4 +39,5 @@ returns-in-x c =
     no_digits rest t back none (by_digits a b _ is e) = none a b t back is e
 
 pub returns-in_default : goal.returns-in_default
-returns-in_default c = (refl, λ p t back is e. let h = c.in_default.not-34 in ?)
+returns-in_default c = (refl, no_escape_other c.args.text.now c.in_ok-letter.letter c.in_ok-letter.rest.now c.in_ok-letter.ensures.cases
+    (omega arith) (omega arith) (omega arith) (omega arith) (omega arith) (omega arith))
