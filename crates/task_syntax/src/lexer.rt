@@ -89,6 +89,7 @@ fn token_at<'s>(
 /// The tokens of a source, or its first fault.
 pub fn lex(alloc: Global, text: &str) -> Result<Tokens, LexStop>
     ensures tokens { IfOk result (λ r. (ts : List TokenTerm) × HasTokens text.now ts × AreTokens text.now r.list.list ts) }
+    ensures only { IfOk result (λ r. (ts : List TokenTerm) → HasTokens text.now ts → AreTokens text.now r.list.list ts) }
     ensures spans { IfOk result (λ r. AreSpans 0 r.list.list (length text.now)) }
     ensures fault { IfErr result (λ stop. IsStop text.now stop) }
 {

@@ -5,6 +5,8 @@ use Rattle.task_syntax.specs.declared.token.Token.{Token}
 use Rattle.task_syntax.specs.Runs as runs
 use Rattle.task_syntax.proofs.Bytes.{begins_low, run_shorter}
 use Rattle.task_syntax.proofs.Lines.{blank_is, no_lf, ends_line}
+use Rattle.task_syntax.specs.Tokens.{AreTokens}
+use Rattle.task_syntax.proofs.OneReading.{one_list}
 use Rattle.task_syntax.proofs.Reached.{Reached, reached_blank, reached_comment, reached_token, reached_end, reached_spans, reached_fault, lead_shorter}
 use Rattle.task_syntax.proofs.lexer.lex.Goals as goal
 
@@ -49,6 +51,11 @@ loop-first-preserved c =
 
 pub returns-clause-tokens : goal.returns-clause-tokens
 returns-clause-tokens c = reached_end c.args.text.now c.loop-first.list.list c.loop-first.rest.now (search rules) c.in_default.ensures.cases c.loop-first.invariant.reached
+
+pub returns-clause-only : goal.returns-clause-only
+returns-clause-only c = λ ts has.
+    let (us, has', are) = reached_end c.args.text.now c.loop-first.list.list c.loop-first.rest.now (search rules) c.in_default.ensures.cases c.loop-first.invariant.reached in
+    subst (AreTokens c.args.text.now c.loop-first.list.list) (one_list c.args.text.now us ts has' has) are
 
 pub returns-clause-spans : goal.returns-clause-spans
 returns-clause-spans c = reached_spans c.args.text.now c.loop-first.list.list c.loop-first.rest.now c.in_default.ensures.cases c.loop-first.invariant.reached
