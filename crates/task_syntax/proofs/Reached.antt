@@ -124,8 +124,7 @@ spans source (comment t ∷ ps) rest list from place right le are =
 spans source (lexeme s kind ∷ ps) rest [] from place right le are = absurd are
 spans source (lexeme s kind ∷ ps) rest (t ∷ ts) from place right le are =
     let full = some s (token_some s kind right.0) in
-    let here = are.0 in
-    (
+    let here = are.0 in (
       omega (arith, le, here.from),
       omega (arith, here.from, here.to, full),
       subst (λ n. AreSpans t.to ts n) (omega (arith, length-append s (bytes_of ps))) (spans source ps rest ts t.to (place + length s) right.3 (omega (arith, here.to)) are.1),

@@ -51,7 +51,10 @@ fn number_at(text: &str) -> Result<(TokenKind, &str), Stop<'_>>
     let digits = &text.as_bytes()[..text.len() - rest.len()];
     match value(digits) {
         Some(number) => Ok((TokenKind::Number(number as i64), rest)),
-        None => Err(Stop::Fault { kind: LexKind::WideNumber, rest: text }),
+        None => Err(Stop::Fault {
+            kind: LexKind::WideNumber,
+            rest: text,
+        }),
     }
 }
 
@@ -82,7 +85,10 @@ fn token_at<'s>(
     }
     match symbol_at(text) {
         Some((symbol, rest)) => Ok((TokenKind::Symbol(symbol), rest)),
-        None => Err(Stop::Fault { kind: LexKind::BadChar, rest: text }),
+        None => Err(Stop::Fault {
+            kind: LexKind::BadChar,
+            rest: text,
+        }),
     }
 }
 
@@ -114,7 +120,10 @@ pub fn lex(alloc: Global, text: &str) -> Result<Tokens, LexStop>
                 rest = after;
             }
             Err(Stop::Fault { kind, rest }) => {
-                return Err(LexStop::Fault { place: place_of(text, rest), kind });
+                return Err(LexStop::Fault {
+                    place: place_of(text, rest),
+                    kind,
+                });
             }
             Err(Stop::Memory) => return Err(LexStop::Memory),
         }

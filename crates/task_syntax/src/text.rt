@@ -93,7 +93,10 @@ pub(crate) fn text_at<'s>(
     while let Some((first, more)) = first_char(rest) {
         if first == '"' {
             if content.len() > TEXT_LIMIT {
-                return Err(Stop::Fault { kind: LexKind::LongText, rest: text });
+                return Err(Stop::Fault {
+                    kind: LexKind::LongText,
+                    rest: text,
+                });
             }
             return Ok((TaskText::of_string(content), more));
         }
@@ -107,5 +110,8 @@ pub(crate) fn text_at<'s>(
             Err(kind) => return Err(Stop::Fault { kind, rest }),
         }
     }
-    Err(Stop::Fault { kind: LexKind::OpenText, rest: text })
+    Err(Stop::Fault {
+        kind: LexKind::OpenText,
+        rest: text,
+    })
 }

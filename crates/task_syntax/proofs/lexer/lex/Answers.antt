@@ -18,7 +18,7 @@ loop-first-preserved-then-is_blank c =
       utf8 = search rules;
       within = omega (arith, c.loop-first.invariant.within, c.in-Some.ensures.shorter);
       reached = reached_blank c.args.text.now c.loop-first.list.list c.loop-first.rest.now c.in-Some.more.now c.in-Some.first c.loop-first.invariant.reached
-      (begins_low c.loop-first.rest.now c.in-Some.first c.in-Some.more.now low c.in-Some.ensures.cases) blank;
+          (begins_low c.loop-first.rest.now c.in-Some.first c.in-Some.more.now low c.in-Some.ensures.cases) blank;
     }
 
 pub loop-first-preserved-then-first-eq35 : goal.loop-first-preserved-then-first-eq35
@@ -29,7 +29,7 @@ loop-first-preserved-then-first-eq35 c =
       utf8 = search rules;
       within = omega (arith, c.loop-first.invariant.within, c.in-Some.ensures.shorter, run_shorter _ c.in-Some.more.now c.strip-rest.result.now front run);
       reached = reached_comment c.args.text.now c.loop-first.list.list c.loop-first.rest.now (encode_utf8_all front) c.strip-rest.result.now c.loop-first.invariant.reached
-      (here ∙ ap (λ x. 35 ∷ x) run.split) (no_lf front run.passes) (ends_line c.strip-rest.result.now (search rules) run.ends);
+          (here ∙ ap (λ x. 35 ∷ x) run.split) (no_lf front run.passes) (ends_line c.strip-rest.result.now (search rules) run.ends);
     }
 
 pub loop-first-smaller : goal.loop-first-smaller
@@ -46,7 +46,7 @@ loop-first-preserved c =
       utf8 = search rules;
       within = omega (arith, c.loop-first.invariant.within, less);
       reached = subst (λ l. Reached c.args.text.now l c.in-Ok.after.now) (sym pushed)
-      (reached_token c.args.text.now c.loop-first.list.list c.loop-first.rest.now c.in-Ok.after.now t c.loop-first.invariant.reached c.in-Ok.ensures c.place_of-from.ensures c.place_of-to.ensures);
+          (reached_token c.args.text.now c.loop-first.list.list c.loop-first.rest.now c.in-Ok.after.now t c.loop-first.invariant.reached c.in-Ok.ensures c.place_of-from.ensures c.place_of-to.ensures);
     }
 
 pub returns-clause-tokens : goal.returns-clause-tokens

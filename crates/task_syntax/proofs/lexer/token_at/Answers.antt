@@ -11,7 +11,10 @@ returns-in-Some c = symbol_leads c.args.text.now c.in-Some.rest.now c.in-Some.sy
 pub returns-in-None : goal.returns-in-None
 returns-in-None c = (
   0,
-  inl (bad_char c.args.text.now c.args.more.now c.args.first c.requires.begins c.requires.no_blank c.requires.no_comment
-  (sym c.is_xid_start.ensures.value ∙ c.if-is_xid_start.false) (sym c.is_ascii_digit.ensures.value ∙ c.if-is_ascii_digit.false) c.if-first-eq34.false c.in-None.ensures, refl),
+  inl (
+    bad_char c.args.text.now c.args.more.now c.args.first c.requires.begins c.requires.no_blank c.requires.no_comment
+        (sym c.is_xid_start.ensures.value ∙ c.if-is_xid_start.false) (sym c.is_ascii_digit.ensures.value ∙ c.if-is_ascii_digit.false) c.if-first-eq34.false c.in-None.ensures,
+    refl,
+  ),
   omega arith,
 )

@@ -10,9 +10,12 @@ use Rattle.task_syntax.proofs.symbol.symbol_at.Goals as goal
 pub returns : goal.returns
 returns c = weaker c.first_of.result
     (λ none s rest e. none_of c.args.text.now (symbol_spelling s) rest (map symbol_spelling SYMBOLS.now) none (symbol_listed s) e)
-    (λ r first. (first.begins, λ s rest e.
-        first_longest c.args.text.now (symbol_spelling r.0) (symbol_spelling s) rest first.before first.after
-        (subst (λ t. descends t ≡ true) first.split refl)
-        (subst (λ t. list_any (pointwise eqb (symbol_spelling s)) t ≡ true) first.split (symbol_listed s))
-        first.none e))
+    (λ r first. (
+      first.begins,
+      λ s rest e.
+          first_longest c.args.text.now (symbol_spelling r.0) (symbol_spelling s) rest first.before first.after
+          (subst (λ t. descends t ≡ true) first.split refl)
+          (subst (λ t. list_any (pointwise eqb (symbol_spelling s)) t ≡ true) first.split (symbol_listed s))
+          first.none e,
+    ))
     c.first_of.ensures

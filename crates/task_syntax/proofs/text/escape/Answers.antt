@@ -39,5 +39,8 @@ returns-in-x c =
     no_digits rest t back none (by_digits a b _ is e) = none a b t back is e
 
 pub returns-in_default : goal.returns-in_default
-returns-in_default c = (refl, no_escape_other c.args.text.now c.in_ok-letter.letter c.in_ok-letter.rest.now c.in_ok-letter.ensures.cases
-    (omega arith) (omega arith) (omega arith) (omega arith) (omega arith) (omega arith))
+returns-in_default c = (
+  refl,
+  no_escape_other c.args.text.now c.in_ok-letter.letter c.in_ok-letter.rest.now c.in_ok-letter.ensures.cases
+      (omega arith) (omega arith) (omega arith) (omega arith) (omega arith) (omega arith),
+)

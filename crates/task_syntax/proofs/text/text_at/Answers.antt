@@ -12,15 +12,17 @@ returns-then-len-gt-TEXT_LIMIT c =
     let (ps, split, are) = c.loop-first.invariant.so_far in
     let first : c.loop-first.rest.now ≡ c.in-Some.first ∷ c.in-Some.more.now = begins_low c.loop-first.rest.now c.in-Some.first c.in-Some.more.now (omega (arith, c.if-first-eq34.true)) c.in-Some.ensures.cases in
     let here : c.loop-first.rest.now ≡ 34 ∷ c.in-Some.more.now = first ∙ ap (λ b. b ∷ c.in-Some.more.now) c.if-first-eq34.true in
-    let long : 65536 < length (string_bytes c.loop-first.content) = omega (arith, c.len.ensures, c.if-len-gt-TEXT_LIMIT.true) in
-    (
+    let long : 65536 < length (string_bytes c.loop-first.content) = omega (arith, c.len.ensures, c.if-len-gt-TEXT_LIMIT.true) in (
       0,
-      (record {
-        parts = ps;
-        back = c.in-Some.more.now;
-        before = record { content = string_bytes c.loop-first.content; bytes = split ∙ ap (λ x. 34 ∷ (spelled ps ++ x)) here; are = are };
-        long = long;
-      }, refl),
+      (
+        record {
+          parts = ps;
+          back = c.in-Some.more.now;
+          before = record { content = string_bytes c.loop-first.content; bytes = split ∙ ap (λ x. 34 ∷ (spelled ps ++ x)) here; are = are };
+          long = long;
+        },
+        refl,
+      ),
       omega arith,
     )
 
