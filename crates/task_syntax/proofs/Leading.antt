@@ -24,7 +24,7 @@ use Rattle.task_syntax.proofs.Classes.{Class, letter, digit, quote, sign, none, 
 use Rattle.task_syntax.proofs.Longest.{word_longest, digits_longest, text_longest, symbol_longest}
 
 -- ---- words
-scalars_cons : (c : ℕ) (cs : List ℕ) → all_scalars (c ∷ []) ≡ true → all_scalars cs ≡ true → all_scalars (c ∷ cs) ≡ true
+pub scalars_cons : (c : ℕ) (cs : List ℕ) → all_scalars (c ∷ []) ≡ true → all_scalars cs ≡ true → all_scalars (c ∷ cs) ≡ true
 scalars_cons c cs one all = let first : scalar c ≡ true = grind (arith, one) in rw (first, all) refl
 
 module _ (text more rest : Text) (c : ℕ) (front : List ℕ) (b : Begins text c more) (one : all_scalars (c ∷ []) ≡ true) (starts : is_xid_start c ≡ true) (run : IsRun (goes_on Word) more front rest) where

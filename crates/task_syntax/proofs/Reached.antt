@@ -95,7 +95,7 @@ lead_shorter text rest kind lead = go lead.spelling (token_some lead.spelling le
     go (b ∷ t) some e = omega (arith, e)
 
 -- ---- at the end
-whole_right : (ps : List Piece) → AreRightBefore ps [] → AreRight ps
+pub whole_right : (ps : List Piece) → AreRightBefore ps [] → AreRight ps
 whole_right [] h = tt
 whole_right (blank b ∷ ps) h = (h.0, whole_right ps h.1)
 whole_right (comment t ∷ ps) h = (h.0, subst EndsLine (append-nil (bytes_of ps)) h.1, whole_right ps h.2)
