@@ -1,38 +1,24 @@
 -- A piece or a fault stands first: tests, runs, escapes and texts.
-use Rattle.std.proofs.Common.{◌≡◌, ◌≢◌, ◌⊎◌, ℕ, zero, suc, ℤ, pos, ◌+◌, ◌*◌, ◌-◌, ◌<◌, ◌≤◌, nat_le, nat_lt, Bool, true, false, List, [], ◌∷◌, ◌++◌, map, length, take, refl, sym, ap, ◌∙◌, subst, arith, inl, inr, append_assoc, append-nil, length-append, eqb}
+use Rattle.std.proofs.Common.{◌≡◌, ◌≢◌, ◌⊎◌, ℕ, zero, suc, ◌+◌, ◌*◌, ◌<◌, ◌≤◌, Bool, true, false, List, [], ◌∷◌, ◌++◌, length, refl, sym, ap, ◌∙◌, subst, arith, inl, inr, append_assoc}
 use Rattle.std.specs.Prelude.{encode_utf8, ◌==◌}
-use Rattle.std.specs.Char.{is_ascii_digit}
-use Rattle.std.specs.Cmp.Lexicographic.{pointwise}
-use Rattle.std.specs.List.{list_all, list_any}
 use Rattle.std.specs.Str.{encode_utf8_all, all_scalars, IsUtf8}
 use Rattle.std.proofs.Math.Utf8.{scalar}
 use Rattle.std.proofs.lemmas.Bool.Decides.{nat_tests}
 use Rattle.std.proofs.lemmas.Bool.{cases_lt}
-use Rattle.std.proofs.lemmas.Str.{IsUtf8-past_char}
-use Rattle.unicode_ident.specs.Ident.{is_xid_start}
 use Rattle.task_model.specs.Text.{Text}
-use Rattle.task_model.specs.Token.{TokenTerm, TextPart, raw, letter, hex, part_spelling, spelled, PartIs, PartsAre, Escapes, quote, backslash, line_feed, tab, carriage_return, IsHex, hex_value, is_keyword, is_symbol, symbols, number_from, Piece, blank, comment, lexeme, piece_bytes, bytes_of, tokens_from, HasTokens}
+use Rattle.task_model.specs.Token.{TextPart, raw, hex, spelled, PartIs, PartsAre, Escapes, quote, backslash, line_feed, tab, carriage_return, IsHex, hex_value, Piece, lexeme, piece_bytes}
 use Rattle.task_syntax.specs.declared.stop.LexKind.{LexKind}
-use Rattle.task_syntax.specs.declared.stop.LexKind.TheVariants.{BadChar, OpenText, BadEscape, LongText, WideNumber}
-use Rattle.task_syntax.specs.declared.run.Run.TheVariants.{Line, Word, Digits}
-use Rattle.task_syntax.specs.declared.symbol.Symbol.{Symbol}
-use Rattle.task_syntax.specs.declared.symbol.TheConstants.{SYMBOLS}
+use Rattle.task_syntax.specs.declared.stop.LexKind.TheVariants.{BadChar, OpenText, BadEscape, LongText}
 use Rattle.task_syntax.specs.declared.token.TokenKind.{TokenKind}
-use Rattle.task_syntax.specs.Spelling.{symbol_spelling}
-use Rattle.task_syntax.specs.Runs.{Begins, IsRun, goes_on, is_blank}
-use Rattle.task_syntax.specs.Fault.{AreRightBefore, IsNotRaw, IsNoEscape, IsFaultAt, HasFault}
+use Rattle.task_syntax.specs.Runs.{Begins, IsRun}
+use Rattle.task_syntax.specs.Fault.{IsNotRaw, IsNoEscape, IsFaultAt}
 use Rattle.task_syntax.specs.Front.{Leads}
 use Rattle.task_syntax.specs.Parts.{PartStands, PartFails}
-use Rattle.task_syntax.specs.Table.{NoneBegins, FirstBegins}
-use Rattle.task_syntax.proofs.Bytes.{no_char, same_head, same_tail, begins_same, begins_low, low_begins, run_shorter}
-use Rattle.task_syntax.proofs.Words.{any_same, keyword_of, is_symbol-spelling, symbol_listed}
+use Rattle.task_syntax.proofs.Bytes.{no_char, same_head, same_tail, begins_same, begins_low}
 use Rattle.task_syntax.proofs.EscapeLemmas.{no_escape_end, no_escape_other, no_escape_digits, digits_stand, letter_stands, hex_first, hex_stands, part_stop, stand_shorter, text_push}
-use Rattle.task_syntax.proofs.TableLemmas.{none_of}
-use Rattle.task_syntax.proofs.Lines.{blank_is, no_lf, ends_line}
-use Rattle.task_syntax.proofs.Leading.{scalars_cons, name_leads, keyword_leads, number_leads, number_wide, text_leads, symbol_leads, bad_char}
-use Rattle.task_syntax.proofs.Tables.{longest_of}
-use Rattle.task_syntax.proofs.Pieces.{IsRight, bytes_push, right_push}
-use Rattle.task_syntax.proofs.Reached.{whole_right, lead_shorter}
+use Rattle.task_syntax.proofs.Leading.{scalars_cons, text_leads}
+use Rattle.task_syntax.proofs.Pieces.{IsRight}
+use Rattle.task_syntax.proofs.Reached.{lead_shorter}
 
 -- ---- tests
 pub same_or_not : (a b : ℕ) → (a ≡ b) ⊎ (a ≢ b)

@@ -1,16 +1,15 @@
 -- What stands first inside a text: escapes and raw characters.
-use Rattle.std.proofs.Common.{◌≡◌, ◌≢◌, ◌⊎◌, ℕ, ◌+◌, ◌*◌, ◌<◌, ◌≤◌, true, List, [], ◌∷◌, ◌++◌, length, refl, sym, ap, ◌∙◌, subst, arith, inl, inr, append_assoc, length-append}
+use Rattle.std.proofs.Common.{◌≡◌, ◌≢◌, ◌⊎◌, ℕ, ◌+◌, ◌*◌, ◌<◌, List, [], ◌∷◌, ◌++◌, length, refl, sym, ap, ◌∙◌, subst, arith, inl, inr, append_assoc, length-append}
 use Rattle.std.specs.Prelude.{encode_utf8}
-use Rattle.std.specs.Str.{all_scalars}
 use Rattle.std.proofs.lemmas.Str.{encode_ascii, length-encode, len_utf8_bounds}
 use Rattle.task_model.specs.Text.{Text}
-use Rattle.task_model.specs.Token.{TextPart, raw, letter, hex, part_spelling, spelled, PartIs, PartsAre, Escapes, quote, backslash, line_feed, tab, carriage_return, IsHex, IsDigit, hex_value}
+use Rattle.task_model.specs.Token.{TextPart, raw, letter, hex, part_spelling, spelled, PartIs, PartsAre, Escapes, quote, backslash, line_feed, tab, carriage_return, IsHex, hex_value}
 use Rattle.task_syntax.specs.declared.stop.LexKind.{LexKind}
 use Rattle.task_syntax.specs.declared.stop.LexKind.TheVariants.{BadChar, OpenText, BadEscape, LongText, WideNumber}
 use Rattle.task_syntax.specs.Runs.{Begins}
-use Rattle.task_syntax.specs.Fault.{IsTextBefore, IsNotRaw, IsNoEscape, IsFaultAt}
+use Rattle.task_syntax.specs.Fault.{IsFaultAt}
 use Rattle.task_syntax.specs.Parts.{PartStands, PartFails}
-use Rattle.task_syntax.proofs.Bytes.{same_tail, begins_byte, begins_low, no_char}
+use Rattle.task_syntax.proofs.Bytes.{same_tail, begins_byte, begins_low}
 use Rattle.task_syntax.proofs.PartLemmas.{raw_not, parts_push, spelled_push}
 
 -- ---- two digits

@@ -1,5 +1,5 @@
 -- The first symbol of the table that a text begins with is the longest.
-use Rattle.std.proofs.Common.{◌≡◌, ◌≤◌, true, List, ℕ, ◌++◌, length, map, subst, eqb, refl}
+use Rattle.std.proofs.Common.{◌≡◌, ◌≤◌, true, ◌++◌, length, map, subst, eqb, refl}
 use Rattle.std.specs.Cmp.Lexicographic.{pointwise}
 use Rattle.std.specs.List.{list_any}
 use Rattle.task_model.specs.Text.{Text}

@@ -1,5 +1,5 @@
 -- The first of some texts that another begins with.
-use Rattle.std.specs.Prelude.{◌≡◌, ℕ, List, [], ◌∷◌, ◌++◌}
+use Rattle.std.specs.Prelude.{◌≡◌, List, [], ◌∷◌, ◌++◌}
 use Rattle.task_model.specs.Text.{Text}
 
 -- a text begins with none of these

@@ -1,10 +1,8 @@
-use Rattle.std.proofs.Common.{rules, ◌≡◌, ◌≢◌, ◌∷◌, ◌++◌, ⊎_elim, ℕ, [], refl, sym, ◌∙◌, ap, subst, arith}
-use Rattle.task_model.specs.Text.{Text}
-use Rattle.task_model.specs.Token.{quote, backslash, line_feed, tab, carriage_return, hex, PartIs, Escapes}
+use Rattle.std.proofs.Common.{refl, arith}
+use Rattle.task_model.specs.Token.{quote, backslash, line_feed, tab, carriage_return}
 use Rattle.task_syntax.specs.Runs.{Begins}
 use Rattle.task_syntax.proofs.EscapeLemmas.{no_escape_digits, digits_stand, no_escape_end, no_escape_other, letter_stands}
 use Rattle.task_syntax.proofs.TableLemmas.{weaker}
-use Rattle.task_syntax.proofs.Bytes.{begins_low}
 use Rattle.task_syntax.proofs.text.escape.Goals as goal
 
 pub returns-in_err-letter : goal.returns-in_err-letter
