@@ -14,17 +14,15 @@ use Rattle.task_syntax.specs.declared.stop.LexKind.{LexKind}
 use Rattle.task_syntax.specs.declared.stop.LexKind.TheVariants.{BadChar, WideNumber}
 use Rattle.task_syntax.specs.declared.run.Run.TheVariants.{Line, Word, Digits}
 use Rattle.task_syntax.specs.declared.symbol.Symbol.{Symbol}
-use Rattle.task_syntax.specs.declared.symbol.TheConstants.{SYMBOLS}
 use Rattle.task_syntax.specs.Spelling.{symbol_spelling}
 use Rattle.task_syntax.specs.Runs.{IsRun, goes_on, is_blank}
 use Rattle.task_syntax.specs.Fault.{AreRightBefore, HasFault}
-use Rattle.task_syntax.specs.Table.{NoneBegins, FirstBegins}
+use Rattle.task_syntax.specs.Table.{NoneBegins, FirstBegins, symbols_with}
 use Rattle.task_syntax.proofs.Bytes.{begins_low, low_begins, run_shorter}
-use Rattle.task_syntax.proofs.Words.{any_same, keyword_of, is_symbol-spelling, symbol_listed}
-use Rattle.task_syntax.proofs.TableLemmas.{none_of}
+use Rattle.task_syntax.proofs.Words.{any_same, keyword_of, is_symbol-spelling}
 use Rattle.task_syntax.proofs.Lines.{blank_is, no_lf, ends_line}
 use Rattle.task_syntax.proofs.Leading.{name_leads, keyword_leads, number_leads, number_wide, symbol_leads, bad_char}
-use Rattle.task_syntax.proofs.Tables.{longest_of}
+use Rattle.task_syntax.proofs.Tables.{no_symbol, longest_of}
 use Rattle.task_syntax.proofs.Pieces.{bytes_push, right_push}
 use Rattle.task_syntax.proofs.Deciding.{same_or_not, begins_or_not, run_exists, First, a_piece, a_fault, lead_first, utf8, text_first}
 use Rattle.task_syntax.proofs.Reached.{whole_right}
@@ -93,15 +91,15 @@ comment_first cs one = go (run_exists (goes_on Line) cs one)
         (omega (arith, run_shorter (goes_on Line) (encode_utf8_all cs) (encode_utf8_all back) front run))
 
 symbol_first : (c : ℕ) (cs : List ℕ) → all_scalars (c ∷ cs) ≡ true → is_blank c ≡ false → c ≢ 35 → is_xid_start c ≡ false → is_ascii_digit c ≡ false → c ≢ 34 → First (encode_utf8_all (c ∷ cs))
-symbol_first c cs one n1 n2 n3 n4 n5 = go (symbol_or_not SYMBOLS.now text)
+symbol_first c cs one n1 n2 n3 n4 n5 = go (symbol_or_not (symbols_with c) text)
   where
     text : Text
     text = encode_utf8_all (c ∷ cs)
 
-    go : NoneBegins text (map symbol_spelling SYMBOLS.now) ⊎ ((s : Symbol) × (rest : Text) × FirstBegins text (map symbol_spelling SYMBOLS.now) (symbol_spelling s) rest) → First text
-    go (inl none) = a_fault BadChar 0 (inl (bad_char text (encode_utf8_all cs) c refl n1 n2 n3 n4 n5 (λ s rest e. none_of text (symbol_spelling s) rest (map symbol_spelling SYMBOLS.now) none (symbol_listed s) e), refl))
+    go : NoneBegins text (map symbol_spelling (symbols_with c)) ⊎ ((s : Symbol) × (rest : Text) × FirstBegins text (map symbol_spelling (symbols_with c)) (symbol_spelling s) rest) → First text
+    go (inl none) = a_fault BadChar 0 (inl (bad_char text (encode_utf8_all cs) c refl n1 n2 n3 n4 n5 (no_symbol text c (encode_utf8_all cs) refl none), refl))
     go (inr (s, rest, first)) =
-        lead_first text rest _ (symbol_leads text rest s first.begins (λ t after e. longest_of text s rest first t after e))
+        lead_first text rest _ (symbol_leads text rest s first.begins (longest_of text c (encode_utf8_all cs) s rest refl first))
         (utf8_after (symbol_spelling s) rest (any_same (list_all (λ b. nat_lt b 128)) (symbol_spelling s) symbols refl (is_symbol-spelling s)) (subst IsUtf8 first.begins (utf8 (c ∷ cs) one)))
 
 first : (cs : List ℕ) → all_scalars cs ≡ true → (cs ≡ []) ⊎ First (encode_utf8_all cs)
