@@ -1,6 +1,6 @@
-use Rattle.std.proofs.Common.{map, ap, subst, ◌≡◌}
+use Rattle.std.proofs.Common.{map, subst}
 use Rattle.task_syntax.specs.Spelling.{symbol_spelling}
-use Rattle.task_syntax.specs.Table.{NoneBegins, FirstBegins, symbols_with}
+use Rattle.task_syntax.specs.Table.{NoneBegins, FirstBegins}
 use Rattle.task_syntax.proofs.TableLemmas.{weaker}
 use Rattle.task_syntax.proofs.Tables.{no_symbol, longest_of}
 use Rattle.task_syntax.proofs.symbol.symbol_at.Goals as goal
