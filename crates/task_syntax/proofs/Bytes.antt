@@ -16,6 +16,9 @@ use Rattle.task_syntax.specs.Runs.{Begins, IsRun}
 pub same_head : (a b : ℕ) (s t : Text) → a ∷ s ≡ b ∷ t → a ≡ b
 same_head a b s t e = cc
 
+pub same_tail : (a b : ℕ) (s t : Text) → a ∷ s ≡ b ∷ t → s ≡ t
+same_tail a b s t e = cc
+
 pub no_char : (c : ℕ) (rest : Text) → Begins [] c rest → ⊥
 no_char c rest e = let k = cons_from_encodes [] rest c e in let no = k.1 in absurd cc
 

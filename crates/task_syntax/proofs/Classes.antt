@@ -1,16 +1,16 @@
 -- What the first character of a token says of its kind.
-use Rattle.std.proofs.Common.{◌≡◌, ◌≢◌, ◌⊎◌, ℕ, ◌+◌, ◌<◌, Bool, true, false, List, [], ◌∷◌, ◌++◌, refl, sym, ap, ◌∙◌, subst, arith, nat_lt, inl, inr}
+use Rattle.std.proofs.Common.{◌≡◌, ◌≢◌, ◌⊎◌, ℕ, ◌<◌, Bool, true, false, [], ◌∷◌, ◌++◌, refl, sym, ap, ◌∙◌, subst, arith, nat_lt, inl, inr}
 use Rattle.std.specs.Prelude.{◌==◌, ◌&&◌, codes, if◌then◌else◌}
 use Rattle.std.specs.Char.{is_ascii_alphabetic, is_ascii_digit}
-use Rattle.std.specs.List.{list_all, list_any}
+use Rattle.std.specs.List.{list_any}
 use Rattle.std.specs.Str.{encode_utf8_all}
 use Rattle.std.proofs.lemmas.Bool.Decides.{nat_tests}
 use Rattle.unicode_ident.specs.Ident.{is_xid_start}
 use Rattle.unicode_ident.proofs.IdentLemmas.{is_xid_start-ascii}
 use Rattle.task_model.specs.Text.{Text}
-use Rattle.task_model.specs.Token.{TokenKindTerm, name_token, keyword_token, number_token, text_token, symbol_token, keywords, symbols, is_keyword, is_symbol, IsBlank, Spells}
-use Rattle.task_syntax.specs.Runs.{Begins, is_blank}
-use Rattle.task_syntax.proofs.Bytes.{low_begins, begins_same, begins_more, begins_byte, digit-is, no_char}
+use Rattle.task_model.specs.Token.{TokenKindTerm, name_token, keyword_token, number_token, text_token, symbol_token, keywords, symbols, IsBlank, Spells}
+use Rattle.task_syntax.specs.Runs.{Begins}
+use Rattle.task_syntax.proofs.Bytes.{low_begins, begins_same, begins_more, digit-is, no_char}
 use Rattle.task_syntax.proofs.Words.{any_same}
 
 pub data Class : Type 0 where

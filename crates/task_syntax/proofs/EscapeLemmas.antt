@@ -1,16 +1,15 @@
 -- What stands first inside a text: escapes and raw characters.
-use Rattle.std.proofs.Common.{◌≡◌, ◌≢◌, ◌⊎◌, ℕ, ◌+◌, ◌*◌, ◌<◌, ◌≤◌, true, List, [], ◌∷◌, ◌++◌, length, refl, sym, ap, ◌∙◌, subst, arith, inl, inr, append_assoc, length-append}
+use Rattle.std.proofs.Common.{◌≡◌, ◌≢◌, ◌⊎◌, ℕ, ◌+◌, ◌*◌, ◌<◌, List, [], ◌∷◌, ◌++◌, length, refl, sym, ap, ◌∙◌, subst, arith, inl, inr, append_assoc, length-append}
 use Rattle.std.specs.Prelude.{encode_utf8}
-use Rattle.std.specs.Str.{all_scalars}
 use Rattle.std.proofs.lemmas.Str.{encode_ascii, length-encode, len_utf8_bounds}
 use Rattle.task_model.specs.Text.{Text}
-use Rattle.task_model.specs.Token.{TextPart, raw, letter, hex, part_spelling, spelled, PartIs, PartsAre, Escapes, quote, backslash, line_feed, tab, carriage_return, IsHex, IsDigit, hex_value}
+use Rattle.task_model.specs.Token.{TextPart, raw, letter, hex, part_spelling, spelled, PartIs, PartsAre, Escapes, quote, backslash, line_feed, tab, carriage_return, IsHex, hex_value}
 use Rattle.task_syntax.specs.declared.stop.LexKind.{LexKind}
 use Rattle.task_syntax.specs.declared.stop.LexKind.TheVariants.{BadChar, OpenText, BadEscape, LongText, WideNumber}
 use Rattle.task_syntax.specs.Runs.{Begins}
-use Rattle.task_syntax.specs.Fault.{IsTextBefore, IsNotRaw, IsNoEscape, IsFaultAt}
+use Rattle.task_syntax.specs.Fault.{IsFaultAt}
 use Rattle.task_syntax.specs.Parts.{PartStands, PartFails}
-use Rattle.task_syntax.proofs.Bytes.{same_head, begins_byte, begins_low, no_char}
+use Rattle.task_syntax.proofs.Bytes.{same_tail, begins_byte, begins_low}
 use Rattle.task_syntax.proofs.PartLemmas.{raw_not, parts_push, spelled_push}
 
 -- ---- two digits
@@ -53,9 +52,6 @@ letter_low backslash = omega arith
 letter_low line_feed = omega arith
 letter_low tab = omega arith
 letter_low carriage_return = omega arith
-
-same_tail : (a b : ℕ) (s t : Text) → a ∷ s ≡ b ∷ t → s ≡ t
-same_tail a b s t e = cc
 
 pub escape_front : (text : Text) (first : ℕ) (rest : Text) → Begins text first rest → (p : TextPart) (t back : Text) → PartIs p t → 92 ∷ text ≡ part_spelling p ++ back → EscapeFront first rest t back
 escape_front text first rest b (raw c) t back h e = absurd (raw_not c 92 text back t h (omega arith) e (inr (inr (inl refl))))
@@ -106,6 +102,25 @@ no_escape_other text c rest begins n1 n2 n3 n4 n5 n6 p t back is e = go (escape_
     go : EscapeFront c rest t back → ⊥
     go (by_letter byte h _) = no_escape_letter c byte h n1 n2 n3 n4 n5
     go (by_digits a b x _ _) = n6 x
+
+pub no_escape_digits :
+    (text rest : Text)
+    → Begins text 120 rest
+    → ((a b : ℕ) (t back : Text) → PartIs (hex a b) t → rest ≡ a ∷ b ∷ back → ⊥)
+    → (p : TextPart) (t back : Text)
+    → PartIs p t
+    → 92 ∷ text ≡ part_spelling p ++ back
+    → ⊥
+no_escape_digits text rest begins none p t back is e = go (escape_front text 120 rest begins p t back is e)
+  where
+    go : EscapeFront 120 rest t back → ⊥
+    go (by_letter byte h _) =
+        no_escape_letter 120 byte h (λ e. absurd (omega (arith, e))) (λ e. absurd (omega (arith, e))) (λ e. absurd (omega (arith, e))) (λ e. absurd (omega (arith, e))) (λ e. absurd (omega (arith, e)))
+    go (by_digits a b _ is e) = none a b t back is e
+
+-- two digits stand, and what they stand for
+pub digits_stand : (text rest : Text) (a b code : ℕ) (back : Text) → Begins text 120 rest → rest ≡ a ∷ b ∷ back → PartIs (hex a b) (encode_utf8 code) → PartStands (92 ∷ text) code back
+digits_stand text rest a b code back begins e is = (hex a b, ap (λ x. 92 ∷ x) (begins_low text 120 rest (omega arith) begins ∙ ap (λ x. 120 ∷ x) e), is)
 
 -- a letter stands, and what it stands for
 pub letter_stands : (text : Text) (c byte : ℕ) (rest : Text) → Escapes c byte → byte < 128 → Begins text c rest → PartStands (92 ∷ text) byte rest

@@ -1,14 +1,13 @@
 -- The token or the fault in front.
-use Rattle.std.proofs.Common.{◌≡◌, ◌≢◌, ◌⊎◌, ℕ, ℤ, pos, ◌+◌, ◌-◌, ◌<◌, ◌≤◌, Bool, true, false, List, [], ◌∷◌, ◌++◌, length, take, refl, sym, ap, ◌∙◌, subst, arith, inl, inr, append_assoc, append-nil, length-append}
-use Rattle.std.specs.Prelude.{encode_utf8, if◌then◌else◌, ◌==◌}
+use Rattle.std.proofs.Common.{◌≡◌, ◌≢◌, ◌⊎◌, ℕ, ℤ, pos, ◌-◌, ◌<◌, ◌≤◌, true, false, List, [], ◌∷◌, ◌++◌, length, take, refl, sym, ap, ◌∙◌, subst, arith, inl, inr, append_assoc}
+use Rattle.std.specs.Prelude.{encode_utf8}
 use Rattle.std.specs.Char.{is_ascii_digit}
-use Rattle.std.specs.List.{list_all}
 use Rattle.std.specs.Str.{encode_utf8_all, all_scalars}
 use Rattle.std.proofs.Math.Utf8.{scalar}
 use Rattle.std.proofs.lemmas.Bool.Decides.{nat_tests}
-use Rattle.unicode_ident.specs.Ident.{is_xid_start, is_xid_continue}
+use Rattle.unicode_ident.specs.Ident.{is_xid_start}
 use Rattle.task_model.specs.Text.{Text}
-use Rattle.task_model.specs.Token.{TokenKindTerm, name_token, keyword_token, number_token, text_token, symbol_token, IsWord, is_keyword, AreDigits, number_from, IsNumber, Spells, IsBlank, IsLongest, spelled}
+use Rattle.task_model.specs.Token.{TokenKindTerm, name_token, keyword_token, number_token, text_token, symbol_token, is_keyword, number_from, IsNumber, Spells, IsLongest, spelled}
 use Rattle.task_syntax.specs.declared.keyword.Keyword.{Keyword}
 use Rattle.task_syntax.specs.declared.symbol.Symbol.{Symbol}
 use Rattle.task_syntax.specs.declared.token.TokenKind.TheVariants as kinds
@@ -18,13 +17,13 @@ use Rattle.task_syntax.specs.Runs.{Begins, IsRun, goes_on, is_blank}
 use Rattle.task_syntax.specs.Front.{Leads}
 use Rattle.task_syntax.specs.Parts.{TextStands}
 use Rattle.task_syntax.specs.Fault.{BeginsNoToken, IsWide}
-use Rattle.task_syntax.proofs.Bytes.{no_char, begins_byte, begins_same, all_digits, front_is}
+use Rattle.task_syntax.proofs.Bytes.{no_char, begins_byte, all_digits, front_is}
 use Rattle.task_syntax.proofs.Words.{is_keyword-spelling, is_symbol-spelling, symbol_of, all-AllContinue}
 use Rattle.task_syntax.proofs.Classes.{Class, letter, digit, quote, sign, none, class, class_of, class_other, front_class}
 use Rattle.task_syntax.proofs.Longest.{word_longest, digits_longest, text_longest, symbol_longest}
 
 -- ---- words
-scalars_cons : (c : ℕ) (cs : List ℕ) → all_scalars (c ∷ []) ≡ true → all_scalars cs ≡ true → all_scalars (c ∷ cs) ≡ true
+pub scalars_cons : (c : ℕ) (cs : List ℕ) → all_scalars (c ∷ []) ≡ true → all_scalars cs ≡ true → all_scalars (c ∷ cs) ≡ true
 scalars_cons c cs one all = let first : scalar c ≡ true = grind (arith, one) in rw (first, all) refl
 
 module _ (text more rest : Text) (c : ℕ) (front : List ℕ) (b : Begins text c more) (one : all_scalars (c ∷ []) ≡ true) (starts : is_xid_start c ≡ true) (run : IsRun (goes_on Word) more front rest) where

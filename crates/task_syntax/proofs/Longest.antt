@@ -1,16 +1,16 @@
 -- Where a token ends.
-use Rattle.std.proofs.Common.{◌≡◌, ◌≢◌, ℕ, ◌+◌, ◌<◌, ◌≤◌, true, false, List, [], ◌∷◌, ◌++◌, length, refl, sym, ap, ◌∙◌, subst, arith, append_assoc, append-nil, length-append}
+use Rattle.std.proofs.Common.{◌≡◌, ◌≢◌, ℕ, ◌≤◌, true, false, List, [], ◌∷◌, ◌++◌, length, refl, sym, ap, ◌∙◌, arith, append_assoc, append-nil, length-append}
 use Rattle.std.specs.Char.{is_ascii_digit}
 use Rattle.std.specs.Str.{encode_utf8_all}
 use Rattle.unicode_ident.specs.Ident.{is_xid_start, is_xid_continue}
 use Rattle.task_model.specs.Text.{Text}
-use Rattle.task_model.specs.Token.{TokenKindTerm, name_token, keyword_token, number_token, text_token, symbol_token, IsWord, AreDigits, Spells, IsText, PartsAre, TextPart, spelled, IsLongest}
+use Rattle.task_model.specs.Token.{TokenKindTerm, name_token, keyword_token, number_token, text_token, symbol_token, IsWord, AreDigits, Spells, PartsAre, TextPart, spelled, IsLongest}
 use Rattle.task_syntax.specs.declared.symbol.Symbol.{Symbol}
 use Rattle.task_syntax.specs.Spelling.{symbol_spelling}
 use Rattle.task_syntax.specs.Runs.{Begins}
 use Rattle.task_syntax.proofs.Bytes.{run_longest, begins_more, low_begins, digits_bytes, digit-is}
 use Rattle.task_syntax.proofs.Words.{keyword_word, word_all, symbol_of, is_symbol-spelling}
-use Rattle.task_syntax.proofs.Classes.{Class, letter, digit, quote, sign, class, class_of, class-letter, class-digit, class-quote, front_class, starts}
+use Rattle.task_syntax.proofs.Classes.{letter, digit, quote, sign, class, class_of, class-letter, class-digit, class-quote, front_class, starts}
 use Rattle.task_syntax.proofs.PartLemmas.{text_same, stuck_quote}
 
 -- a longer token begins with the same character

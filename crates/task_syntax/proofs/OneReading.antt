@@ -1,18 +1,15 @@
 -- A source has at most one list of tokens, or one first fault.
-use Rattle.std.proofs.Common.{◌≡◌, ◌≢◌, ℕ, ◌+◌, ◌<◌, ◌≤◌, true, false, List, [], ◌∷◌, ◌++◌, length, refl, sym, ap, ◌∙◌, subst, arith, inl, inr, append_assoc, append-nil}
+use Rattle.std.proofs.Common.{◌≡◌, ℕ, ◌+◌, ◌<◌, ◌≤◌, false, List, [], ◌∷◌, ◌++◌, length, refl, sym, ap, ◌∙◌, subst, arith, inl, inr, append_assoc, append-nil}
 use Rattle.std.specs.Prelude.{if◌then◌else◌, ◌==◌}
 use Rattle.std.proofs.lemmas.Bool.Decides.{nat_tests}
-use Rattle.std.proofs.lemmas.List.{append_cancel_left}
 use Rattle.task_model.specs.Text.{Text}
-use Rattle.task_model.specs.Token.{TokenKindTerm, TokenTerm, name_token, keyword_token, number_token, text_token, symbol_token, TextPart, spelled, PartsAre, Spells, IsNumber, IsWithinLimits, IsLongest, IsBlank, NoLf, EndsLine, Piece, blank, comment, lexeme, piece_bytes, bytes_of, AreRight, tokens_from, HasTokens}
+use Rattle.task_model.specs.Token.{TokenKindTerm, TokenTerm, name_token, keyword_token, number_token, text_token, symbol_token, TextPart, spelled, Spells, IsWithinLimits, IsLongest, IsBlank, NoLf, EndsLine, Piece, blank, comment, lexeme, piece_bytes, bytes_of, AreRight, tokens_from, HasTokens}
 use Rattle.task_syntax.specs.declared.stop.LexKind.{LexKind}
 use Rattle.task_syntax.specs.declared.stop.LexKind.TheVariants.{BadChar, OpenText, BadEscape, LongText, WideNumber}
-use Rattle.task_syntax.specs.Runs.{Begins}
-use Rattle.task_syntax.specs.Fault.{AreRightBefore, BeginsNoToken, IsWide, IsTextBefore, IsNotRaw, IsNoEscape, IsLong, IsFaultAt, HasFault}
-use Rattle.task_syntax.proofs.Bytes.{same_head, low_begins, digit-is}
-use Rattle.task_syntax.proofs.Classes.{Class, digit, quote, none, class, class_of, class-digit, class-quote, class-comment, class-blank, front_class, starts, token_some}
+use Rattle.task_syntax.specs.Fault.{AreRightBefore, BeginsNoToken, IsWide, IsTextBefore, IsNotRaw, IsNoEscape, IsFaultAt, HasFault}
+use Rattle.task_syntax.proofs.Bytes.{same_head, low_begins}
+use Rattle.task_syntax.proofs.Classes.{digit, quote, none, class_of, class-quote, class-comment, class-blank, front_class, starts, token_some}
 use Rattle.task_syntax.proofs.PartLemmas.{Stuck, parts_same, stuck_end, stuck_quote, stuck_bad, stuck_escape, text_same}
-use Rattle.task_syntax.proofs.Longest.{text_longest}
 use Rattle.task_syntax.proofs.Pieces.{IsShaped, IsRight, right_head}
 
 -- ---- one piece

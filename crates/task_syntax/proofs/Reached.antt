@@ -1,16 +1,15 @@
 -- What was read of a source so far.
-use Rattle.std.proofs.Common.{◌≡◌, ◌≢◌, ℕ, ◌+◌, ◌-◌, ◌<◌, ◌≤◌, List, [], ◌∷◌, ◌++◌, length, take, drop, refl, sym, ap, ◌∙◌, subst, arith, append_assoc, append-nil, length-append, slice_range}
+use Rattle.std.proofs.Common.{◌≡◌, ◌≢◌, ℕ, ◌+◌, ◌-◌, ◌<◌, ◌≤◌, List, [], ◌∷◌, ◌++◌, length, take, drop, refl, sym, ap, ◌∙◌, subst, arith, append-nil, length-append, slice_range}
 use Rattle.std.specs.Str.{IsUtf8}
-use Rattle.std.proofs.lemmas.List.{append_cancel_left}
 use Rattle.task_model.specs.Text.{Text}
-use Rattle.task_model.specs.Token.{TokenKindTerm, TokenTerm, Spells, IsWithinLimits, IsLongest, IsBlank, NoLf, EndsLine, Piece, blank, comment, lexeme, piece_bytes, bytes_of, AreRight, tokens_from, HasTokens}
+use Rattle.task_model.specs.Token.{TokenTerm, IsLongest, IsBlank, NoLf, EndsLine, Piece, blank, comment, lexeme, piece_bytes, bytes_of, AreRight, tokens_from, HasTokens}
 use Rattle.task_syntax.specs.declared.token.Token.{Token}
 use Rattle.task_syntax.specs.declared.stop.LexKind.{LexKind}
-use Rattle.task_syntax.specs.Tokens.{IsKind, IsToken, AreTokens, AreSpans}
+use Rattle.task_syntax.specs.Tokens.{IsToken, AreTokens, AreSpans}
 use Rattle.task_syntax.specs.Fault.{AreRightBefore, IsFaultAt, HasFault}
 use Rattle.task_syntax.specs.Front.{Leads}
 use Rattle.task_syntax.proofs.Classes.{token_some}
-use Rattle.task_syntax.proofs.Pieces.{IsRight, right_head, bytes_push, right_push, tokens_push, piece_tokens}
+use Rattle.task_syntax.proofs.Pieces.{IsRight, bytes_push, right_push, tokens_push, piece_tokens}
 
 pub record Reached (source : Text) (list : List Token) (rest : Text) : Type 0 where
   pub pieces : List Piece
@@ -95,7 +94,7 @@ lead_shorter text rest kind lead = go lead.spelling (token_some lead.spelling le
     go (b ∷ t) some e = omega (arith, e)
 
 -- ---- at the end
-whole_right : (ps : List Piece) → AreRightBefore ps [] → AreRight ps
+pub whole_right : (ps : List Piece) → AreRightBefore ps [] → AreRight ps
 whole_right [] h = tt
 whole_right (blank b ∷ ps) h = (h.0, whole_right ps h.1)
 whole_right (comment t ∷ ps) h = (h.0, subst EndsLine (append-nil (bytes_of ps)) h.1, whole_right ps h.2)

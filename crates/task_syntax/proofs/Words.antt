@@ -1,5 +1,5 @@
 -- Keywords and words.
-use Rattle.std.proofs.Common.{◌≡◌, ℕ, ◌<◌, Bool, true, false, List, [], ◌∷◌, ◌++◌, map, refl, sym, ap, ◌∙◌, subst, arith, eqb}
+use Rattle.std.proofs.Common.{◌≡◌, ℕ, ◌<◌, Bool, true, false, List, [], ◌∷◌, map, refl, sym, ap, ◌∙◌, subst, arith, eqb}
 use Rattle.std.specs.Prelude.{◌||◌, ◌==◌}
 use Rattle.std.specs.Char.{is_ascii_alphabetic, is_ascii_alphanumeric}
 use Rattle.std.specs.Cmp.Lexicographic.{pointwise, same_text}
@@ -8,15 +8,14 @@ use Rattle.std.specs.Str.{encode_utf8_all, all_scalars}
 use Rattle.std.proofs.Math.Utf8.{scalar, low_scalar}
 use Rattle.std.proofs.lemmas.Bool.Decides.{nat_tests}
 use Rattle.std.proofs.lemmas.Str.{encode_ascii}
-use Rattle.unicode_ident.specs.Ident.{is_xid_start, is_xid_continue}
+use Rattle.unicode_ident.specs.Ident.{is_xid_continue}
 use Rattle.unicode_ident.proofs.IdentLemmas.{is_xid_start-ascii, is_xid_continue-ascii, is_xid_start-is_xid_continue}
 use Rattle.task_model.specs.Text.{Text}
-use Rattle.task_model.specs.Token.{IsWord, AllContinue, keywords, symbols, is_keyword, is_symbol}
+use Rattle.task_model.specs.Token.{IsWord, AllContinue, keywords, is_keyword, is_symbol}
 use Rattle.task_syntax.specs.declared.keyword.Keyword.{Keyword}
 use Rattle.task_syntax.specs.declared.keyword.Keyword.TheVariants as words
 use Rattle.task_syntax.specs.declared.symbol.Symbol.{Symbol}
 use Rattle.task_syntax.specs.declared.symbol.Symbol.TheVariants as signs
-use Rattle.task_syntax.specs.declared.symbol.TheConstants.{SYMBOLS}
 use Rattle.task_syntax.specs.Spelling.{keyword_spelling, symbol_spelling}
 
 -- ---- texts in a list
@@ -116,39 +115,6 @@ is_symbol-spelling signs.UserStep = refl
 is_symbol-spelling signs.Pair = refl
 is_symbol-spelling signs.InternalChoice = refl
 is_symbol-spelling signs.ExternalChoice = refl
-
-pub symbol_listed : (s : Symbol) → list_any (pointwise eqb (symbol_spelling s)) (map symbol_spelling SYMBOLS.now) ≡ true
-symbol_listed signs.Open = refl
-symbol_listed signs.Close = refl
-symbol_listed signs.OpenBracket = refl
-symbol_listed signs.CloseBracket = refl
-symbol_listed signs.Comma = refl
-symbol_listed signs.Colon = refl
-symbol_listed signs.Assign = refl
-symbol_listed signs.Cons = refl
-symbol_listed signs.Semicolon = refl
-symbol_listed signs.Dot = refl
-symbol_listed signs.Define = refl
-symbol_listed signs.Equal = refl
-symbol_listed signs.NotEqual = refl
-symbol_listed signs.Bang = refl
-symbol_listed signs.Less = refl
-symbol_listed signs.LessEqual = refl
-symbol_listed signs.Greater = refl
-symbol_listed signs.GreaterEqual = refl
-symbol_listed signs.Plus = refl
-symbol_listed signs.Join = refl
-symbol_listed signs.Minus = refl
-symbol_listed signs.Arrow = refl
-symbol_listed signs.Star = refl
-symbol_listed signs.Or = refl
-symbol_listed signs.Bar = refl
-symbol_listed signs.And = refl
-symbol_listed signs.InternalStep = refl
-symbol_listed signs.UserStep = refl
-symbol_listed signs.Pair = refl
-symbol_listed signs.InternalChoice = refl
-symbol_listed signs.ExternalChoice = refl
 
 -- ---- words
 abbrev pub is_word_byte : ℕ → Bool

@@ -1,5 +1,5 @@
 -- The tokens of the code, as the tokens of a source.
-use Rattle.std.specs.Prelude.{◌≡◌, ℕ, pos, ◌+◌, ◌<◌, ◌≤◌, ◌≢◌, List, [], ◌∷◌, length, slice_range}
+use Rattle.std.specs.Prelude.{◌≡◌, ℕ, pos, ◌+◌, ◌<◌, ◌≤◌, List, [], ◌∷◌, length, slice_range}
 use Rattle.task_model.specs.Text.{Text}
 use Rattle.task_model.specs.Token.{TokenKindTerm, TokenTerm, name_token, keyword_token, number_token, text_token, symbol_token}
 use Rattle.task_syntax.specs.declared.token.TokenKind.{TokenKind}

@@ -83,7 +83,7 @@ fn token_at<'s>(
             Err(stop) => Err(stop),
         };
     }
-    match symbol_at(text) {
+    match symbol_at(text, first) {
         Some((symbol, rest)) => Ok((TokenKind::Symbol(symbol), rest)),
         None => Err(Stop::Fault {
             kind: LexKind::BadChar,

@@ -1,7 +1,8 @@
 ghost use Rattle.std.specs.Prelude.{◌≡◌, ◌++◌, ◌<◌, ◌≤◌, ℕ, List, length, MatchOption, IfSome};
 ghost use Rattle.std.specs.Prelude.{map};
 ghost use Rattle.task_syntax.specs.Spelling.{symbol_spelling};
-ghost use Rattle.task_syntax.specs.Table.{NoneBegins, FirstBegins};
+ghost use Rattle.task_syntax.specs.Runs.{Begins};
+ghost use Rattle.task_syntax.specs.Table.{NoneBegins, FirstBegins, symbols_with};
 
 /// A sign, named for what it is for.
 #[derive(Clone, Copy, Debug, PartialEq, Eq)]
@@ -38,41 +39,6 @@ pub enum Symbol {
     InternalChoice,
     ExternalChoice,
 }
-
-/// The symbols, longer ones first.
-const SYMBOLS: &[Symbol] = &[
-    Symbol::InternalStep,
-    Symbol::UserStep,
-    Symbol::Pair,
-    Symbol::InternalChoice,
-    Symbol::ExternalChoice,
-    Symbol::Assign,
-    Symbol::Cons,
-    Symbol::Equal,
-    Symbol::NotEqual,
-    Symbol::LessEqual,
-    Symbol::GreaterEqual,
-    Symbol::Join,
-    Symbol::Arrow,
-    Symbol::Or,
-    Symbol::And,
-    Symbol::Open,
-    Symbol::Close,
-    Symbol::OpenBracket,
-    Symbol::CloseBracket,
-    Symbol::Comma,
-    Symbol::Colon,
-    Symbol::Semicolon,
-    Symbol::Dot,
-    Symbol::Define,
-    Symbol::Bang,
-    Symbol::Less,
-    Symbol::Greater,
-    Symbol::Plus,
-    Symbol::Minus,
-    Symbol::Star,
-    Symbol::Bar,
-];
 
 impl Symbol {
     pub fn spelling(self) -> &'static str
@@ -123,6 +89,43 @@ impl Symbol {
     }
 }
 
+/// The symbols that begin with this character, longer ones first.
+fn symbols_with(first: char) -> &'static [Symbol]
+    ensures { result.now ≡ symbols_with first }
+{
+    match first {
+        '(' => &[Symbol::Open],
+        ')' => &[Symbol::Close],
+        '[' => &[Symbol::OpenBracket],
+        ']' => &[Symbol::CloseBracket],
+        ',' => &[Symbol::Comma],
+        ':' => &[Symbol::Assign, Symbol::Cons, Symbol::Colon],
+        ';' => &[Symbol::Semicolon],
+        '.' => &[Symbol::Dot],
+        '=' => &[Symbol::Equal, Symbol::Define],
+        '!' => &[Symbol::NotEqual, Symbol::Bang],
+        '<' => &[
+            Symbol::Pair,
+            Symbol::InternalChoice,
+            Symbol::ExternalChoice,
+            Symbol::LessEqual,
+            Symbol::Less,
+        ],
+        '>' => &[
+            Symbol::InternalStep,
+            Symbol::UserStep,
+            Symbol::GreaterEqual,
+            Symbol::Greater,
+        ],
+        '+' => &[Symbol::Join, Symbol::Plus],
+        '-' => &[Symbol::Arrow, Symbol::Minus],
+        '*' => &[Symbol::Star],
+        '|' => &[Symbol::Or, Symbol::Bar],
+        '&' => &[Symbol::And],
+        _ => &[],
+    }
+}
+
 /// The first of these symbols that a text begins with, and what stands after it.
 fn first_of<'s>(symbols: &[Symbol], text: &'s str) -> Option<(Symbol, &'s str)>
     ensures { MatchOption result
@@ -138,11 +141,12 @@ fn first_of<'s>(symbols: &[Symbol], text: &'s str) -> Option<(Symbol, &'s str)>
 }
 
 /// The longest symbol at the front of a text, and what stands after it.
-pub(crate) fn symbol_at(text: &str) -> Option<(Symbol, &str)>
+pub(crate) fn symbol_at(text: &str, first: char) -> Option<(Symbol, &str)>
+    requires { (more : List ℕ) × Begins text.now first more }
     ensures { MatchOption result
         ((s : _) (rest : List ℕ) → text.now ≡ symbol_spelling s ++ rest → ⊥)
         (λ r. (text.now ≡ symbol_spelling r.0 ++ r.1.now)
         × ((s : _) (rest : List ℕ) → text.now ≡ symbol_spelling s ++ rest → length (symbol_spelling s) ≤ length (symbol_spelling r.0))) }
 {
-    first_of(SYMBOLS, text)
+    first_of(symbols_with(first), text)
 }

@@ -131,13 +131,14 @@ const SIGNS: [&str; 31] = [
 
 /// The longest sign at the front of these bytes, or none.
 fn longest(bytes: &[u8]) -> &'static str {
-    let mut best = "";
-    for sign in SIGNS {
-        if bytes.starts_with(sign.as_bytes()) && sign.len() > best.len() {
-            best = sign;
+    for length in [3, 2, 1] {
+        for sign in SIGNS {
+            if sign.len() == length && bytes.starts_with(sign.as_bytes()) {
+                return sign;
+            }
         }
     }
-    best
+    ""
 }
 
 /// The longest sign at each place, or the first place with none.

@@ -66,10 +66,7 @@ fn part(first: char, more: &str) -> Result<(char, &str), LexKind>
         (λ kind. PartFails (encode_utf8 first ++ more.now) kind) }
 {
     if first == '\\' {
-        return match escape(more) {
-            Some(part) => Ok(part),
-            None => Err(LexKind::BadEscape),
-        };
+        return escape(more).ok_or(LexKind::BadEscape);
     }
     if first < ' ' || first == '\x7f' {
         return Err(LexKind::BadChar);

@@ -1,4 +1,4 @@
-use Rattle.std.proofs.Common.{rules, ◌≡◌, ◌-◌, ◌<◌, ◌≤◌, ◌∷◌, ◌++◌, [], true, length, ap, subst, ◌∙◌, sym, refl, arith}
+use Rattle.std.proofs.Common.{rules, ◌≡◌, ◌<◌, ◌∷◌, ◌++◌, [], true, length, ap, subst, ◌∙◌, sym, arith}
 use Rattle.std.specs.Str.{encode_utf8_all}
 use Rattle.std.proofs.lemmas.Grind.{common_steps}
 use Rattle.task_syntax.specs.declared.token.Token.{Token}
@@ -7,7 +7,7 @@ use Rattle.task_syntax.proofs.Bytes.{begins_low, run_shorter}
 use Rattle.task_syntax.proofs.Lines.{blank_is, no_lf, ends_line}
 use Rattle.task_syntax.specs.Tokens.{AreTokens}
 use Rattle.task_syntax.proofs.OneReading.{one_list}
-use Rattle.task_syntax.proofs.Reached.{Reached, reached_blank, reached_comment, reached_token, reached_end, reached_spans, reached_fault, lead_shorter}
+use Rattle.task_syntax.proofs.Reached.{Reached, reached_blank, reached_comment, reached_token, reached_end, reached_spans, lead_shorter}
 use Rattle.task_syntax.proofs.lexer.lex.Goals as goal
 
 pub loop-first-preserved-then-is_blank : goal.loop-first-preserved-then-is_blank

@@ -1,4 +1,4 @@
-use Rattle.std.proofs.Common.{◌≡◌, ◌-◌, ◌<◌, ◌≤◌, true, length, take, ap, subst, ◌∙◌, sym, refl, arith, w64}
+use Rattle.std.proofs.Common.{◌≡◌, ◌-◌, ◌<◌, true, length, take, ap, subst, ◌∙◌, sym, refl, arith, w64}
 use Rattle.std.specs.Char.{is_ascii_digit}
 use Rattle.std.specs.List.{list_all}
 use Rattle.std.proofs.lemmas.Int.{to_z_pos}

@@ -1,4 +1,4 @@
-use Rattle.std.proofs.Common.{◌≡◌, ◌+◌, sym, ◌∙◌, refl, inl, arith}
+use Rattle.std.proofs.Common.{sym, ◌∙◌, refl, inl, arith}
 use Rattle.task_syntax.proofs.Leading.{text_leads, symbol_leads, bad_char}
 use Rattle.task_syntax.proofs.lexer.token_at.Goals as goal
 

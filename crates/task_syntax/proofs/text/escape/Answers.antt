@@ -1,10 +1,8 @@
-use Rattle.std.proofs.Common.{rules, ◌≡◌, ◌≢◌, ◌∷◌, ◌++◌, ⊎_elim, ℕ, [], refl, sym, ◌∙◌, ap, subst, arith}
-use Rattle.task_model.specs.Text.{Text}
-use Rattle.task_model.specs.Token.{quote, backslash, line_feed, tab, carriage_return, hex, PartIs, Escapes}
+use Rattle.std.proofs.Common.{refl, arith}
+use Rattle.task_model.specs.Token.{quote, backslash, line_feed, tab, carriage_return}
 use Rattle.task_syntax.specs.Runs.{Begins}
-use Rattle.task_syntax.proofs.EscapeLemmas.{EscapeFront, by_letter, by_digits, escape_front, no_escape_end, no_escape_letter, no_escape_other, letter_stands}
+use Rattle.task_syntax.proofs.EscapeLemmas.{no_escape_digits, digits_stand, no_escape_end, no_escape_other, letter_stands}
 use Rattle.task_syntax.proofs.TableLemmas.{weaker}
-use Rattle.task_syntax.proofs.Bytes.{begins_low}
 use Rattle.task_syntax.proofs.text.escape.Goals as goal
 
 pub returns-in_err-letter : goal.returns-in_err-letter
@@ -28,15 +26,10 @@ returns-in-r c = letter_stands c.args.text.now 114 13 c.in_ok-letter.rest.now ca
 pub returns-in-x : goal.returns-in-x
 returns-in-x c =
     let begins : Begins c.args.text.now 120 c.in_ok-letter.rest.now = rw c.in-x.is at c.in_ok-letter.ensures.cases in
-    let text_is = begins_low c.args.text.now 120 c.in_ok-letter.rest.now (omega arith) begins in
     weaker c.hex_escape.result
-    (λ none. (refl, λ p t back is e. no_digits c.in_ok-letter.rest.now t back none (escape_front c.args.text.now 120 c.in_ok-letter.rest.now begins p t back is e)))
-    (λ r (a, b, rest_is, is). (hex a b, ap (λ x. 92 ∷ x) (text_is ∙ ap (λ x. 120 ∷ x) rest_is), is))
+    (λ none. (refl, no_escape_digits c.args.text.now c.in_ok-letter.rest.now begins none))
+    (λ r (a, b, rest_is, is). digits_stand c.args.text.now c.in_ok-letter.rest.now a b r.0 r.1.now begins rest_is is)
     c.hex_escape.ensures
-  where
-    no_digits : (rest t back : Text) → ((a b : ℕ) (t back : Text) → PartIs (hex a b) t → rest ≡ a ∷ b ∷ back → ⊥) → EscapeFront 120 rest t back → ⊥
-    no_digits rest t back none (by_letter byte h _) = no_escape_letter 120 byte h (λ e. absurd (omega (arith, e))) (λ e. absurd (omega (arith, e))) (λ e. absurd (omega (arith, e))) (λ e. absurd (omega (arith, e))) (λ e. absurd (omega (arith, e)))
-    no_digits rest t back none (by_digits a b _ is e) = none a b t back is e
 
 pub returns-in_default : goal.returns-in_default
 returns-in_default c = (

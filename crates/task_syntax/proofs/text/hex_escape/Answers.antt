@@ -1,9 +1,6 @@
-use Rattle.std.proofs.Common.{◌≡◌, ◌≢◌, ◌∷◌, [], ◌+◌, ◌*◌, ◌<◌, sym, ◌∙◌, ap, subst, arith}
-use Rattle.std.specs.Prelude.{encode_utf8}
-use Rattle.std.proofs.lemmas.Str.{encode_ascii}
-use Rattle.task_model.specs.Token.{IsHex, hex_value}
+use Rattle.std.proofs.Common.{◌≡◌, ◌∷◌, [], sym, ◌∙◌, subst}
+use Rattle.task_model.specs.Token.{IsHex}
 use Rattle.task_syntax.proofs.EscapeLemmas.{hex_first, hex_stands}
-use Rattle.task_syntax.proofs.Bytes.{no_char}
 use Rattle.task_syntax.proofs.text.hex_escape.Goals as goal
 
 pub returns-in_err-second : goal.returns-in_err-second

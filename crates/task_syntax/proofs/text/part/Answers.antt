@@ -1,4 +1,4 @@
-use Rattle.std.proofs.Common.{refl, arith}
+use Rattle.std.proofs.Common.{refl}
 use Rattle.task_model.specs.Token.{raw}
 use Rattle.task_syntax.proofs.text.part.Goals as goal
 

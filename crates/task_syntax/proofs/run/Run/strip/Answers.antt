@@ -1,8 +1,4 @@
-use Rattle.std.proofs.Common.{rules, ◌≡◌, ℕ, [], ◌∷◌, ◌++◌, sym, ◌∙◌, ap, subst, arith, append-nil, append_assoc}
-use Rattle.std.specs.Prelude.{encode_utf8}
-use Rattle.std.specs.Str.{encode_utf8_all}
-use Rattle.std.proofs.lemmas.Str.{encodes-append}
-use Rattle.task_model.specs.Text.{Text}
+use Rattle.std.proofs.Common.{rules, ◌≡◌, [], sym, ◌∙◌, ap, subst}
 use Rattle.task_syntax.specs.Runs.{Begins, goes_on}
 use Rattle.task_syntax.proofs.Bytes.{begins_same, no_char, run_push}
 use Rattle.task_syntax.proofs.run.Run.strip.Goals as goal
