@@ -1,0 +1,4 @@
+mod LikeLemmas
+mod TwinLemmas
+mod AlikeLemmas
+mod FrameLemmas
