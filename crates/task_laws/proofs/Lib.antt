@@ -2,3 +2,4 @@ mod LikeLemmas
 mod TwinLemmas
 mod AlikeLemmas
 mod FrameLemmas
+mod PlaceLemmas
