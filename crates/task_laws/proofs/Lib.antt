@@ -3,3 +3,4 @@ mod TwinLemmas
 mod AlikeLemmas
 mod FrameLemmas
 mod PlaceLemmas
+mod FootLemmas

@@ -1,4 +1,49 @@
-ghost use Rattle.std.specs.Prelude.{◌≡◌, ℕ, List};
-pub fn next_stands_alone()
-    ensures { (n : ℕ) → n ≡ n }
+ghost use Rattle.std.specs.Prelude.{◌≡◌, ◌↔◌, ℕ, Bool, List, [], length, slice_get};
+ghost use Rattle.std.specs.List.{All, Contains};
+ghost use Rattle.std.specs.List.Sorted.{IsStrictlyIncreasing};
+ghost use Rattle.task_model.specs.Value.{ValueTerm};
+ghost use Rattle.task_model.specs.Tree.{LaterTerm, TreeTerm, at};
+ghost use Rattle.task_model.specs.Foot.{with_places, foot, AgreeOn};
+ghost use Rattle.task_model.specs.Checked.{CheckedTerm};
+ghost use Rattle.task_model.specs.Rules.{value_of, side, trial};
+ghost use Rattle.task_model.specs.Judgements.{Fails};
+ghost use Rattle.task_model.specs.Sign.{Test};
+ghost use Rattle.task_model.specs.Offer.{OfferTerm, AreOffers};
+ghost use Rattle.task_model.specs.Widget.{WidgetTerm, AreWidgets};
+ghost use Rattle.task_laws.specs.Places.{places_in};
+
+/// A tree's foot has exactly the places that are in the tree, in increasing order and each once. Two stores agree on it
+/// where they have the same length and the same values at these places.
+pub fn foot_is_in_order()
+    ensures increasing { (t : TreeTerm) → IsStrictlyIncreasing (foot t) }
+    ensures places { (t : TreeTerm) (n : ℕ) → Contains (foot t) n ↔ Contains (places_in t) n }
+    ensures agreeing { (t : TreeTerm) (σ τ : List ValueTerm) →
+        AgreeOn (foot t) σ τ ↔ ((length σ ≡ length τ) × All (λ n. slice_get σ n ≡ slice_get τ n) (places_in t)) }
+{}
+
+/// Over stores that agree on a tree's foot the tree has the same value, and is failing or not in the same number of units
+/// and at the same height.
+pub fn foot_frames_values_and_failing()
+    ensures value { (t : TreeTerm) (σ τ : List ValueTerm) → AgreeOn (foot t) σ τ → value_of t σ ≡ value_of t τ }
+    ensures failing { (c : CheckedTerm) (t : TreeTerm) (σ τ : List ValueTerm) → AgreeOn (foot t) σ τ →
+        (failing : Bool) (n h : ℕ) → Fails c (at t σ) failing n h ↔ Fails c (at t τ) failing n h }
+{}
+
+/// Over stores that agree on the places of its slots a cont's trial at a value, and the test of a side, have the same end
+/// in the same number of units and at the same height.
+pub fn foot_frames_tests()
+    ensures trial { (c : CheckedTerm) (budget : ℕ) (k : LaterTerm) (v : ValueTerm) (σ τ : List ValueTerm) →
+        AgreeOn (with_places k.slots []) σ τ →
+        (failing : Bool) (n h : ℕ) → Test c budget (trial c k v σ) failing n h ↔ Test c budget (trial c k v τ) failing n h }
+    ensures side { (c : CheckedTerm) (budget : ℕ) (k : LaterTerm) (σ τ : List ValueTerm) →
+        AgreeOn (with_places k.slots []) σ τ →
+        (failing : Bool) (n h : ℕ) → Test c budget (side c k σ) failing n h ↔ Test c budget (side c k τ) failing n h }
+{}
+
+/// Over stores that agree on a tree's foot the tree has the same offers and the same widgets.
+pub fn foot_frames_offers_and_widgets()
+    ensures offers { (c : CheckedTerm) (budget : ℕ) (t : TreeTerm) (σ τ : List ValueTerm) → AgreeOn (foot t) σ τ →
+        (os : List OfferTerm) → AreOffers c budget t σ os ↔ AreOffers c budget t τ os }
+    ensures widgets { (c : CheckedTerm) (budget : ℕ) (t : TreeTerm) (σ τ : List ValueTerm) → AgreeOn (foot t) σ τ →
+        (ws : List WidgetTerm) → AreWidgets c budget t σ ws ↔ AreWidgets c budget t τ ws }
 {}
