@@ -4,3 +4,5 @@ mod AlikeLemmas
 mod FrameLemmas
 mod PlaceLemmas
 mod FootLemmas
+mod FailingLemmas
+mod NextLemmas

@@ -1,4 +1,4 @@
-ghost use Rattle.std.specs.Prelude.{◌≡◌, ◌↔◌, ℕ, Bool, List, [], length, slice_get};
+ghost use Rattle.std.specs.Prelude.{◌≡◌, ◌↔◌, ℕ, Bool, true, List, [], length, Some, None, slice_get};
 ghost use Rattle.std.specs.List.{All, Contains};
 ghost use Rattle.std.specs.List.Sorted.{IsStrictlyIncreasing};
 ghost use Rattle.task_model.specs.Value.{ValueTerm};
@@ -6,9 +6,9 @@ ghost use Rattle.task_model.specs.Tree.{LaterTerm, TreeTerm, at};
 ghost use Rattle.task_model.specs.Foot.{with_places, foot, AgreeOn};
 ghost use Rattle.task_model.specs.Checked.{CheckedTerm};
 ghost use Rattle.task_model.specs.Rules.{value_of, side, trial};
-ghost use Rattle.task_model.specs.Judgements.{Fails};
+ghost use Rattle.task_model.specs.Judgements.{Fails, Within};
 ghost use Rattle.task_model.specs.Sign.{Test};
-ghost use Rattle.task_model.specs.Offer.{OfferTerm, AreOffers};
+ghost use Rattle.task_model.specs.Offer.{next_offer, OfferTerm, AreOffers};
 ghost use Rattle.task_model.specs.Widget.{WidgetTerm, AreWidgets};
 ghost use Rattle.task_laws.specs.Places.{places_in};
 
@@ -46,4 +46,17 @@ pub fn foot_frames_offers_and_widgets()
         (os : List OfferTerm) → AreOffers c budget t σ os ↔ AreOffers c budget t τ os }
     ensures widgets { (c : CheckedTerm) (budget : ℕ) (t : TreeTerm) (σ τ : List ValueTerm) → AgreeOn (foot t) σ τ →
         (ws : List WidgetTerm) → AreWidgets c budget t σ ws ↔ AreWidgets c budget t τ ws }
+{}
+
+/// What is failing has no value. What is failing within the budget offers nothing.
+pub fn failing_offers_nothing()
+    ensures value { (c : CheckedTerm) (t : TreeTerm) (σ : List ValueTerm) (n h : ℕ) → Fails c (at t σ) true n h → value_of t σ ≡ None }
+    ensures offers { (c : CheckedTerm) (budget : ℕ) (t : TreeTerm) (σ : List ValueTerm) (n h : ℕ) →
+        Fails c (at t σ) true n h → Within budget n h → (os : List OfferTerm) → AreOffers c budget t σ os → os ≡ [] }
+{}
+
+/// Where the left part of a user step has a value, none of its offers is Next with an empty path: such a Next is the step's.
+pub fn next_stands_alone()
+    ensures { (c : CheckedTerm) (budget : ℕ) (left : TreeTerm) (σ : List ValueTerm) (v : ValueTerm) (os : List OfferTerm) →
+        value_of left σ ≡ Some v → AreOffers c budget left σ os → All (λ o. o.path ≡ [] → o.kind ≡ next_offer → ⊥) os }
 {}

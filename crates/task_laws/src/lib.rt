@@ -4,4 +4,7 @@
 
 mod laws;
 
-pub use laws::{foot_frames_offers_and_widgets, foot_frames_tests, foot_frames_values_and_failing, foot_is_in_order};
+pub use laws::{
+    failing_offers_nothing, foot_frames_offers_and_widgets, foot_frames_tests, foot_frames_values_and_failing, foot_is_in_order,
+    next_stands_alone,
+};
