@@ -6,3 +6,4 @@ mod PlaceLemmas
 mod FootLemmas
 mod FailingLemmas
 mod NextLemmas
+mod PlainLemmas

@@ -1,0 +1,18 @@
+-- What plain trees offer and show (docs/RULES.md, "Programs").
+use Rattle.std.specs.Prelude.{◌≡◌}
+use Rattle.task_model.specs.Basic.{int_type}
+use Rattle.task_model.specs.Value.{int_value}
+use Rattle.task_model.specs.Offer.{OfferTerm, set_offer}
+use Rattle.task_model.specs.Widget.{ShapeTerm, edit_shape, enter_shape, and_shape}
+use Rattle.task_model.specs.declared.offer.Answer.TheVariants as answers
+
+-- an offer to set an int, for certain
+abbrev pub OffersInt : OfferTerm → Type 0
+OffersInt o = (o.kind ≡ set_offer int_type) × (o.answer ≡ answers.Yes)
+
+-- an editor with an int, an empty editor of an int, or a pair
+abbrev pub IsPlainShape : ShapeTerm → Type 0
+IsPlainShape (edit_shape int_type (int_value i)) = Unit {0}
+IsPlainShape (enter_shape int_type) = Unit {0}
+IsPlainShape and_shape = Unit {0}
+IsPlainShape s = ⊥
