@@ -1,6 +1,7 @@
 -- What is failing has no value and offers nothing.
 use Rattle.std.proofs.Common.{◌≡◌, ◌≤◌, ℕ, Bool, true, false, List, [], ◌++◌, Option, None, refl, sym, ap, ◌∙◌, subst, arith, le_refl}
 use Rattle.std.specs.Option.{option_or}
+use Rattle.task_model.specs.Basic.{BasicTerm}
 use Rattle.task_model.specs.Value.{ValueTerm}
 use Rattle.task_model.specs.Tree.{LaterTerm, TreeTerm, edit_tree, enter_tree, share_tree, then_tree, next_tree, fail_tree, and_tree, or_tree, xor_tree, at}
 use Rattle.task_model.specs.Checked.{CheckedTerm}
@@ -14,13 +15,13 @@ use Rattle.task_model.proofs.PlanLemmas.{work_after, by_rule}
 use Rattle.task_model.proofs.SignLemmas.{sign_failing}
 
 -- at most so many units and so high
-record Bounds (budget top n h : ℕ) : Type 0 where
-  units : n ≤ budget
-  height : h ≤ top
+pub record Bounds (budget top n h : ℕ) : Type 0 where
+  pub units : n ≤ budget
+  pub height : h ≤ top
 
 module _ (c : CheckedTerm) (budget top : ℕ) where
   -- failing within these bounds
-  abbrev FailsHere : TreeTerm → List ValueTerm → Type 0
+  abbrev pub FailsHere : TreeTerm → List ValueTerm → Type 0
   FailsHere t σ = (n : ℕ) × (h : ℕ) × Fails c (at t σ) true n h × Bounds budget top n h
 
   -- the one part that a rule asked for
@@ -79,7 +80,7 @@ module _ (c : CheckedTerm) (budget top : ℕ) where
   one_fails : (t u : TreeTerm) (σ : List ValueTerm) → fail_rule c u σ ≡ ask (fails (at t σ)) give → FailsHere u σ → FailsHere t σ
   one_fails t u σ e f = let r = by_fail u σ f in one_part t σ f.0 r.0 (subst (λ p. work (Derives (rule_of c)) p true f.0 r.0) e r.1) r.2
 
-  and_fail : (t u : TreeTerm) (σ : List ValueTerm) → FailsHere (and_tree t u) σ → FailsHere t σ × FailsHere u σ
+  pub and_fail : (t u : TreeTerm) (σ : List ValueTerm) → FailsHere (and_tree t u) σ → FailsHere t σ × FailsHere u σ
   and_fail t u σ f = let r = by_fail (and_tree t u) σ f in two_parts t u σ f.0 r.0 r.1 r.2
 
   or_fail : (t u : TreeTerm) (σ : List ValueTerm) → FailsHere (or_tree t u) σ → FailsHere t σ × FailsHere u σ
@@ -89,13 +90,13 @@ module _ (c : CheckedTerm) (budget top : ℕ) where
   xor_fail j k σ f = let r = by_fail (xor_tree j k) σ f in two_sides j k σ f.0 r.0 r.1 r.2
 
   -- editors aren't failing
-  edit_stands : (b : _) (v : ValueTerm) (σ : List ValueTerm) → FailsHere (edit_tree b v) σ → ⊥
+  pub edit_stands : (b : BasicTerm) (v : ValueTerm) (σ : List ValueTerm) → FailsHere (edit_tree b v) σ → ⊥
   edit_stands b v σ f = let r = by_fail (edit_tree b v) σ f in let e = r.1.value in absurd (cc)
 
-  enter_stands : (b : _) (σ : List ValueTerm) → FailsHere (enter_tree b) σ → ⊥
+  pub enter_stands : (b : BasicTerm) (σ : List ValueTerm) → FailsHere (enter_tree b) σ → ⊥
   enter_stands b σ f = let r = by_fail (enter_tree b) σ f in let e = r.1.value in absurd (cc)
 
-  share_stands : (b : _) (n : ℕ) (σ : List ValueTerm) → FailsHere (share_tree b n) σ → ⊥
+  share_stands : (b : BasicTerm) (n : ℕ) (σ : List ValueTerm) → FailsHere (share_tree b n) σ → ⊥
   share_stands b n σ f = let r = by_fail (share_tree b n) σ f in let e = r.1.value in absurd (cc)
 
   no_value : (t : TreeTerm) (σ : List ValueTerm) → FailsHere t σ → value_of t σ ≡ None

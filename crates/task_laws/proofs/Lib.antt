@@ -7,3 +7,4 @@ mod FootLemmas
 mod FailingLemmas
 mod NextLemmas
 mod PlainLemmas
+mod PlainFaceLemmas

@@ -11,6 +11,7 @@ use Rattle.task_model.specs.Tree.{TreeTerm, edit_tree, enter_tree, and_tree, Sta
 use Rattle.task_model.specs.Input.{ActTerm, set_act, InputTerm}
 use Rattle.task_model.specs.Item.{ItemTerm, opened, took}
 use Rattle.task_model.specs.Checked.{CheckedTerm, nodes_of}
+use Rattle.task_model.specs.Work.{Work}
 use Rattle.task_model.specs.Plan.{gives_value, evaluates, strides, settles, normal, Plan, give, ask, known, Strides, last_stride, more_strides, work, Derives}
 use Rattle.task_model.specs.Rules.{later_by, rule_of}
 use Rattle.task_model.specs.Handling.{if_typed, rebuilt, rebuilds, handled, handles, settled}
@@ -21,6 +22,7 @@ use Rattle.task_model.specs.State.{IsOpening, LeadTo, IsReached}
 use Rattle.task_model.specs.declared.input.Turn.{Turn}
 use Rattle.task_model.specs.declared.input.Turn.TheVariants as turns
 use Rattle.task_model.proofs.PlanLemmas.{work_after, by_rule}
+use Rattle.task_laws.specs.PlainFaces.{SetsInt}
 
 -- ---- strides
 module _ (c : CheckedTerm) where
@@ -47,10 +49,6 @@ module _ (c : CheckedTerm) where
   settled_same s b p s' n h d = let r = (by_rule (rule_of c) (settles s) s' n h d).part in r.two.value ∙ kept s b p r.middle r.n1 r.h1 r.one
 
 -- ---- inputs
--- an act that sets an int
-abbrev pub SetsInt : ActTerm → Type 0
-SetsInt act = (j : ℤ) × (act ≡ set_act (int_value j))
-
 -- what a plain tree of a type makes of an input: nothing, or another one over the same store, and then the input sets an int
 abbrev pub PlainResult : BasicTerm → List ValueTerm → ActTerm → Option State → Type 0
 PlainResult b σ act None = Unit {0}
@@ -171,14 +169,11 @@ opening_units c budget s o =
     let w = o.3.units in
     omega arith
   where
-    a_stride : (one : _) (s s' : State) (n h : ℕ) → Strides one s s' n h → 1 ≤ n
+    a_stride : (one : State → Work State) (s s' : State) (n h : ℕ) → Strides one s s' n h → 1 ≤ n
     a_stride one s s' n h (last_stride _ _ n1 _ _ d same e) = omega arith
     a_stride one s s' n h (more_strides _ s1 _ n1 m1 _ h1 g1 _ d other rest e e') = omega arith
 
 module _ (c : CheckedTerm) (a : IsAccepted c) (budget : ℕ) where
-  pub result : BasicTerm
-  result = a.plain.result
-
   ints : ListsInts c
   ints i b e = int_listed _ i b (ap (λ z. slice_get z i) (sym a.types) ∙ e)
 

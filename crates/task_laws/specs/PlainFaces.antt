@@ -1,10 +1,15 @@
--- What plain trees offer and show (docs/RULES.md, "Programs").
-use Rattle.std.specs.Prelude.{◌≡◌}
+-- What plain trees take, offer and show (docs/RULES.md, "Programs").
+use Rattle.std.specs.Prelude.{◌≡◌, ℤ}
 use Rattle.task_model.specs.Basic.{int_type}
 use Rattle.task_model.specs.Value.{int_value}
+use Rattle.task_model.specs.Input.{ActTerm, set_act}
 use Rattle.task_model.specs.Offer.{OfferTerm, set_offer}
 use Rattle.task_model.specs.Widget.{ShapeTerm, edit_shape, enter_shape, and_shape}
 use Rattle.task_model.specs.declared.offer.Answer.TheVariants as answers
+
+-- an act that sets an int
+abbrev pub SetsInt : ActTerm → Type 0
+SetsInt act = (i : ℤ) × (act ≡ set_act (int_value i))
 
 -- an offer to set an int, for certain
 abbrev pub OffersInt : OfferTerm → Type 0

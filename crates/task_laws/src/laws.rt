@@ -2,15 +2,22 @@ ghost use Rattle.std.specs.Prelude.{◌≡◌, ◌↔◌, ℕ, Bool, true, List,
 ghost use Rattle.std.specs.List.{All, Contains};
 ghost use Rattle.std.specs.List.Sorted.{IsStrictlyIncreasing};
 ghost use Rattle.task_model.specs.Value.{ValueTerm};
-ghost use Rattle.task_model.specs.Tree.{LaterTerm, TreeTerm, at};
+ghost use Rattle.task_model.specs.Tree.{LaterTerm, TreeTerm, State, at};
 ghost use Rattle.task_model.specs.Foot.{with_places, foot, AgreeOn};
 ghost use Rattle.task_model.specs.Checked.{CheckedTerm};
 ghost use Rattle.task_model.specs.Rules.{value_of, side, trial};
 ghost use Rattle.task_model.specs.Judgements.{Fails, Within};
+ghost use Rattle.task_model.specs.Input.{InputTerm};
+ghost use Rattle.task_model.specs.Item.{ItemTerm};
+ghost use Rattle.task_model.specs.Accepted.{IsAccepted};
+ghost use Rattle.task_model.specs.PlainTree.{IsSmallTree};
+ghost use Rattle.task_model.specs.Outcome.{taken, over_budget, IsOutcome};
+ghost use Rattle.task_model.specs.State.{IsReached};
 ghost use Rattle.task_model.specs.Sign.{Test};
 ghost use Rattle.task_model.specs.Offer.{next_offer, OfferTerm, AreOffers};
 ghost use Rattle.task_model.specs.Widget.{WidgetTerm, AreWidgets};
 ghost use Rattle.task_laws.specs.Places.{places_in};
+ghost use Rattle.task_laws.specs.PlainFaces.{SetsInt, OffersInt, IsPlainShape};
 
 /// A tree's foot has exactly the places that are in the tree, in increasing order and each once. Two stores agree on it
 /// where they have the same length and the same values at these places.
@@ -59,4 +66,22 @@ pub fn failing_offers_nothing()
 pub fn next_stands_alone()
     ensures { (c : CheckedTerm) (budget : ℕ) (left : TreeTerm) (σ : List ValueTerm) (v : ValueTerm) (os : List OfferTerm) →
         value_of left σ ≡ Some v → AreOffers c budget left σ os → All (λ o. o.path ≡ [] → o.kind ≡ next_offer → ⊥) os }
+{}
+
+/// A plain program meets no other case. At every state of its histories the tree is plain and small and the store empty; no
+/// tree is failing; it offers nothing but setting ints, for certain, and shows nothing but editors of ints and pairs; what
+/// is taken sets an int, and no input is over the budget.
+pub fn plain_programs_stay_plain()
+    ensures states { (c : CheckedTerm) (budget : ℕ) (items : List ItemTerm) (s : State) → IsAccepted c → IsReached c budget items s →
+        IsSmallTree s.tree × (s.store ≡ []) }
+    ensures failing { (c : CheckedTerm) (budget : ℕ) (items : List ItemTerm) (s : State) → IsAccepted c → IsReached c budget items s →
+        (n h : ℕ) → Fails c s true n h → ⊥ }
+    ensures offers { (c : CheckedTerm) (budget : ℕ) (items : List ItemTerm) (s : State) → IsAccepted c → IsReached c budget items s →
+        (os : List OfferTerm) → AreOffers c budget s.tree s.store os → All OffersInt os }
+    ensures widgets { (c : CheckedTerm) (budget : ℕ) (items : List ItemTerm) (s : State) → IsAccepted c → IsReached c budget items s →
+        (ws : List WidgetTerm) → AreWidgets c budget s.tree s.store ws → All (λ w. IsPlainShape w.shape) ws }
+    ensures taken { (c : CheckedTerm) (budget : ℕ) (items : List ItemTerm) (s : State) → IsAccepted c → IsReached c budget items s →
+        (i : InputTerm) (t : State) → IsOutcome c budget s i (taken t) → SetsInt i.act }
+    ensures over_budget { (c : CheckedTerm) (budget : ℕ) (items : List ItemTerm) (s : State) → IsAccepted c → IsReached c budget items s →
+        (i : InputTerm) → IsOutcome c budget s i over_budget → ⊥ }
 {}
