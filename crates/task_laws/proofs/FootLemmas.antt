@@ -27,7 +27,7 @@ use Rattle.task_laws.proofs.FrameLemmas.{like_test, all_alike}
 use Rattle.task_laws.proofs.PlaceLemmas.{among-append, among-foot, among-slots, contains-among, among-contains}
 
 -- ---- what holds of tests over both stores
-abbrev test_of : CheckedTerm → ℕ → List SlotTerm → List ValueTerm → Plan Bool
+abbrev pub test_of : CheckedTerm → ℕ → List SlotTerm → List ValueTerm → Plan Bool
 test_of c i ss σ = tested c i ss σ (λ s no. give no)
 
 module _ (c : CheckedTerm) (f : Frame) where

@@ -8,3 +8,6 @@ mod FailingLemmas
 mod NextLemmas
 mod PlainLemmas
 mod PlainFaceLemmas
+mod OfferListLemmas
+mod LackingLemmas
+mod MatchLemmas

@@ -11,10 +11,10 @@ ghost use Rattle.task_model.specs.Input.{InputTerm};
 ghost use Rattle.task_model.specs.Item.{ItemTerm};
 ghost use Rattle.task_model.specs.Accepted.{IsAccepted};
 ghost use Rattle.task_model.specs.PlainTree.{IsSmallTree};
-ghost use Rattle.task_model.specs.Outcome.{taken, over_budget, IsOutcome};
+ghost use Rattle.task_model.specs.Outcome.{taken, not_offered, over_budget, IsOutcome};
 ghost use Rattle.task_model.specs.State.{IsReached};
 ghost use Rattle.task_model.specs.Sign.{Test};
-ghost use Rattle.task_model.specs.Offer.{next_offer, OfferTerm, AreOffers};
+ghost use Rattle.task_model.specs.Offer.{next_offer, OfferTerm, AreOffers, SomeMatches};
 ghost use Rattle.task_model.specs.Widget.{WidgetTerm, AreWidgets};
 ghost use Rattle.task_laws.specs.Places.{places_in};
 ghost use Rattle.task_laws.specs.PlainFaces.{SetsInt, OffersInt, IsPlainShape};
@@ -53,6 +53,15 @@ pub fn foot_frames_offers_and_widgets()
         (os : List OfferTerm) → AreOffers c budget t σ os ↔ AreOffers c budget t τ os }
     ensures widgets { (c : CheckedTerm) (budget : ℕ) (t : TreeTerm) (σ τ : List ValueTerm) → AgreeOn (foot t) σ τ →
         (ws : List WidgetTerm) → AreWidgets c budget t σ ws ↔ AreWidgets c budget t τ ws }
+{}
+
+/// Some offer matches an input exactly where its outcome is another than not offered: refused as not offered is what no
+/// offer matches, and nothing else.
+pub fn offered_or_not()
+    ensures offered { (c : CheckedTerm) (budget : ℕ) (s : State) (i : InputTerm) (os : List OfferTerm) → AreOffers c budget s.tree s.store os →
+        SomeMatches os i ↔ (IsOutcome c budget s i not_offered → ⊥) }
+    ensures not_offered { (c : CheckedTerm) (budget : ℕ) (s : State) (i : InputTerm) (os : List OfferTerm) → AreOffers c budget s.tree s.store os →
+        IsOutcome c budget s i not_offered ↔ (SomeMatches os i → ⊥) }
 {}
 
 /// What is failing has no value. What is failing within the budget offers nothing.
