@@ -6,7 +6,6 @@ use Rattle.task_model.specs.Value.{ValueTerm, unit_value, bool_value, int_value,
 use Rattle.task_model.specs.Operators.{list_of, operated, negated, opposite, first_of, second_of, length_of}
 use Rattle.task_model.specs.Env.{SlotTerm, plain_slot, place_slot, EnvTerm}
 use Rattle.task_model.specs.Host.{HostTerm, unit_expr, bool_expr, int_expr, text_expr, name_expr, read_expr, call_expr, pair_expr, list_expr, nil_expr, neg_expr, not_expr, fst_expr, snd_expr, len_expr, op_expr, let_expr, if_expr, case_expr, HostTerms, no_exprs, more_exprs}
-use Rattle.task_model.specs.Task.{TaskTerm}
 use Rattle.task_model.specs.Program.{KindTerm, plain_kind, ref_kind, ParamTerm}
 use Rattle.task_model.specs.Tree.{TreeTerm, State, at}
 use Rattle.task_model.specs.Checked.{CheckedTerm, slot_of, fun_named, param_names}

@@ -1,5 +1,5 @@
 -- What is failing has no value and offers nothing.
-use Rattle.std.proofs.Common.{◌≡◌, ◌≤◌, ℕ, Bool, true, false, List, [], ◌++◌, Option, None, refl, sym, ap, ◌∙◌, subst, arith, le_refl}
+use Rattle.std.proofs.Common.{◌≡◌, ◌≤◌, ℕ, Bool, true, false, List, [], ◌++◌, None, refl, sym, ap, ◌∙◌, subst, arith, le_refl}
 use Rattle.std.specs.Option.{option_or}
 use Rattle.task_model.specs.Basic.{BasicTerm}
 use Rattle.task_model.specs.Value.{ValueTerm}

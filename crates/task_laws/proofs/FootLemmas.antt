@@ -14,14 +14,14 @@ use Rattle.task_model.specs.Plan.{Plan, give, fails, Derives}
 use Rattle.task_model.specs.Rules.{value_of, tested, trial, side, rule_of}
 use Rattle.task_model.specs.Foot.{with_places, foot, among, AgreeOn}
 use Rattle.task_model.specs.Judgements.{Fails}
-use Rattle.task_model.specs.Sign.{IsSign, Test, IsSideSign, IsStepSign}
+use Rattle.task_model.specs.Sign.{IsSign, Test, IsStepSign}
 use Rattle.task_model.specs.Offer.{OfferTerm, AreOffers}
-use Rattle.task_model.specs.Widget.{WidgetTerm, share_shape, stored, here, AreWidgets}
+use Rattle.task_model.specs.Widget.{WidgetTerm, share_shape, here, AreWidgets}
 use Rattle.task_model.specs.declared.widget.Sign.{Sign}
 use Rattle.task_model.specs.declared.widget.Sign.TheVariants as signs
 use Rattle.task_laws.specs.Places.{slot_places, places_in}
 use Rattle.task_laws.proofs.LikeLemmas.{work_alike}
-use Rattle.task_laws.proofs.TwinLemmas.{by_cases, SlotsIn, TreeIn, slots_in_push, Frame, Twins, value_alike}
+use Rattle.task_laws.proofs.TwinLemmas.{SlotsIn, TreeIn, slots_in_push, Frame, Twins, value_alike}
 use Rattle.task_laws.proofs.AlikeLemmas.{Pre, Post, steady, SameBool}
 use Rattle.task_laws.proofs.FrameLemmas.{like_test, all_alike}
 use Rattle.task_laws.proofs.PlaceLemmas.{among-append, among-foot, among-slots, contains-among, among-contains}

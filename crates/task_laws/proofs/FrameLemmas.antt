@@ -1,5 +1,5 @@
 -- Every rule goes alike over two stores that agree inside: by a case for each form.
-use Rattle.std.proofs.Common.{◌≡◌, ℕ, Bool, true, false, List, [], ◌∷◌, ◌++◌, length, Option, Some, None, refl, sym, subst}
+use Rattle.std.proofs.Common.{ℕ, Bool, true, false, List, [], ◌∷◌, ◌++◌, length, Option, Some, None, refl, sym, subst}
 use Rattle.std.specs.Prelude.{slice_get, slice_set}
 use Rattle.task_model.specs.Value.{ValueTerm}
 use Rattle.task_model.specs.Env.{SlotTerm, plain_slot, place_slot, EnvTerm}
@@ -24,7 +24,7 @@ module _ (f : Frame) (c : CheckedTerm) where
 
   like_two : (t u : TaskTerm) (env : EnvTerm) (σ τ : List ValueTerm) (join : TreeTerm → TreeTerm → TreeTerm) → AlikeIn f env σ τ → ((m n : TreeTerm) → TreeIn f.inside m → TreeIn f.inside n → TreeIn f.inside (join m n))
       → Goes f (SameState f) (ask (evaluates t env σ) (λ s. ask (evaluates u (later_by (nodes_of c.program t) env) s.store) (λ s'. give (at (join s.tree s'.tree) s'.store))))
-        (ask (evaluates t env τ) (λ s. ask (evaluates u (later_by (nodes_of c.program t) env) s.store) (λ s'. give (at (join s.tree s'.tree) s'.store))))
+      (ask (evaluates t env τ) (λ s. ask (evaluates u (later_by (nodes_of c.program t) env) s.store) (λ s'. give (at (join s.tree s'.tree) s'.store))))
   like_two t u env σ τ join h r =
       like_ask (evaluates t env σ) τ _ _ h (λ s τ' q.
       like_ask (evaluates u (later_by (nodes_of c.program t) env) s.store) τ' _ _ (moved_in f env s.store τ' (nodes_of c.program t) (over_left f env σ τ s τ' h q)) (λ s' τ'' q'.

@@ -10,7 +10,7 @@ use Rattle.task_model.specs.Tree.{TreeTerm, State}
 use Rattle.task_model.specs.Input.{ActTerm, set_act, next_act, left_act, right_act}
 use Rattle.task_model.specs.Checked.{CheckedTerm}
 use Rattle.task_model.specs.Work.{gives}
-use Rattle.task_model.specs.Plan.{fails, normal, Plan, give, ask, after, known, work, Derives}
+use Rattle.task_model.specs.Plan.{fails, normal, Plan, give, ask, known, work, Derives}
 use Rattle.task_model.specs.Rules.{branch, opened_env, rule_of}
 use Rattle.task_model.specs.Judgements.{Within}
 use Rattle.task_model.specs.Handling.{if_typed, at_editor, rebuilt, rebuilds, unless_failing}
@@ -22,7 +22,7 @@ use Rattle.task_model.specs.declared.widget.Sign.TheVariants as signs
 use Rattle.task_model.proofs.PlanLemmas.{work_after, after_work}
 use Rattle.task_model.proofs.SignLemmas.{sign_failing}
 use Rattle.task_laws.proofs.FootLemmas.{test_of}
-use Rattle.task_laws.proofs.OfferListLemmas.{Matches, offered_some, offered_only}
+use Rattle.task_laws.proofs.OfferListLemmas.{Matches, offered_some}
 
 module _ (c : CheckedTerm) (budget : ℕ) where
   abbrev W : Plan (Option State) → Option State → ℕ → ℕ → Type 0

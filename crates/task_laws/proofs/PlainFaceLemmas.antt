@@ -19,7 +19,7 @@ use Rattle.task_model.specs.PlainTree.{PlainTree}
 use Rattle.task_model.specs.declared.input.Turn.{Turn}
 use Rattle.task_model.specs.declared.input.Turn.TheVariants as turns
 use Rattle.task_model.proofs.PlanLemmas.{from_rule}
-use Rattle.task_laws.specs.PlainFaces.{OffersInt, IsPlainShape}
+use Rattle.task_laws.specs.PlainStates.{OffersInt, IsPlainShape}
 use Rattle.task_laws.proofs.FailingLemmas.{FailsHere, and_fail, edit_stands, enter_stands}
 use Rattle.task_laws.proofs.PlainLemmas.{PlainResult, handled_plain}
 
@@ -92,14 +92,21 @@ module _ (c : CheckedTerm) where
       let r = right.2 in
       let e : symbols_of b ≡ suc (symbols_of p.0 + symbols_of p.1) = subst (λ z. symbols_of z ≡ suc (symbols_of p.0 + symbols_of p.1)) (sym p.2) refl in
       let s : Derives (rule_of c) (strides (at (and_tree t u) σ)) (at (and_tree t u) σ) 0 (suc (max left.0 right.0)) =
-        from_rule (rule_of c) (strides (at (and_tree t u) σ)) (at (and_tree t u) σ) 0 (suc (max left.0 right.0)) (record {
-          below = max left.0 right.0;
-          part = record {
-            middle = at t σ; n1 = 0; h1 = left.0; n2 = 0; h2 = right.0; one = left.1; units = refl; height = refl;
-            two = record { middle = at u σ; n1 = 0; h1 = right.0; n2 = 0; h2 = 0; one = right.1; two = record { value = refl; units = refl; height = refl }; units = refl; height = omega arith };
-          };
+      from_rule (rule_of c) (strides (at (and_tree t u) σ)) (at (and_tree t u) σ) 0 (suc (max left.0 right.0)) (record {
+        below = max left.0 right.0;
+        part = record {
+          middle = at t σ;
+          n1 = 0;
+          h1 = left.0;
+          n2 = 0;
+          h2 = right.0;
+          one = left.1;
+          units = refl;
           height = refl;
-        }) in
+          two = record { middle = at u σ; n1 = 0; h1 = right.0; n2 = 0; h2 = 0; one = right.1; two = record { value = refl; units = refl; height = refl }; units = refl; height = omega arith };
+        };
+        height = refl;
+      }) in
       (suc (max left.0 right.0), s, omega arith)
   stride_there t σ b p = absurd p
 
@@ -108,11 +115,11 @@ module _ (c : CheckedTerm) where
       let d = stride_there s.tree s.store b p in
       let le = d.2 in
       let q : Derives (rule_of c) (settles s) s 1 (suc d.0) =
-        from_rule (rule_of c) (settles s) s 1 (suc d.0) (record {
-          below = d.0;
-          part = record { middle = s; n1 = 1; h1 = d.0; n2 = 0; h2 = 0; one = last_stride s s 0 1 d.0 d.1 refl refl; two = record { value = refl; units = refl; height = refl }; units = refl; height = omega arith };
-          height = refl;
-        }) in
+      from_rule (rule_of c) (settles s) s 1 (suc d.0) (record {
+        below = d.0;
+        part = record { middle = s; n1 = 1; h1 = d.0; n2 = 0; h2 = 0; one = last_stride s s 0 1 d.0 d.1 refl refl; two = record { value = refl; units = refl; height = refl }; units = refl; height = omega arith };
+        height = refl;
+      }) in
       (suc d.0, q, omega arith)
 
   -- an input at a small plain tree is taken or not offered, within any budget of at least one unit

@@ -1,6 +1,8 @@
 -- The states of plain programs: their trees stay plain and of one type, and their stores stay empty.
-use Rattle.std.proofs.Common.{◌≡◌, ◌≤◌, ℕ, zero, suc, ℤ, Bool, true, false, List, [], ◌∷◌, replicate, Option, Some, None, refl, sym, ap, ◌∙◌, subst, arith}
+use Rattle.std.proofs.Common.{◌≡◌, ◌≤◌, ℕ, ℤ, List, [], ◌∷◌, replicate, Option, Some, None, refl, sym, ap, ◌∙◌, subst, arith}
 use Rattle.std.specs.Prelude.{slice_get}
+use Rattle.std.proofs.lemmas.List.Elements.{All-same, All-replicate}
+use Rattle.std.proofs.lemmas.Option.{slice_get_within, get_or_from_slice_get}
 use Rattle.task_model.specs.Basic.{BasicTerm, int_type}
 use Rattle.task_model.specs.Value.{ValueTerm, int_value, value_has}
 use Rattle.task_model.specs.Env.{EnvTerm, empty_env}
@@ -10,19 +12,19 @@ use Rattle.task_model.specs.Program.{ProgramTerm}
 use Rattle.task_model.specs.Tree.{TreeTerm, edit_tree, enter_tree, and_tree, State, at}
 use Rattle.task_model.specs.Input.{ActTerm, set_act, InputTerm}
 use Rattle.task_model.specs.Item.{ItemTerm, opened, took}
-use Rattle.task_model.specs.Checked.{CheckedTerm, nodes_of}
+use Rattle.task_model.specs.Checked.{CheckedTerm, nodes_of, defs_nodes}
 use Rattle.task_model.specs.Work.{Work}
 use Rattle.task_model.specs.Plan.{gives_value, evaluates, strides, settles, normal, Plan, give, ask, known, Strides, last_stride, more_strides, work, Derives}
 use Rattle.task_model.specs.Rules.{later_by, rule_of}
 use Rattle.task_model.specs.Handling.{if_typed, rebuilt, rebuilds, handled, handles, settled}
 use Rattle.task_model.specs.Outcome.{IsTaken}
-use Rattle.task_model.specs.Accepted.{symbols_of, main_name, PlainType, main_program, IsAccepted}
+use Rattle.task_model.specs.Accepted.{main_name, PlainType, main_program, IsAccepted}
 use Rattle.task_model.specs.PlainTree.{PlainTree, IsSmallTree}
 use Rattle.task_model.specs.State.{IsOpening, LeadTo, IsReached}
 use Rattle.task_model.specs.declared.input.Turn.{Turn}
 use Rattle.task_model.specs.declared.input.Turn.TheVariants as turns
 use Rattle.task_model.proofs.PlanLemmas.{work_after, by_rule}
-use Rattle.task_laws.specs.PlainFaces.{SetsInt}
+use Rattle.task_laws.specs.PlainStates.{IsPlainState, SetsInt}
 
 -- ---- strides
 module _ (c : CheckedTerm) where
@@ -107,11 +109,6 @@ module _ (c : CheckedTerm) where
     lead_plain (took a ∷ items) s t b p e d = let m = taken_plain s a.input b p d.0 d.1 in lead_plain items d.0 t b m.0 (m.1 ∙ e) d.2
 
 -- ---- evaluating
-int_listed : (n i : ℕ) (b : BasicTerm) → slice_get (replicate n int_type) i ≡ Some b → b ≡ int_type
-int_listed zero i b e = absurd (cc)
-int_listed (suc n) zero b e = cc
-int_listed (suc n) (suc i) b e = int_listed n i b e
-
 -- the types of the nodes are int
 abbrev ListsInts : CheckedTerm → Type 0
 ListsInts c = (i : ℕ) (b : BasicTerm) → slice_get c.types i ≡ Some b → b ≡ int_type
@@ -160,7 +157,7 @@ module _ (types : List BasicTerm) (b : BasicTerm) (t : TaskTerm) where
       (subst (λ z. PlainTree z.tree b) (sym last) plain, ap (λ (z : State). z.store) (last ∙ same) ∙ body.1)
 
 -- every opening costs a unit
-pub opening_units : (c : CheckedTerm) (budget : ℕ) (s : State) → IsOpening c budget s → 1 ≤ budget
+opening_units : (c : CheckedTerm) (budget : ℕ) (s : State) → IsOpening c budget s → 1 ≤ budget
 opening_units c budget s o =
     let r = (by_rule (rule_of c) (normal (call_task main_name []) empty_env []) s o.0 o.1 o.2).part in
     let u = r.units in
@@ -173,21 +170,33 @@ opening_units c budget s o =
     a_stride one s s' n h (last_stride _ _ n1 _ _ d same e) = omega arith
     a_stride one s s' n h (more_strides _ s1 _ n1 m1 _ h1 g1 _ d other rest e e') = omega arith
 
-module _ (c : CheckedTerm) (a : IsAccepted c) (budget : ℕ) where
+module _ (c : CheckedTerm) (budget : ℕ) (s : State) (a : IsPlainState c budget s) where
   ints : ListsInts c
-  ints i b e = int_listed _ i b (ap (λ z. slice_get z i) (sym a.types) ∙ e)
+  ints i b e = subst (λ z. z ≡ int_type) (get_or_from_slice_get c.types i b b e) (a.ints i b (slice_get_within c.types i b e))
 
-  opening_plain : (s : State) → IsOpening c budget s → PlainTree s.tree a.plain.result × (s.store ≡ [])
-  opening_plain s o = by_program c.program c.types a.plain.is ints o.2
+  opening_plain : (m : State) → IsOpening c budget m → PlainTree m.tree a.plain.result × (m.store ≡ [])
+  opening_plain m o = by_program c.program c.types a.plain.is ints o.2
     where
       by_program : (p : ProgramTerm) (types : List BasicTerm) → p ≡ main_program a.plain.result a.plain.task → ListsInts (record { program = p; types = types })
-          → Derives (rule_of (record { program = p; types = types })) (normal (call_task main_name []) empty_env []) s o.0 o.1 → PlainTree s.tree a.plain.result × (s.store ≡ [])
+          → Derives (rule_of (record { program = p; types = types })) (normal (call_task main_name []) empty_env []) m o.0 o.1 → PlainTree m.tree a.plain.result × (m.store ≡ [])
       by_program p types e i d =
-          main_plain types a.plain.result a.plain.task i a.plain.typed s o.0 o.1
-          (subst (λ z. Derives (rule_of (record { program = z; types = types })) (normal (call_task main_name []) empty_env []) s o.0 o.1) e d)
+          main_plain types a.plain.result a.plain.task i a.plain.typed m o.0 o.1
+          (subst (λ z. Derives (rule_of (record { program = z; types = types })) (normal (call_task main_name []) empty_env []) m o.0 o.1) e d)
 
-  pub reached_plain : (items : List ItemTerm) (s : State) → IsReached c budget items s → PlainTree s.tree a.plain.result × (s.store ≡ [])
-  reached_plain items s r = let o = opening_plain r.0 r.1 in lead_plain c budget items r.0 s a.plain.result o.0 o.1 r.2
+  pub state_plain : PlainTree s.tree a.plain.result × (s.store ≡ [])
+  state_plain = let r = a.reached in let o = opening_plain r.0 r.1 in lead_plain c budget a.items r.0 s a.plain.result o.0 o.1 r.2
 
-  pub reached_small : (items : List ItemTerm) (s : State) → IsReached c budget items s → IsSmallTree s.tree × (s.store ≡ [])
-  reached_small items s r = let q = reached_plain items s r in (record { type = a.plain.result; plain = q.0; small = a.plain.small }, q.1)
+  pub state_small : IsSmallTree s.tree × (s.store ≡ [])
+  state_small = (record { type = a.plain.result; plain = state_plain.0; small = a.plain.small }, state_plain.1)
+
+  pub state_units : 1 ≤ budget
+  state_units = opening_units c budget a.reached.0 a.reached.1
+
+-- the states of an accepted program
+pub accepted_plain : (c : CheckedTerm) (budget : ℕ) (items : List ItemTerm) (s : State) → IsAccepted c → IsReached c budget items s → IsPlainState c budget s
+accepted_plain c budget items s a r = record {
+  plain = a.plain;
+  ints = All-same (λ b. b ≡ int_type) c.types (replicate (defs_nodes c.program c.program.defs) int_type) a.types (All-replicate (λ b. b ≡ int_type) (defs_nodes c.program c.program.defs) int_type refl);
+  items = items;
+  reached = r;
+}

@@ -17,7 +17,7 @@ ghost use Rattle.task_model.specs.Sign.{Test};
 ghost use Rattle.task_model.specs.Offer.{next_offer, OfferTerm, AreOffers, SomeMatches};
 ghost use Rattle.task_model.specs.Widget.{WidgetTerm, AreWidgets};
 ghost use Rattle.task_laws.specs.Places.{places_in};
-ghost use Rattle.task_laws.specs.PlainFaces.{SetsInt, OffersInt, IsPlainShape};
+ghost use Rattle.task_laws.specs.PlainStates.{IsPlainState, SetsInt, OffersInt, IsPlainShape};
 
 /// A tree's foot has exactly the places that are in the tree, in increasing order and each once. Two stores agree on it
 /// where they have the same length and the same values at these places.
@@ -77,20 +77,20 @@ pub fn next_stands_alone()
         value_of left σ ≡ Some v → AreOffers c budget left σ os → All (λ o. o.path ≡ [] → o.kind ≡ next_offer → ⊥) os }
 {}
 
-/// A plain program meets no other case. At every state of its histories the tree is plain and small and the store empty; no
-/// tree is failing; it offers nothing but setting ints, for certain, and shows nothing but editors of ints and pairs; what
-/// is taken sets an int, and no input is over the budget.
+/// A plain program meets no other case. At all its states the tree is plain and small and the store empty; no tree is
+/// failing; it offers nothing but setting ints, for certain, and shows nothing but editors of ints and pairs; what is taken
+/// sets an int, and no input is over the budget. Today all accepted programs are plain.
 pub fn plain_programs_stay_plain()
-    ensures states { (c : CheckedTerm) (budget : ℕ) (items : List ItemTerm) (s : State) → IsAccepted c → IsReached c budget items s →
-        IsSmallTree s.tree × (s.store ≡ []) }
-    ensures failing { (c : CheckedTerm) (budget : ℕ) (items : List ItemTerm) (s : State) → IsAccepted c → IsReached c budget items s →
-        (n h : ℕ) → Fails c s true n h → ⊥ }
-    ensures offers { (c : CheckedTerm) (budget : ℕ) (items : List ItemTerm) (s : State) → IsAccepted c → IsReached c budget items s →
+    ensures accepted { (c : CheckedTerm) (budget : ℕ) (items : List ItemTerm) (s : State) →
+        IsAccepted c → IsReached c budget items s → IsPlainState c budget s }
+    ensures state { (c : CheckedTerm) (budget : ℕ) (s : State) → IsPlainState c budget s → IsSmallTree s.tree × (s.store ≡ []) }
+    ensures failing { (c : CheckedTerm) (budget : ℕ) (s : State) → IsPlainState c budget s → (n h : ℕ) → Fails c s true n h → ⊥ }
+    ensures offers { (c : CheckedTerm) (budget : ℕ) (s : State) → IsPlainState c budget s →
         (os : List OfferTerm) → AreOffers c budget s.tree s.store os → All OffersInt os }
-    ensures widgets { (c : CheckedTerm) (budget : ℕ) (items : List ItemTerm) (s : State) → IsAccepted c → IsReached c budget items s →
+    ensures widgets { (c : CheckedTerm) (budget : ℕ) (s : State) → IsPlainState c budget s →
         (ws : List WidgetTerm) → AreWidgets c budget s.tree s.store ws → All (λ w. IsPlainShape w.shape) ws }
-    ensures taken { (c : CheckedTerm) (budget : ℕ) (items : List ItemTerm) (s : State) → IsAccepted c → IsReached c budget items s →
+    ensures taken { (c : CheckedTerm) (budget : ℕ) (s : State) → IsPlainState c budget s →
         (i : InputTerm) (t : State) → IsOutcome c budget s i (taken t) → SetsInt i.act }
-    ensures over_budget { (c : CheckedTerm) (budget : ℕ) (items : List ItemTerm) (s : State) → IsAccepted c → IsReached c budget items s →
+    ensures over_budget { (c : CheckedTerm) (budget : ℕ) (s : State) → IsPlainState c budget s →
         (i : InputTerm) → IsOutcome c budget s i over_budget → ⊥ }
 {}

@@ -5,6 +5,7 @@
 mod laws;
 
 pub use laws::{
-    failing_offers_nothing, foot_frames_offers_and_widgets, foot_frames_tests, foot_frames_values_and_failing, foot_is_in_order,
-    next_stands_alone, offered_or_not, plain_programs_stay_plain,
+    failing_offers_nothing, foot_frames_offers_and_widgets, foot_frames_tests,
+    foot_frames_values_and_failing, foot_is_in_order, next_stands_alone, offered_or_not,
+    plain_programs_stay_plain,
 };
