@@ -55,8 +55,8 @@ pub fn foot_frames_offers_and_widgets()
         (ws : List WidgetTerm) → AreWidgets c budget t σ ws ↔ AreWidgets c budget t τ ws }
 {}
 
-/// Some offer matches an input exactly where its outcome is another than not offered: refused as not offered is what no
-/// offer matches, and nothing else.
+/// Some offer of a state's tree matches an input exactly where its outcome there is another than not offered, and none does
+/// exactly where its outcome is not offered.
 pub fn offered_or_not()
     ensures offered { (c : CheckedTerm) (budget : ℕ) (s : State) (i : InputTerm) (os : List OfferTerm) → AreOffers c budget s.tree s.store os →
         SomeMatches os i ↔ (IsOutcome c budget s i not_offered → ⊥) }
@@ -71,15 +71,15 @@ pub fn failing_offers_nothing()
         Fails c (at t σ) true n h → Within budget n h → (os : List OfferTerm) → AreOffers c budget t σ os → os ≡ [] }
 {}
 
-/// Where the left part of a user step has a value, none of its offers is Next with an empty path: such a Next is the step's.
+/// Where the left part of a user step has a value, none of its offers is Next with an empty path: that path is the step's.
 pub fn next_stands_alone()
     ensures { (c : CheckedTerm) (budget : ℕ) (left : TreeTerm) (σ : List ValueTerm) (v : ValueTerm) (os : List OfferTerm) →
         value_of left σ ≡ Some v → AreOffers c budget left σ os → All (λ o. o.path ≡ [] → o.kind ≡ next_offer → ⊥) os }
 {}
 
-/// A plain program meets no other case. At all its states the tree is plain and small and the store empty; no tree is
-/// failing; it offers nothing but setting ints, for certain, and shows nothing but editors of ints and pairs; what is taken
-/// sets an int, and no input is over the budget. Today all accepted programs are plain.
+/// A plain program meets none of the other cases: at all its states the tree is plain and small and the store empty; the
+/// tree isn't failing; it offers nothing but setting ints, for certain, and shows nothing but editors of ints and pairs;
+/// what is taken sets an int, and no input is over the budget. Today all accepted programs are plain.
 pub fn plain_programs_stay_plain()
     ensures accepted { (c : CheckedTerm) (budget : ℕ) (items : List ItemTerm) (s : State) →
         IsAccepted c → IsReached c budget items s → IsPlainState c budget s }
