@@ -3,16 +3,21 @@ use Rattle.std.proofs.Common.{◌≡◌, ◌≤◌, ℕ, Bool, true, false, List
 use Rattle.std.specs.Option.{option_or}
 use Rattle.task_model.specs.Basic.{BasicTerm}
 use Rattle.task_model.specs.Value.{ValueTerm}
+use Rattle.task_model.specs.Env.{SlotTerm}
 use Rattle.task_model.specs.Tree.{LaterTerm, TreeTerm, edit_tree, enter_tree, share_tree, then_tree, next_tree, fail_tree, and_tree, or_tree, xor_tree, at}
 use Rattle.task_model.specs.Checked.{CheckedTerm}
-use Rattle.task_model.specs.Plan.{fails, give, ask, work, Derives}
-use Rattle.task_model.specs.Rules.{branch, paired, value_of, side, fail_rule, rule_of}
+use Rattle.task_model.specs.Plan.{fails, Plan, give, ask, work, Derives}
+use Rattle.task_model.specs.Rules.{branch, paired, value_of, tested, side, fail_rule, rule_of}
 use Rattle.task_model.specs.Judgements.{Fails, Within}
 use Rattle.task_model.specs.Sign.{Test, IsStepSign}
 use Rattle.task_model.specs.Offer.{OfferTerm, next_offer, left_offer, right_offer, offered, both_offers, AreOffers}
 use Rattle.task_model.specs.declared.widget.Sign.TheVariants as signs
 use Rattle.task_model.proofs.PlanLemmas.{work_after, by_rule}
 use Rattle.task_model.proofs.SignLemmas.{sign_failing}
+
+-- whether a body with these slots is failing
+abbrev pub test_of : CheckedTerm → ℕ → List SlotTerm → List ValueTerm → Plan Bool
+test_of c i ss σ = tested c i ss σ (λ s no. give no)
 
 -- at most so many units and so high
 pub record Bounds (budget top n h : ℕ) : Type 0 where

@@ -10,8 +10,8 @@ use Rattle.task_model.specs.Env.{SlotTerm, plain_slot, place_slot}
 use Rattle.task_model.specs.Tree.{LaterTerm, TreeTerm, edit_tree, enter_tree, share_tree, then_tree, next_tree, fail_tree, and_tree, or_tree, xor_tree, at}
 use Rattle.task_model.specs.Checked.{CheckedTerm}
 use Rattle.task_model.specs.Work.{Work}
-use Rattle.task_model.specs.Plan.{Plan, give, fails, Derives}
-use Rattle.task_model.specs.Rules.{value_of, tested, trial, side, rule_of}
+use Rattle.task_model.specs.Plan.{fails, Derives}
+use Rattle.task_model.specs.Rules.{value_of, trial, side, rule_of}
 use Rattle.task_model.specs.Foot.{with_places, foot, among, AgreeOn}
 use Rattle.task_model.specs.Judgements.{Fails}
 use Rattle.task_model.specs.Sign.{IsSign, Test, IsStepSign}
@@ -24,12 +24,10 @@ use Rattle.task_laws.proofs.LikeLemmas.{work_alike}
 use Rattle.task_laws.proofs.TwinLemmas.{SlotsIn, TreeIn, slots_in_push, Frame, Twins, value_alike}
 use Rattle.task_laws.proofs.AlikeLemmas.{Pre, Post, steady, SameBool}
 use Rattle.task_laws.proofs.FrameLemmas.{like_test, all_alike}
+use Rattle.task_laws.proofs.FailingLemmas.{test_of}
 use Rattle.task_laws.proofs.PlaceLemmas.{among-append, among-foot, among-slots, contains-among, among-contains}
 
 -- ---- what holds of tests over both stores
-abbrev pub test_of : CheckedTerm → ℕ → List SlotTerm → List ValueTerm → Plan Bool
-test_of c i ss σ = tested c i ss σ (λ s no. give no)
-
 module _ (c : CheckedTerm) (f : Frame) where
   -- a test over the one store is one over the other
   test_alike : (i : ℕ) (ss : List SlotTerm) (σ τ : List ValueTerm) → SlotsIn f.inside ss → Twins f σ τ → (b : Bool) (n h : ℕ) → Test c 0 (test_of c i ss σ) b n h → Test c 0 (test_of c i ss τ) b n h

@@ -21,7 +21,7 @@ use Rattle.task_model.specs.declared.widget.Sign.{Sign}
 use Rattle.task_model.specs.declared.widget.Sign.TheVariants as signs
 use Rattle.task_model.proofs.PlanLemmas.{work_after, after_work}
 use Rattle.task_model.proofs.SignLemmas.{sign_failing}
-use Rattle.task_laws.proofs.FootLemmas.{test_of}
+use Rattle.task_laws.proofs.FailingLemmas.{test_of}
 use Rattle.task_laws.proofs.OfferListLemmas.{Matches, offered_some}
 
 module _ (c : CheckedTerm) (budget : ℕ) where

@@ -23,6 +23,7 @@ use Rattle.task_laws.proofs.LackingLemmas.{Lacking, lacks_now, part_lacks, whole
 
 module _ (c : CheckedTerm) (budget : ℕ) where
   -- ---- at a user step
+  -- the step's own Next matches, or what its left part offers, or the input lacks
   next_total : (o : Option ValueTerm) (k : LaterTerm) (σ : List ValueTerm) (s : Sign) (us : List OfferTerm) (path : List Turn) (act : ActTerm) (q : Plan (Option State)) → IsStepSign c budget o k σ s → Matches us path act ⊎ Lacking c budget q → Matches (offered next_offer s ++ us) path act ⊎ Lacking c budget (at_step c (stopped path act o) k σ q)
   next_total o k σ s us path act q d (inl h) = inl (match_right (offered next_offer s) us path act h)
   next_total None k σ s us [] next_act q d (inr h) = inr h
@@ -36,6 +37,7 @@ module _ (c : CheckedTerm) (budget : ℕ) where
   next_total o k σ s us [] right_act q d (inr h) = inr h
   next_total o k σ s us (t ∷ path) act q d (inr h) = inr h
 
+  -- never both
   next_once : (o : Option ValueTerm) (k : LaterTerm) (σ : List ValueTerm) (s : Sign) (us : List OfferTerm) (path : List Turn) (act : ActTerm) (q : Plan (Option State)) → IsStepSign c budget o k σ s → ((v : ValueTerm) → o ≡ Some v → NoNexts us) → (Matches us path act → Lacking c budget q → ⊥) → Matches (offered next_offer s ++ us) path act → Lacking c budget (at_step c (stopped path act o) k σ q) → ⊥
   next_once o k σ s us path act q d alone r m = by_part o path act d alone r (match_split (offered next_offer s) us path act m)
     where
@@ -56,10 +58,10 @@ module _ (c : CheckedTerm) (budget : ℕ) where
       by_part o (t ∷ path) act d alone r (inl m) l = let e = (offered_only next_offer s (t ∷ path) act m).0 in absurd (cc)
       by_part o (t ∷ path) act d alone r (inr m) l = r m l
 
-  -- ---- two sides
-  side_total : (f : TreeTerm → TreeTerm) (q : Plan (Option State)) (os us : List OfferTerm) → ((path : List Turn) (act : ActTerm) → Matches os path act → Matches us path act) → (path : List Turn) (act : ActTerm) → Matches os path act ⊎ Lacking c budget q → Matches us path act ⊎ Lacking c budget (rebuilds q f)
-  side_total f q os us g path act (inl m) = inl (g path act m)
-  side_total f q os us g path act (inr l) = inr (whole_lacks c budget f q l)
+  -- ---- parts
+  side_total : (f : TreeTerm → TreeTerm) (q : Plan (Option State)) (os : List OfferTerm) (path : List Turn) (act : ActTerm) → Matches os path act ⊎ Lacking c budget q → Matches os path act ⊎ Lacking c budget (rebuilds q f)
+  side_total f q os path act (inl m) = inl m
+  side_total f q os path act (inr l) = inr (whole_lacks c budget f q l)
 
   first_total : (t u : TreeTerm) (σ : List ValueTerm) (os : List OfferTerm) (path : List Turn) (act : ActTerm) (xs ys : List OfferTerm) → os ≡ both_offers xs ys → (join : TreeTerm → TreeTerm → TreeTerm) → Matches xs path act ⊎ Lacking c budget (handled c t σ path act) → Matches os (turns.First ∷ path) act ⊎ Lacking c budget (after (handled c t σ path act) (λ r. give (rebuilt (λ t'. join t' u) r)))
   first_total t u σ os path act xs ys e join (inl m) = inl (subst (λ z. Matches z (turns.First ∷ path) act) (sym e) (to_first xs ys path act m))
@@ -76,10 +78,10 @@ module _ (c : CheckedTerm) (budget : ℕ) where
   matched_or_lacking (share_tree b n) σ os path act h = subst (λ z. Matches z path act ⊎ Lacking c budget (handled c (share_tree b n) σ path act)) (sym h) (editor_total c budget b _ path act)
   matched_or_lacking fail_tree σ os path act h = inr (lacks_now c budget)
   matched_or_lacking (then_tree t k) σ os path act h =
-      side_total (λ t'. then_tree t' k) (handled c t σ path act) os os (λ path act m. m) path act (matched_or_lacking t σ os path act h)
+      side_total (λ t'. then_tree t' k) (handled c t σ path act) os path act (matched_or_lacking t σ os path act h)
   matched_or_lacking (next_tree t k) σ os path act h =
       subst (λ z. Matches z path act ⊎ Lacking c budget (handled c (next_tree t k) σ path act)) (sym h.4)
-      (next_total (value_of t σ) k σ h.0 h.1 path act _ h.2 (side_total (λ t'. next_tree t' k) (handled c t σ path act) h.1 h.1 (λ path act m. m) path act (matched_or_lacking t σ h.1 path act h.3)))
+      (next_total (value_of t σ) k σ h.0 h.1 path act _ h.2 (side_total (λ t'. next_tree t' k) (handled c t σ path act) h.1 path act (matched_or_lacking t σ h.1 path act h.3)))
   matched_or_lacking (and_tree t u) σ os [] act h = inr (lacks_now c budget)
   matched_or_lacking (and_tree t u) σ os (turns.First ∷ path) act h = first_total t u σ os path act h.0 h.1 h.4 and_tree (matched_or_lacking t σ h.0 path act h.2)
   matched_or_lacking (and_tree t u) σ os (turns.Second ∷ path) act h = second_total t u σ os path act h.0 h.1 h.4 and_tree (matched_or_lacking u σ h.1 path act h.3)
