@@ -83,11 +83,11 @@ HasWidgets (opened p budget ∷ items) ws =
     (types : List BasicTerm) × (t : State) × IsAccepted (record { program = p; types = types })
     × IsReached (record { program = p; types = types }) budget items t × AreWidgets (record { program = p; types = types }) budget t.tree t.store ws
 
--- the terminal page of a history for a seat
+-- the terminal page of a history for a seat (docs/FORMATS.md, "Pages")
 abbrev pub IsTerminal : List ItemTerm → ℕ → Text → Type 0
 IsTerminal items seat text = (ws : List WidgetTerm) × HasWidgets items ws × (text ≡ page_text (version_of items) seat ws)
 
--- the HTML page of a history for a seat
+-- the HTML page of a history for a seat (docs/FORMATS.md, "HTML pages")
 abbrev pub IsHtml : List ItemTerm → ℕ → Text → Type 0
 IsHtml items seat text = (ws : List WidgetTerm) × HasWidgets items ws × (text ≡ html_text (version_of items) seat ws)
 
