@@ -2,6 +2,7 @@
 #![tactic(auto)]
 
 mod ints;
+mod laws;
 mod print;
 mod read;
 mod stop;
@@ -13,6 +14,7 @@ mod values;
 mod wanted;
 mod words;
 
+pub use laws::some_literal;
 pub use print::{print_basic, print_value};
 pub use read::{read_any, read_basic, read_value};
 pub use stop::{BadLiteral, LiteralStop};
