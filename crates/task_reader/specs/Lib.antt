@@ -4,3 +4,9 @@ pub mod Marks
 pub mod Plain
 pub mod Reads
 pub mod Spots
+pub mod Lexemes
+pub mod Grammar
+pub mod Meaning
+pub mod Nodes
+pub mod ProgramText
+pub mod Faults

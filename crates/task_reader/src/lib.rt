@@ -2,11 +2,13 @@
 #![tactic(auto)]
 
 mod front;
+mod kinds;
 mod mark;
 mod part;
 mod program;
 mod read;
 mod spot;
+mod stop;
 mod tasks;
 #[cfg(test)]
 mod tests;
