@@ -6,3 +6,6 @@ pub mod SpotLemmas
 pub mod TokenLemmas
 pub mod TypeLemmas
 pub mod WholeLemmas
+pub mod GrammarLemmas
+pub mod RuleLemmas
+pub mod TypeRules

@@ -10,3 +10,5 @@ pub mod Meaning
 pub mod Nodes
 pub mod ProgramText
 pub mod Faults
+pub mod Languages
+pub mod Parts

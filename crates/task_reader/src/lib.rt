@@ -1,13 +1,16 @@
 //! Programs from their texts.
 #![tactic(auto)]
 
+mod basics;
 mod front;
-mod kinds;
+mod lexeme;
 mod mark;
+mod measured;
 mod part;
 mod program;
 mod read;
 mod spot;
+mod steps;
 mod stop;
 mod tasks;
 #[cfg(test)]
