@@ -93,10 +93,10 @@ module _ {T : Type 0} (G : Forms T) where
     wrap : {V : Type 0} {s : List Sym} {build : Values s → V} {m room : ℕ} {E : List T → Type 0} {ts : List T} {r : Answer T (V × ℕ)} → Right (Seq s build m) (Within room) E ts r → Right (Sequence s build m) (Within room) E ts r
     wrap {s = s} {build = build} {m = m} right = by_production (Seq s build m) (Sequence s build m) (λ a y h. record { by = h }) (λ a y z h _ _. h.by) right
 
-    open_up : {V : Type 0} {s : List Sym} {build : Values s → V} {m room : ℕ} {E : List T → Type 0} {ts : List T} {r : Answer T (V × ℕ)} → Right (Sequence s build m) (Within room) E ts r → Right (Seq s build m) (Within room) E ts r
+    pub open_up : {V : Type 0} {s : List Sym} {build : Values s → V} {m room : ℕ} {E : List T → Type 0} {ts : List T} {r : Answer T (V × ℕ)} → Right (Sequence s build m) (Within room) E ts r → Right (Seq s build m) (Within room) E ts r
     open_up {s = s} {build = build} {m = m} right = by_production (Sequence s build m) (Seq s build m) (λ a y h. h.by) (λ a y z h _ _. record { by = h }) right
 
-    size_above : (s : List Sym) (m : ℕ) → up + m ≤ size s m
+    pub size_above : (s : List Sym) (m : ℕ) → up + m ≤ size s m
     size_above [] m = omega arith
     size_above (tok t ∷ s) m = size_above s m
     size_above (one c ∷ s) m = size_above s m

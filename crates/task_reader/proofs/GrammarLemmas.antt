@@ -337,7 +337,7 @@ class_token (a_word k) p = word k p
 class_token (a_sign s) p = sign s p
 class_token a_name x = name x.0 x.1
 
-some_payload : (c : Class) → Payload c
+abbrev pub some_payload : (c : Class) → Payload c
 some_payload (a_word k) = 0
 some_payload (a_sign s) = 0
 some_payload a_name = ([], 0)

@@ -9,3 +9,9 @@ pub mod WholeLemmas
 pub mod GrammarLemmas
 pub mod RuleLemmas
 pub mod TypeRules
+pub mod SeriesLemmas
+pub mod PassingLemmas
+pub mod OptionalLemmas
+pub mod CountLemmas
+pub mod ExpressionRules
+pub mod OperatorLemmas

@@ -6,6 +6,8 @@ mod front;
 mod lexeme;
 mod mark;
 mod measured;
+mod node;
+mod series;
 mod part;
 mod program;
 mod read;
