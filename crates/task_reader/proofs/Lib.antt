@@ -15,3 +15,5 @@ pub mod OptionalLemmas
 pub mod CountLemmas
 pub mod ExpressionRules
 pub mod OperatorLemmas
+pub mod AtomRules
+pub mod EnclosedRules

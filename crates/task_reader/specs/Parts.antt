@@ -1,5 +1,5 @@
 -- The tokens of the code, and what it reads, as the grammar's.
-use Rattle.std.specs.Prelude.{◌≡◌, ℕ, List, map}
+use Rattle.std.specs.Prelude.{◌≡◌, ℕ, ◌+◌, max, List, [], ◌∷◌, ◌++◌, map}
 use Rattle.task_model.specs.Basic.{BasicTerm, basic_term}
 use Rattle.task_reader.specs.declared.lexeme.Lexeme.{Lexeme}
 use Rattle.task_reader.specs.declared.lexeme.Lexeme.TheVariants as codes
@@ -85,3 +85,21 @@ shown_part codes_of.Either d = shown d
 shown_part codes_of.Both d = shown d
 shown_part codes_of.Sum d = shown d
 shown_part codes_of.Product d = shown d
+
+-- ---- expressions from their parts
+abbrev pub leaf_host : HostTerm → ℕ → Shown HostTerm
+leaf_host t p = record { term = t; levels = 1; start = p; places = p ∷ [] }
+
+-- a node over one part, and over two, which begins here
+abbrev pub over_one : (HostTerm → HostTerm) → ℕ → Shown HostTerm → Shown HostTerm
+over_one make p a = record { term = make a.term; levels = 1 + a.levels; start = p; places = p ∷ a.places }
+
+abbrev pub over_two : (HostTerm → HostTerm → HostTerm) → ℕ → Shown HostTerm → Shown HostTerm → Shown HostTerm
+over_two make p a b = record { term = make a.term b.term; levels = 1 + max a.levels b.levels; start = p; places = p ∷ (a.places ++ b.places) }
+
+abbrev pub over_three : (HostTerm → HostTerm → HostTerm → HostTerm) → ℕ → Shown HostTerm → Shown HostTerm → Shown HostTerm → Shown HostTerm
+over_three make p a b c = record { term = make a.term b.term c.term; levels = 1 + max a.levels (max b.levels c.levels); start = p; places = p ∷ (a.places ++ (b.places ++ c.places)) }
+
+-- a part in parentheses, the first of which stands here
+abbrev pub grouped : ℕ → Shown HostTerm → Shown HostTerm
+grouped p a = record { term = a.term; levels = 1 + a.levels; start = p; places = a.places }
