@@ -147,19 +147,19 @@ module _ (p : ℕ) where
           let open_first : Begins [] (sign signs.Open p ∷ (sign signs.Close q ∷ w)) (a ++ z) = (sign signs.Close q ∷ w, e') in
           by_open (λ d. tokens d ≡ a → levels d ≡ y.1 → (a ≡ sign signs.Open p ∷ (sign signs.Close q ∷ [])) × ◌≡◌ {A = Parse atom × ℕ} (d, y.1) (nothing p q, 1))
           (λ r t l.
-              let same : sign signs.Open p ∷ (sign signs.Close r ∷ z) ≡ sign signs.Open p ∷ (sign signs.Close q ∷ w) = ap (λ l. l ++ z) t ∙ e' in
-              let r_is : r ≡ q = cc in
-              (sym t ∙ ap (λ n. sign signs.Open p ∷ (sign signs.Close n ∷ [])) r_is, ap (λ n. (nothing p r, n)) (sym l) ∙ ap (λ n. (nothing p n, 1)) r_is))
+          let same : sign signs.Open p ∷ (sign signs.Close r ∷ z) ≡ sign signs.Open p ∷ (sign signs.Close q ∷ w) = ap (λ l. l ++ z) t ∙ e' in
+          let r_is : r ≡ q = cc in
+          (sym t ∙ ap (λ n. sign signs.Open p ∷ (sign signs.Close n ∷ [])) r_is, ap (λ n. (nothing p r, n)) (sym l) ∙ ap (λ n. (nothing p n, 1)) r_is))
           (λ d r t l.
-              let same : sign signs.Open p ∷ ((tokens d ++ (sign signs.Close r ∷ [])) ++ z) ≡ sign signs.Open p ∷ (sign signs.Close q ∷ w) = ap (λ l. l ++ z) t ∙ e' in
-              let inside : (tokens d ++ (sign signs.Close r ∷ [])) ++ z ≡ sign signs.Close q ∷ w = cc in
-              absurd (no_close_starts d q (known_head d tt (sign signs.Close q) w (tokens d) ((sign signs.Close r ∷ []) ++ z) refl (w, sym (append_assoc (tokens d) (sign signs.Close r ∷ []) z) ∙ inside))))
+          let same : sign signs.Open p ∷ ((tokens d ++ (sign signs.Close r ∷ [])) ++ z) ≡ sign signs.Open p ∷ (sign signs.Close q ∷ w) = ap (λ l. l ++ z) t ∙ e' in
+          let inside : (tokens d ++ (sign signs.Close r ∷ [])) ++ z ≡ sign signs.Close q ∷ w = cc in
+          absurd (no_close_starts d q (known_head d tt (sign signs.Close q) w (tokens d) ((sign signs.Close r ∷ []) ++ z) refl (w, sym (append_assoc (tokens d) (sign signs.Close r ∷ []) z) ∙ inside))))
           (λ d r f n t l.
-              let rest = sign signs.Comma r ∷ (tokens f ++ (sign signs.Close n ∷ [])) in
-              let shape : tokens (pair p d r f n) ≡ sign signs.Open p ∷ (tokens d ++ rest) = append_assoc (sign signs.Open p ∷ tokens d) (sign signs.Comma r ∷ tokens f) (sign signs.Close n ∷ []) in
-              let same : sign signs.Open p ∷ ((tokens d ++ rest) ++ z) ≡ sign signs.Open p ∷ (sign signs.Close q ∷ w) = ap (λ l. l ++ z) (sym shape ∙ t) ∙ e' in
-              let inside : (tokens d ++ rest) ++ z ≡ sign signs.Close q ∷ w = cc in
-              absurd (no_close_starts d q (known_head d tt (sign signs.Close q) w (tokens d) (rest ++ z) refl (w, sym (append_assoc (tokens d) rest z) ∙ inside))))
+          let rest = sign signs.Comma r ∷ (tokens f ++ (sign signs.Close n ∷ [])) in
+          let shape : tokens (pair p d r f n) ≡ sign signs.Open p ∷ (tokens d ++ rest) = append_assoc (sign signs.Open p ∷ tokens d) (sign signs.Comma r ∷ tokens f) (sign signs.Close n ∷ []) in
+          let same : sign signs.Open p ∷ ((tokens d ++ rest) ++ z) ≡ sign signs.Open p ∷ (sign signs.Close q ∷ w) = ap (λ l. l ++ z) (sym shape ∙ t) ∙ e' in
+          let inside : (tokens d ++ rest) ++ z ≡ sign signs.Close q ∷ w = cc in
+          absurd (no_close_starts d q (known_head d tt (sign signs.Close q) w (tokens d) (rest ++ z) refl (w, sym (append_assoc (tokens d) rest z) ∙ inside))))
           y.0 (known_head y.0 tt (sign signs.Open p) (sign signs.Close q ∷ w) a z h.0 open_first) h.0 h.1
 
   -- ---- an expression stands in them
@@ -246,8 +246,7 @@ module _ (p : ℕ) where
           let e0 : y.0 ≡ pair p h.value.0 b.parts.0 b.parts.1.0 b.parts.1.1.0 = ap (λ q. q.0) b.is in
           let e1 : y.1 ≡ 1 + max h.value.1 (levels b.parts.1.0) = ap (λ q. q.1) b.is in
           let l0 = h.first.1 in
-          let l : suc (max (levels h.value.0) (levels b.parts.1.0)) ≡ y.1 = omega (arith, e1, l0) in
-          (
+          let l : suc (max (levels h.value.0) (levels b.parts.1.0)) ≡ y.1 = omega (arith, e1, l0) in (
             ap (λ q. tokens q) e0 ∙ append_assoc (sign signs.Open p ∷ tokens h.value.0) (sign signs.Comma b.parts.0 ∷ tokens b.parts.1.0) (sign signs.Close b.parts.1.1.0 ∷ []) ∙ sym (before _ b.are),
             ap (λ q. levels q) e0 ∙ l,
           )

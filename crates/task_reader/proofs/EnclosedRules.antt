@@ -57,9 +57,10 @@ module _ (l : Listing) (p : ℕ) where
           let (w, e') = goes (sign signs.Open p ∷ (sign signs.Close q ∷ [])) s (a ++ z) b in
           let same : sign signs.Open i ∷ (sign signs.Close j ∷ z) ≡ sign signs.Open p ∷ (sign signs.Close q ∷ w) = ap (λ r. r ++ z) t ∙ e' in
           let i_is : i ≡ p = cc in
-          let j_is : j ≡ q = cc in
-          (sym t ∙ ap (λ x. sign signs.Open x ∷ (sign signs.Close j ∷ [])) i_is ∙ ap (λ x. sign signs.Open p ∷ (sign signs.Close x ∷ [])) j_is,
-          ap (λ x. (empty l i j, x)) (sym k) ∙ ap (λ x. (empty l x j, 0)) i_is ∙ ap (λ x. (empty l p x, 0)) j_is)
+          let j_is : j ≡ q = cc in (
+            sym t ∙ ap (λ x. sign signs.Open x ∷ (sign signs.Close j ∷ [])) i_is ∙ ap (λ x. sign signs.Open p ∷ (sign signs.Close x ∷ [])) j_is,
+            ap (λ x. (empty l i j, x)) (sym k) ∙ ap (λ x. (empty l x j, 0)) i_is ∙ ap (λ x. (empty l p x, 0)) j_is,
+          )
       only (full m i es j) n a z t k b =
           let (w, e') = goes (sign signs.Open p ∷ (sign signs.Close q ∷ [])) s (a ++ z) b in
           let same : sign signs.Open i ∷ ((tokens es ++ (sign signs.Close j ∷ [])) ++ z) ≡ sign signs.Open p ∷ (sign signs.Close q ∷ w) = ap (λ r. r ++ z) t ∙ e' in

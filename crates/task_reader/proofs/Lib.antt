@@ -17,3 +17,4 @@ pub mod ExpressionRules
 pub mod OperatorLemmas
 pub mod AtomRules
 pub mod EnclosedRules
+pub mod NoOperators

@@ -67,16 +67,14 @@ module _ {f g : Form} (O : Optional f g) where
       go : (Done (O.bare h.value.0, h.value.1) h.back y ⊎ ((l : O.Lead) × Led h.value l h.back y)) → Of f a y
       go (inl k) =
           let e0 : y.0 ≡ O.bare h.value.0 = ap (λ q. q.0) k.same in
-          let e1 : y.1 ≡ h.value.1 = ap (λ q. q.1) k.same in
-          (
+          let e1 : y.1 ≡ h.value.1 = ap (λ q. q.1) k.same in (
             ap (λ q. tokens q) e0 ∙ O.bare_tokens h.value.0 ∙ h.first.0 ∙ sym (h.split ∙ ap (λ l. h.front ++ l) k.none ∙ append_nil h.front),
             ap (λ q. levels q) e0 ∙ O.bare_levels h.value.0 ∙ h.first.1 ∙ sym e1,
           )
       go (inr (l, k)) =
           let b = built 1 O.symbols (O.build h.value.0 l) h.value.1 k.back y k.next in
           let e0 : y.0 ≡ O.build h.value.0 l b.parts = ap (λ q. q.0) b.is in
-          let e1 : y.1 ≡ 1 + most_of O.symbols b.parts h.value.1 = ap (λ q. q.1) b.is in
-          (
+          let e1 : y.1 ≡ 1 + most_of O.symbols b.parts h.value.1 = ap (λ q. q.1) b.is in (
             ap (λ q. tokens q) e0 ∙ O.tokens_are h.value.0 l b.parts ∙ ap (λ t. t ++ (O.lead l ∷ tokens_of O.symbols b.parts)) h.first.0
                 ∙ sym (h.split ∙ ap (λ t. h.front ++ t) (k.split ∙ ap (λ t. t ++ k.back) k.first ∙ ap (λ t. O.lead l ∷ t) b.are)),
             ap (λ q. levels q) e0 ∙ O.levels_are h.value.0 l b.parts ∙ ap (λ n. 1 + most_of O.symbols b.parts n) h.first.1 ∙ sym e1,
@@ -102,14 +100,19 @@ module _ {f g : Form} (O : Optional f g) where
             value = (e, levels e);
             split = sym h.0 ∙ ap (λ q. tokens q) (sym same) ∙ O.tokens_are e l vs;
             first = (refl, refl);
-            next = record { by = inr (l, record {
-              front = O.lead l ∷ [];
-              back = tokens_of O.symbols vs;
-              value = tt;
-              split = refl;
-              first = refl;
-              next = subst (λ q. Seq grammar 1 O.symbols (O.build e l) (levels e) (tokens_of O.symbols vs) q) is (build_up 1 O.symbols (O.build e l) (levels e) vs);
-            }) };
+            next = record {
+              by = inr (
+                l,
+                record {
+                  front = O.lead l ∷ [];
+                  back = tokens_of O.symbols vs;
+                  value = tt;
+                  split = refl;
+                  first = refl;
+                  next = subst (λ q. Seq grammar 1 O.symbols (O.build e l) (levels e) (tokens_of O.symbols vs) q) is (build_up 1 O.symbols (O.build e l) (levels e) vs);
+                },
+              );
+            };
           }
 
   pub first_stop : {room : ℕ} {ts : List Lexeme} {e : Stop} → Right (Of g) (Within room) (Stops g) ts (Err e) → Right (Of f) (Within room) (Stops f) ts (Err e)

@@ -25,8 +25,7 @@ module _ {f g : Form} {ts : List Lexeme} (P : Passing f g ts) where
   pass_in : (a : List Lexeme) (y : Parse f × ℕ) → Passed a y → Of f a y
   pass_in a y h =
       let e0 : y.0 ≡ P.pass h.value.0 = ap (λ q. q.0) h.next.same in
-      let e1 : y.1 ≡ h.value.1 = ap (λ q. q.1) h.next.same in
-      (
+      let e1 : y.1 ≡ h.value.1 = ap (λ q. q.1) h.next.same in (
         ap (λ q. tokens q) e0 ∙ P.tokens_are h.value.0 ∙ h.first.0 ∙ sym (h.split ∙ ap (λ l. h.front ++ l) h.next.none ∙ append_nil h.front),
         ap (λ q. levels q) e0 ∙ P.levels_are h.value.0 ∙ h.first.1 ∙ sym e1,
       )

@@ -77,8 +77,7 @@ module _ {f : Form} {up : ℕ} {t : Lexeme} (R : Rule f up t) where
   rule_in a y h =
       let b = built up R.symbols R.build 0 h.back y h.next in
       let e0 : y.0 ≡ R.build b.parts = ap (λ q. q.0) b.is in
-      let e1 : y.1 ≡ up + most_of R.symbols b.parts 0 = ap (λ q. q.1) b.is in
-      (
+      let e1 : y.1 ≡ up + most_of R.symbols b.parts 0 = ap (λ q. q.1) b.is in (
         ap (λ q. tokens q) e0 ∙ R.tokens_are b.parts ∙ sym (h.split ∙ ap (λ l. l ++ h.back) h.first ∙ ap (λ l. t ∷ l) b.are),
         ap (λ q. levels q) e0 ∙ R.levels_are b.parts ∙ sym e1,
       )

@@ -148,8 +148,7 @@ module _ (s : Series) where
       let d = h.value.0 in
       let is = h.next.items in
       let e0 : y.0 ≡ grown (single s d) is = ap (λ q. q.0) h.next.is in
-      let e1 : y.1 ≡ grown_levels h.value.1 is = ap (λ q. q.1) h.next.is in
-      (
+      let e1 : y.1 ≡ grown_levels h.value.1 is = ap (λ q. q.1) h.next.is in (
         ap (λ q. tokens q) e0 ∙ tokens_grown (single s d) is ∙ ap (λ l. l ++ tail_tokens is) h.first.0 ∙ ap (λ l. h.front ++ l) (sym h.next.are) ∙ sym h.split,
         ap (λ q. levels q) e0 ∙ levels_grown (single s d) is ∙ ap (λ n. grown_levels n is) h.first.1 ∙ sym e1,
       )

@@ -12,3 +12,4 @@ pub mod ProgramText
 pub mod Faults
 pub mod Languages
 pub mod Parts
+pub mod Prefixes

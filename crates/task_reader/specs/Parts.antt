@@ -13,7 +13,7 @@ use Rattle.task_model.specs.Host.{HostTerm, host_term}
 use Rattle.task_model.specs.declared.host.Host as host
 use Rattle.task_model.specs.declared.host.Op.{Op}
 use Rattle.task_model.specs.declared.host.Op.TheVariants as ops
-use Rattle.task_reader.specs.Grammar.{Series, list, choice, chain, either, both, sum, product, Operator, or, and, plus, minus, join, times, quot, rem, Form, basic, series, part_of, Parse, levels}
+use Rattle.task_reader.specs.Grammar.{Series, list, choice, chain, either, both, sum, product, Operator, or, and, plus, minus, join, times, quot, rem, operator, Form, basic, series, part_of, Parse, levels}
 use Rattle.task_reader.specs.Meaning.{Meaning, meaning}
 use Rattle.task_reader.specs.Nodes.{start, places}
 
@@ -103,3 +103,10 @@ over_three make p a b c = record { term = make a.term b.term c.term; levels = 1 
 -- a part in parentheses, the first of which stands here
 abbrev pub grouped : ℕ → Shown HostTerm → Shown HostTerm
 grouped p a = record { term = a.term; levels = 1 + a.levels; start = p; places = a.places }
+
+-- no operator of the series stands first; this one does, as an operator of the code, and the rest follows it
+abbrev pub NoOperator : Series → List terms.Lexeme → Type 0
+NoOperator s ts = (o : Operator s) (p : ℕ) (rest : List terms.Lexeme) → ts ≡ operator o p ∷ rest → ⊥
+
+abbrev pub Operated : Series → List terms.Lexeme → Op → List terms.Lexeme → Type 0
+Operated s ts op rest = (o : Operator s) × (p : ℕ) × (ts ≡ operator o p ∷ rest) × IsOperation s o op

@@ -1,7 +1,6 @@
-ghost use Rattle.std.specs.Prelude.{◌≡◌, ℕ, List, ◌∷◌, MatchOption};
-ghost use Rattle.task_reader.specs.Lexemes as terms;
+ghost use Rattle.std.specs.Prelude.{MatchOption};
 ghost use Rattle.task_reader.specs.Grammar as grammar;
-ghost use Rattle.task_reader.specs.Parts.{lexemes, series_of, IsOperation};
+ghost use Rattle.task_reader.specs.Parts.{lexemes, series_of, NoOperator, Operated};
 
 use crate::lexeme::Located;
 use crate::steps::{strip_sign, strip_word};
@@ -22,9 +21,7 @@ pub(crate) fn operator<'t>(
     level: Level,
     tokens: &'t [Located<'t>],
 ) -> Option<(Op, &'t [Located<'t>])>
-    ensures { MatchOption result
-        ((o : grammar.Operator (series_of level)) (p : ℕ) (rest : List terms.Lexeme) → lexemes tokens.now ≡ grammar.operator o p ∷ rest → ⊥)
-        (λ r. (o : grammar.Operator (series_of level)) × (p : ℕ) × (lexemes tokens.now ≡ grammar.operator o p ∷ lexemes r.1.now) × IsOperation (series_of level) o r.0) }
+    ensures { MatchOption result (NoOperator (series_of level) (lexemes tokens.now)) (λ r. Operated (series_of level) (lexemes tokens.now) r.0 (lexemes r.1.now)) }
 {
     match level {
         Level::Either => either(tokens),
@@ -35,27 +32,25 @@ pub(crate) fn operator<'t>(
 }
 
 fn either<'t>(tokens: &'t [Located<'t>]) -> Option<(Op, &'t [Located<'t>])>
-    ensures { MatchOption result
-        ((o : grammar.Operator grammar.either) (p : ℕ) (rest : List terms.Lexeme) → lexemes tokens.now ≡ grammar.operator o p ∷ rest → ⊥)
-        (λ r. (o : grammar.Operator grammar.either) × (p : ℕ) × (lexemes tokens.now ≡ grammar.operator o p ∷ lexemes r.1.now) × IsOperation grammar.either o r.0) }
+    ensures { MatchOption result (NoOperator grammar.either (lexemes tokens.now)) (λ r. Operated grammar.either (lexemes tokens.now) r.0 (lexemes r.1.now)) }
 {
-    let (_, rest) = strip_sign(tokens, Symbol::Or)?;
-    Some((Op::Or, rest))
+    if let Some((_, rest)) = strip_sign(tokens, Symbol::Or) {
+        return Some((Op::Or, rest));
+    }
+    None
 }
 
 fn both<'t>(tokens: &'t [Located<'t>]) -> Option<(Op, &'t [Located<'t>])>
-    ensures { MatchOption result
-        ((o : grammar.Operator grammar.both) (p : ℕ) (rest : List terms.Lexeme) → lexemes tokens.now ≡ grammar.operator o p ∷ rest → ⊥)
-        (λ r. (o : grammar.Operator grammar.both) × (p : ℕ) × (lexemes tokens.now ≡ grammar.operator o p ∷ lexemes r.1.now) × IsOperation grammar.both o r.0) }
+    ensures { MatchOption result (NoOperator grammar.both (lexemes tokens.now)) (λ r. Operated grammar.both (lexemes tokens.now) r.0 (lexemes r.1.now)) }
 {
-    let (_, rest) = strip_sign(tokens, Symbol::And)?;
-    Some((Op::And, rest))
+    if let Some((_, rest)) = strip_sign(tokens, Symbol::And) {
+        return Some((Op::And, rest));
+    }
+    None
 }
 
 fn sum<'t>(tokens: &'t [Located<'t>]) -> Option<(Op, &'t [Located<'t>])>
-    ensures { MatchOption result
-        ((o : grammar.Operator grammar.sum) (p : ℕ) (rest : List terms.Lexeme) → lexemes tokens.now ≡ grammar.operator o p ∷ rest → ⊥)
-        (λ r. (o : grammar.Operator grammar.sum) × (p : ℕ) × (lexemes tokens.now ≡ grammar.operator o p ∷ lexemes r.1.now) × IsOperation grammar.sum o r.0) }
+    ensures { MatchOption result (NoOperator grammar.sum (lexemes tokens.now)) (λ r. Operated grammar.sum (lexemes tokens.now) r.0 (lexemes r.1.now)) }
 {
     if let Some((_, rest)) = strip_sign(tokens, Symbol::Plus) {
         return Some((Op::Add, rest));
@@ -63,14 +58,14 @@ fn sum<'t>(tokens: &'t [Located<'t>]) -> Option<(Op, &'t [Located<'t>])>
     if let Some((_, rest)) = strip_sign(tokens, Symbol::Minus) {
         return Some((Op::Sub, rest));
     }
-    let (_, rest) = strip_sign(tokens, Symbol::Join)?;
-    Some((Op::Join, rest))
+    if let Some((_, rest)) = strip_sign(tokens, Symbol::Join) {
+        return Some((Op::Join, rest));
+    }
+    None
 }
 
 fn product<'t>(tokens: &'t [Located<'t>]) -> Option<(Op, &'t [Located<'t>])>
-    ensures { MatchOption result
-        ((o : grammar.Operator grammar.product) (p : ℕ) (rest : List terms.Lexeme) → lexemes tokens.now ≡ grammar.operator o p ∷ rest → ⊥)
-        (λ r. (o : grammar.Operator grammar.product) × (p : ℕ) × (lexemes tokens.now ≡ grammar.operator o p ∷ lexemes r.1.now) × IsOperation grammar.product o r.0) }
+    ensures { MatchOption result (NoOperator grammar.product (lexemes tokens.now)) (λ r. Operated grammar.product (lexemes tokens.now) r.0 (lexemes r.1.now)) }
 {
     if let Some((_, rest)) = strip_sign(tokens, Symbol::Star) {
         return Some((Op::Mul, rest));
@@ -78,6 +73,8 @@ fn product<'t>(tokens: &'t [Located<'t>]) -> Option<(Op, &'t [Located<'t>])>
     if let Some((_, rest)) = strip_word(tokens, Keyword::Quot) {
         return Some((Op::Quot, rest));
     }
-    let (_, rest) = strip_word(tokens, Keyword::Rem)?;
-    Some((Op::Rem, rest))
+    if let Some((_, rest)) = strip_word(tokens, Keyword::Rem) {
+        return Some((Op::Rem, rest));
+    }
+    None
 }

@@ -42,9 +42,7 @@ pub(crate) fn strip_sign<'t>(
 }
 
 /// The name that stands first, if one does, its place, and what stands after it.
-pub(crate) fn strip_name<'t>(
-    tokens: &'t [Located<'t>],
-) -> Option<(&'t str, u64, &'t [Located<'t>])>
+pub(crate) fn strip_name<'t>(tokens: &'t [Located<'t>]) -> Option<(&'t str, u64, &'t [Located<'t>])>
     ensures { MatchOption result
         ((x : Text) (p : ℕ) (rest : List terms.Lexeme) → lexemes tokens.now ≡ terms.name x p ∷ rest → ⊥)
         (λ r. lexemes tokens.now ≡ terms.name r.0.now r.1 ∷ lexemes r.2.now) }
