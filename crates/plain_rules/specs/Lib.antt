@@ -1,0 +1,4 @@
+pub mod Rules
+pub mod Known
+pub mod Words
+pub mod Starts
