@@ -4,3 +4,5 @@ pub mod CharacterLemmas
 pub mod KnownLemmas
 pub mod EqualLemmas
 pub mod RunLemmas
+pub mod TaskLemmas
+pub mod EngineLemmas

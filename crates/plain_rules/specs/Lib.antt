@@ -2,3 +2,7 @@ pub mod Rules
 pub mod Known
 pub mod Words
 pub mod Starts
+pub mod Bodies
+pub mod Handled
+pub mod Outcomes
+pub mod Signs

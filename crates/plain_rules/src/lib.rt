@@ -4,14 +4,32 @@
 
 mod characters;
 mod definitions;
+mod engine;
+mod evaluation;
+mod handling;
 mod made;
 mod names;
 mod nodes;
+mod offering;
 mod operators;
+mod outcomes;
+mod drawing;
 mod rules;
 mod same;
+mod signs;
 mod stops;
+#[cfg(test)]
+mod tests;
 mod values;
+mod interface;
 
+pub use engine::{failing, normalise, settle, stride};
+pub use evaluation::evaluate_task;
+pub use handling::{handle, interact};
+pub use offering::offers;
+pub use outcomes::{Outcome, judge};
+pub use drawing::page;
 pub use rules::Rules;
+pub use signs::{side_sign, step_sign};
 pub use values::evaluate_value;
+pub use interface::widgets;

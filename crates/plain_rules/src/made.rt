@@ -1,5 +1,5 @@
-ghost use Rattle.std.specs.Prelude.{◌≡◌, ◌++◌, [], ◌∷◌, map, slice_get, slice_set, IfOk};
-ghost use Rattle.std.specs.Option.{is_some, option_map, option_or};
+ghost use Rattle.std.specs.Prelude.{◌≡◌, ◌++◌, [], ◌∷◌, map, slice_get, slice_set, IfOk, if◌then◌else◌};
+ghost use Rattle.std.specs.Option.{is_some, option_map};
 ghost use Rattle.task_model.specs.Basic.{basic_term};
 ghost use Rattle.task_model.specs.Value as values;
 ghost use Rattle.task_model.specs.Value.{value_term};
@@ -143,7 +143,6 @@ pub(crate) fn has_value(t: &Tree, store: &[Value]) -> bool
 }
 
 /// The value that a tree has over a store.
-#[cycle(value_of)]
 pub(crate) fn value_of(
     alloc: Global,
     t: &Tree,
@@ -154,8 +153,18 @@ pub(crate) fn value_of(
     match t {
         Tree::Edit(_, v) => Ok(Some(copy_value(alloc, v)?)),
         Tree::Share(_, place) => value_at_place(alloc, *place, store),
-        Tree::And(a, b) => value_of_both(alloc, a, b, store),
-        Tree::Or(a, b) => value_of_either(alloc, a, b, store),
+        Tree::And(a, b) => {
+            let v = value_of(alloc, a, store)?;
+            let w = value_of(alloc, b, store)?;
+            paired(alloc, v, w)
+        }
+        Tree::Or(a, b) => {
+            if has_value(a, store) {
+                value_of(alloc, a, store)
+            } else {
+                value_of(alloc, b, store)
+            }
+        }
         Tree::Enter(_) => Ok(None),
         Tree::Then(..) => Ok(None),
         Tree::Next(..) => Ok(None),
@@ -171,20 +180,6 @@ fn value_at_place(alloc: Global, place: u64, store: &[Value]) -> Result<Option<V
         Some(v) => Ok(Some(copy_value(alloc, v)?)),
         None => Ok(None),
     }
-}
-
-#[cycle(value_of)]
-fn value_of_both(
-    alloc: Global,
-    a: &Tree,
-    b: &Tree,
-    store: &[Value],
-) -> Result<Option<Value>, OutOfMemory>
-    ensures { IfOk result (λ v. option_map value_term v ≡ rules.paired (rules.value_of (tree_term a.now) (map value_term store.now)) (rules.value_of (tree_term b.now) (map value_term store.now))) }
-{
-    let v = value_of(alloc, a, store)?;
-    let w = value_of(alloc, b, store)?;
-    paired(alloc, v, w)
 }
 
 fn paired(
@@ -205,22 +200,6 @@ pub(crate) fn pair_value(alloc: Global, v: Value, w: Value) -> Result<Value, Out
     ensures { IfOk result (λ p. value_term p ≡ values.pair_value (value_term v) (value_term w)) }
 {
     Ok(Value::Pair(boxed(alloc, v)?, boxed(alloc, w)?))
-}
-
-#[cycle(value_of)]
-fn value_of_either(
-    alloc: Global,
-    a: &Tree,
-    b: &Tree,
-    store: &[Value],
-) -> Result<Option<Value>, OutOfMemory>
-    ensures { IfOk result (λ v. option_map value_term v ≡ option_or (rules.value_of (tree_term a.now) (map value_term store.now)) (rules.value_of (tree_term b.now) (map value_term store.now))) }
-{
-    if has_value(a, store) {
-        value_of(alloc, a, store)
-    } else {
-        value_of(alloc, b, store)
-    }
 }
 
 /// The slots of a body with one value more.
@@ -247,8 +226,19 @@ pub(crate) fn replaced(
 {
     let mut all = Row::new(alloc);
     for (i, held) in store.iter().enumerate() {
-        let copy = copy_value(alloc, if i as u64 == place { v } else { held })?;
+        let copy = copy_either(alloc, i as u64 == place, v, held)?;
         all.push(copy)?;
     }
     Ok(all)
+}
+
+fn copy_either(
+    alloc: Global,
+    first: bool,
+    v: &Value,
+    w: &Value,
+) -> Result<Value, OutOfMemory>
+    ensures { IfOk result (λ copy. value_term copy ≡ (if first then value_term v.now else value_term w.now)) }
+{
+    if first { copy_value(alloc, v) } else { copy_value(alloc, w) }
 }

@@ -46,14 +46,30 @@ fn nodes_in(counts: &[u64], from: usize, t: &Task) -> Result<u64, OutOfMemory>
         Task::Call { .. } => Ok(0),
         Task::Then { left, body } => nodes_then(counts, from, left, *body),
         Task::Next { left, body } => nodes_then(counts, from, left, *body),
-        Task::And(a, b) => nodes_both(counts, from, a, b),
-        Task::Or(a, b) => nodes_both(counts, from, a, b),
+        Task::And(a, b) => {
+            let n = nodes_in(counts, from, a)?;
+            let m = nodes_in(counts, from, b)?;
+            added(n, m)
+        }
+        Task::Or(a, b) => {
+            let n = nodes_in(counts, from, a)?;
+            let m = nodes_in(counts, from, b)?;
+            added(n, m)
+        }
         Task::Xor { left, right } => {
             added(body_nodes(counts, from, *left), body_nodes(counts, from, *right))
         }
         Task::Let { rest, .. } => nodes_in(counts, from, rest),
-        Task::If { yes, no, .. } => nodes_both(counts, from, yes, no),
-        Task::Case { empty, more, .. } => nodes_both(counts, from, empty, more),
+        Task::If { yes, no, .. } => {
+            let n = nodes_in(counts, from, yes)?;
+            let m = nodes_in(counts, from, no)?;
+            added(n, m)
+        }
+        Task::Case { empty, more, .. } => {
+            let n = nodes_in(counts, from, empty)?;
+            let m = nodes_in(counts, from, more)?;
+            added(n, m)
+        }
         Task::New { rest, .. } => nodes_in(counts, from, rest),
         Task::Put { rest, .. } => nodes_in(counts, from, rest),
     }
@@ -65,15 +81,6 @@ fn nodes_then(counts: &[u64], from: usize, t: &Task, body: u32) -> Result<u64, O
 {
     let n = nodes_in(counts, from, t)?;
     added(n, body_nodes(counts, from, body))
-}
-
-#[cycle(nodes)]
-fn nodes_both(counts: &[u64], from: usize, t: &Task, u: &Task) -> Result<u64, OutOfMemory>
-    ensures { IfOk result (λ n. n ≡ checked.nodes_in counts.now from (task_term t.now) + checked.nodes_in counts.now from (task_term u.now)) }
-{
-    let n = nodes_in(counts, from, t)?;
-    let m = nodes_in(counts, from, u)?;
-    added(n, m)
 }
 
 // How many nodes each body has, from a number on.
@@ -142,6 +149,14 @@ pub(crate) fn nodes_before(
     Ok(first)
 }
 
+// How many nodes stand before what follows a task.
+fn next_after(alloc: Global, program: &Program, first: u64, t: &Task) -> Result<u64, OutOfMemory>
+    ensures { IfOk result (λ n. n ≡ first + checked.nodes_of (program_term program.now) (task_term t.now)) }
+{
+    let own = nodes_of(alloc, program, t)?;
+    added(first, own)
+}
+
 // The bodies that stand in a task, behind those that are there.
 #[cycle(starts)]
 fn starts_in(
@@ -161,14 +176,30 @@ fn starts_in(
         Task::Call { .. } => Ok(()),
         Task::Then { left, body } => starts_then(alloc, program, first, left, *body, starts),
         Task::Next { left, body } => starts_then(alloc, program, first, left, *body, starts),
-        Task::And(a, b) => starts_both(alloc, program, first, a, b, starts),
-        Task::Or(a, b) => starts_both(alloc, program, first, a, b, starts),
+        Task::And(a, b) => {
+            starts_in(alloc, program, first, a, starts)?;
+            let next = next_after(alloc, program, first, a)?;
+            starts_in(alloc, program, next, b, starts)
+        }
+        Task::Or(a, b) => {
+            starts_in(alloc, program, first, a, starts)?;
+            let next = next_after(alloc, program, first, a)?;
+            starts_in(alloc, program, next, b, starts)
+        }
         Task::Xor { left, right } => {
             starts_sides(alloc, program, first, *left, *right, starts)
         }
         Task::Let { rest, .. } => starts_in(alloc, program, first, rest, starts),
-        Task::If { yes, no, .. } => starts_both(alloc, program, first, yes, no, starts),
-        Task::Case { empty, more, .. } => starts_both(alloc, program, first, empty, more, starts),
+        Task::If { yes, no, .. } => {
+            starts_in(alloc, program, first, yes, starts)?;
+            let next = next_after(alloc, program, first, yes)?;
+            starts_in(alloc, program, next, no, starts)
+        }
+        Task::Case { empty, more, .. } => {
+            starts_in(alloc, program, first, empty, starts)?;
+            let next = next_after(alloc, program, first, empty)?;
+            starts_in(alloc, program, next, more, starts)
+        }
         Task::New { rest, .. } => starts_in(alloc, program, first, rest, starts),
         Task::Put { rest, .. } => starts_in(alloc, program, first, rest, starts),
     }
@@ -186,26 +217,8 @@ fn starts_then(
     ensures { OnOk result (map words.start_term starts.new.list ≡ map words.start_term starts.old.list ++ (checked.starts_in (program_term program.now) first (task_term t.now) ++ record { body = body; first = first + checked.nodes_of (program_term program.now) (task_term t.now) } ∷ [])) }
 {
     starts_in(alloc, program, first, t, starts)?;
-    let own = nodes_of(alloc, program, t)?;
-    let first = added(first, own)?;
+    let first = next_after(alloc, program, first, t)?;
     starts.push(Start { body, first })
-}
-
-#[cycle(starts)]
-fn starts_both(
-    alloc: Global,
-    program: &Program,
-    first: u64,
-    t: &Task,
-    u: &Task,
-    starts: &mut Row<Start>,
-) -> Result<(), OutOfMemory>
-    ensures { OnOk result (map words.start_term starts.new.list ≡ map words.start_term starts.old.list ++ (checked.starts_in (program_term program.now) first (task_term t.now) ++ checked.starts_in (program_term program.now) (first + checked.nodes_of (program_term program.now) (task_term t.now)) (task_term u.now))) }
-{
-    starts_in(alloc, program, first, t, starts)?;
-    let own = nodes_of(alloc, program, t)?;
-    let first = added(first, own)?;
-    starts_in(alloc, program, first, u, starts)
 }
 
 fn starts_sides(

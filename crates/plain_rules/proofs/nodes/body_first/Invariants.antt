@@ -1,4 +1,4 @@
-use Rattle.std.proofs.Common.{◌≡◌, ◌++◌, map, length}
+use Rattle.std.proofs.Common.{◌≡◌, map, length}
 use Rattle.task_model.specs.Task.{body_term}
 use Rattle.task_model.specs.Program.{def_term, program_term}
 use Rattle.task_model.specs.Checked.{defs_starts, all_starts}
