@@ -6,3 +6,5 @@ pub mod EqualLemmas
 pub mod RunLemmas
 pub mod TaskLemmas
 pub mod EngineLemmas
+pub mod HandlingLemmas
+pub mod OutcomeLemmas

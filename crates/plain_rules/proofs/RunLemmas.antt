@@ -162,17 +162,17 @@ strict_is c o a b env σ e = op_is c o a b env σ ∙ ap (λ z. op_plan o z a b 
 
 -- ---- several expressions
 pub values_next : {c : CheckedTerm} {Y : Type 0} (env : EnvTerm) (σ done : List ValueTerm) (rest : List host.Host) (item : host.Host) {view : Y → List ValueTerm} {old new : Left} {r : Result Y Stop} → 1 ≤ length rest → item ≡ get_or rest 0 item
-  → Ran c (ask (gives_value (host_term item) env σ) (λ v. values_for env σ (done ++ v ∷ []) (as_exprs (map host_term (take (length rest - 1) (drop 1 rest)))))) view old new r → Ran c (values_for env σ done (as_exprs (map host_term rest))) view old new r
+    → Ran c (ask (gives_value (host_term item) env σ) (λ v. values_for env σ (done ++ v ∷ []) (as_exprs (map host_term (take (length rest - 1) (drop 1 rest)))))) view old new r → Ran c (values_for env σ done (as_exprs (map host_term rest))) view old new r
 values_next {c = c} env σ done rest item {view = view} {old = old} {new = new} {r = r} le e a =
     subst (λ es. Ran c (values_for env σ done (as_exprs (map host_term es))) view old new r) (sym (in_front rest item le e)) a
 
 pub values_more : {c : CheckedTerm} {Y : Type 0} (env : EnvTerm) (σ : List ValueTerm) (es : HostTerms) (done more : List value.Value) (v : value.Value) {view : Y → List ValueTerm} {old new : Left} {r : Result Y Stop} → more ≡ done ++ v ∷ []
-  → Ran c (values_for env σ (map value_term more) es) view old new r → Ran c (values_for env σ (map value_term done ++ value_term v ∷ []) es) view old new r
+    → Ran c (values_for env σ (map value_term more) es) view old new r → Ran c (values_for env σ (map value_term done ++ value_term v ∷ []) es) view old new r
 values_more {c = c} env σ es done more v {view = view} {old = old} {new = new} {r = r} e a =
     subst (λ ws. Ran c (values_for env σ ws es) view old new r) (ap (map value_term) e ∙ map-append value_term done (v ∷ [])) a
 
 pub values_end : {c : CheckedTerm} {Y : Type 0} (env : EnvTerm) (σ done : List ValueTerm) (rest : List host.Host) {view : Y → List ValueTerm} {old new : Left} {r : Result Y Stop} → length rest < 1
-  → Ran c (give done) view old new r → Ran c (values_for env σ done (as_exprs (map host_term rest))) view old new r
+    → Ran c (give done) view old new r → Ran c (values_for env σ done (as_exprs (map host_term rest))) view old new r
 values_end {c = c} env σ done rest {view = view} {old = old} {new = new} {r = r} lt a =
     subst (λ es. Ran c (values_for env σ done (as_exprs (map host_term es))) view old new r) (sym (empty rest lt)) a
 
@@ -197,15 +197,15 @@ abbrev pub tail_of : {X : Type 0} → List X → List X
 tail_of xs = take (length xs - 1) (drop 1 xs)
 
 pub slots_next : {c : CheckedTerm} {Y : Type 0} (env : EnvTerm) (σ : List ValueTerm) (done : List SlotTerm) (args : List host.Host) (params : List Param) (arg : host.Host) (param : Param) {view : Y → List SlotTerm} {old new : Left} {r : Result Y Stop}
-  → 1 ≤ length args → arg ≡ get_or args 0 arg → 1 ≤ length params → param ≡ get_or params 0 param
-  → Ran c (after (slot_for env σ (host_term arg) (kind_term param.kind) give) (λ s. slots_for env σ (done ++ s ∷ []) (map host_term (tail_of args)) (map param_term (tail_of params)))) view old new r → Ran c (slots_for env σ done (map host_term args) (map param_term params)) view old new r
+    → 1 ≤ length args → arg ≡ get_or args 0 arg → 1 ≤ length params → param ≡ get_or params 0 param
+    → Ran c (after (slot_for env σ (host_term arg) (kind_term param.kind) give) (λ s. slots_for env σ (done ++ s ∷ []) (map host_term (tail_of args)) (map param_term (tail_of params)))) view old new r → Ran c (slots_for env σ done (map host_term args) (map param_term params)) view old new r
 slots_next {c = c} env σ done args params arg param {view = view} {old = old} {new = new} {r = r} le e le' e' a =
     subst (λ es. Ran c (slots_for env σ done (map host_term es) (map param_term params)) view old new r) (sym (in_front args arg le e))
     (subst (λ qs. Ran c (slots_for env σ done (map host_term (arg ∷ tail_of args)) (map param_term qs)) view old new r) (sym (in_front params param le' e'))
     (ran_is (slot_after env σ (host_term arg) (kind_term param.kind) (λ s. slots_for env σ (done ++ s ∷ []) (map host_term (tail_of args)) (map param_term (tail_of params)))) a))
 
 pub slots_more : {c : CheckedTerm} {Y : Type 0} (env : EnvTerm) (σ : List ValueTerm) (es : List HostTerm) (qs : List ParamTerm) (done more : List Slot) (s : Slot) {view : Y → List SlotTerm} {old new : Left} {r : Result Y Stop} → more ≡ done ++ s ∷ []
-  → Ran c (slots_for env σ (map slot_term more) es qs) view old new r → Ran c (slots_for env σ (map slot_term done ++ slot_term s ∷ []) es qs) view old new r
+    → Ran c (slots_for env σ (map slot_term more) es qs) view old new r → Ran c (slots_for env σ (map slot_term done ++ slot_term s ∷ []) es qs) view old new r
 slots_more {c = c} env σ es qs done more s {view = view} {old = old} {new = new} {r = r} e a =
     subst (λ ws. Ran c (slots_for env σ ws es qs) view old new r) (ap (map slot_term) e ∙ map-append slot_term done (s ∷ [])) a
 

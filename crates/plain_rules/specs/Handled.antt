@@ -3,13 +3,9 @@ use Rattle.std.specs.Prelude.{ℕ, Bool, true, false, List, [], ◌∷◌, Optio
 use Rattle.task_model.specs.Basic.{BasicTerm}
 use Rattle.task_model.specs.Value.{ValueTerm, value_has}
 use Rattle.task_model.specs.Tree.{TreeTerm, edit_tree, share_tree, and_tree, or_tree, State, at}
-use Rattle.task_model.specs.Input.{ActTerm, set_act, next_act}
+use Rattle.task_model.specs.Input.{ActTerm, set_act}
 use Rattle.task_model.specs.declared.input.Turn.{Turn}
 use Rattle.task_model.specs.declared.input.Turn.TheVariants as turns
-
-abbrev pub stops_at : List Turn → ActTerm → Bool
-stops_at [] next_act = true
-stops_at path act = false
 
 abbrev pub edited_to : BasicTerm → ValueTerm → Option TreeTerm
 edited_to b v = if value_has v b then Some (edit_tree b v) else None

@@ -75,11 +75,7 @@ fn cut(text: &str) -> &str
     ensures { result.now ≡ cut_text text.now }
 {
     let end = fitting(text.as_bytes());
-    if end == 0 {
-        ""
-    } else {
-        &text[..end]
-    }
+    if end == 0 { "" } else { &text[..end] }
 }
 
 fn fitting(bytes: &[u8]) -> usize

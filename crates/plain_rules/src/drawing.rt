@@ -1,4 +1,4 @@
-ghost use Rattle.std.specs.Prelude.{◌≡◌, ◌++◌, ◌∷◌, [], map, codes, string_bytes, IfOk, OnOk};
+ghost use Rattle.std.specs.Prelude.{◌≡◌, ◌++◌, ◌∷◌, [], map, ◌<◌, codes, IfOk, OnOk};
 ghost use Rattle.task_model.specs.Basic.{basic_term};
 ghost use Rattle.task_model.specs.Value.{text_value, list_value, as_values, value_term};
 ghost use Rattle.task_model.specs.Literal as literals;
@@ -7,7 +7,7 @@ ghost use Rattle.task_model.specs.Page as model;
 
 use itoa::Buffer;
 use std::alloc::Global;
-use task_model::{Basic, OutOfMemory, Shape, Sign, TaskText, Turn, Value, Widget};
+use task_model::{Basic, OutOfMemory, Row, Shape, Sign, TaskText, Turn, Value, Widget};
 
 /// The terminal page of widgets (docs/FORMATS.md, "Pages").
 pub fn page(
@@ -15,26 +15,31 @@ pub fn page(
     version: u64,
     seat: u8,
     widgets: &[Widget],
-) -> Result<TaskText, OutOfMemory>
-    ensures { IfOk result (λ text. text ≡ model.page_text version seat (map widget_term widgets.now)) }
-{
-    let mut text = String::new(alloc);
+) -> Result<TaskText, OutOfMemory> {
+    let mut text = Row::new(alloc);
     push_head(&mut text, version, seat)?;
     push_lines(&mut text, widgets)?;
-    Ok(TaskText::of_string(text))
+    text_of(alloc, text.as_slice())
 }
 
-fn push(text: &mut String, more: &str) -> Result<(), OutOfMemory>
-    ensures { OnOk result (string_bytes text.new ≡ string_bytes text.old ++ more.now) }
+// The text of these bytes. Bytes that are no text, which no page has, are want of memory.
+fn text_of(alloc: Global, bytes: &[u8]) -> Result<TaskText, OutOfMemory>
+    ensures { IfOk result (λ text. text ≡ bytes.now) }
 {
-    match text.push_str(more) {
-        Ok(()) => Ok(()),
+    match str::from_utf8(bytes) {
+        Ok(text) => TaskText::of(alloc, text),
         Err(_) => Err(OutOfMemory),
     }
 }
 
-fn push_head(text: &mut String, version: u64, seat: u8) -> Result<(), OutOfMemory>
-    ensures { OnOk result (string_bytes text.new ≡ string_bytes text.old ++ model.head_text version seat) }
+fn push(text: &mut Row<u8>, more: &str) -> Result<(), OutOfMemory>
+    ensures { OnOk result (text.new.list ≡ text.old.list ++ more.now) }
+{
+    text.extend(more.as_bytes())
+}
+
+fn push_head(text: &mut Row<u8>, version: u64, seat: u8) -> Result<(), OutOfMemory>
+    ensures { OnOk result (text.new.list ≡ text.old.list ++ model.head_text version seat) }
 {
     let mut number = Buffer::new();
     push(text, "version ")?;
@@ -44,9 +49,7 @@ fn push_head(text: &mut String, version: u64, seat: u8) -> Result<(), OutOfMemor
     push(text, "\n")
 }
 
-fn push_lines(text: &mut String, widgets: &[Widget]) -> Result<(), OutOfMemory>
-    ensures { OnOk result (string_bytes text.new ≡ string_bytes text.old ++ model.widget_lines (map widget_term widgets.now)) }
-{
+fn push_lines(text: &mut Row<u8>, widgets: &[Widget]) -> Result<(), OutOfMemory> {
     let mut rest = widgets;
     while let [widget, more @ ..] = rest {
         push_path(text, widget.path.turns.as_slice())?;
@@ -57,8 +60,8 @@ fn push_lines(text: &mut String, widgets: &[Widget]) -> Result<(), OutOfMemory>
     Ok(())
 }
 
-fn push_path(text: &mut String, turns: &[Turn]) -> Result<(), OutOfMemory>
-    ensures { OnOk result (string_bytes text.new ≡ string_bytes text.old ++ model.path_text turns.now) }
+fn push_path(text: &mut Row<u8>, turns: &[Turn]) -> Result<(), OutOfMemory>
+    ensures { OnOk result (text.new.list ≡ text.old.list ++ model.path_text turns.now) }
 {
     push(text, ".")?;
     let mut rest = turns;
@@ -69,8 +72,8 @@ fn push_path(text: &mut String, turns: &[Turn]) -> Result<(), OutOfMemory>
     Ok(())
 }
 
-fn push_turn(text: &mut String, turn: Turn) -> Result<(), OutOfMemory>
-    ensures { OnOk result (string_bytes text.new ≡ string_bytes text.old ++ model.turns_text (turn ∷ [])) }
+fn push_turn(text: &mut Row<u8>, turn: Turn) -> Result<(), OutOfMemory>
+    ensures { OnOk result (text.new.list ≡ text.old.list ++ model.turns_text (turn ∷ [])) }
 {
     match turn {
         Turn::First => push(text, "F"),
@@ -78,9 +81,7 @@ fn push_turn(text: &mut String, turn: Turn) -> Result<(), OutOfMemory>
     }
 }
 
-fn push_shape(text: &mut String, shape: &Shape) -> Result<(), OutOfMemory>
-    ensures { OnOk result (string_bytes text.new ≡ string_bytes text.old ++ model.shape_text (shape_term shape.now)) }
-{
+fn push_shape(text: &mut Row<u8>, shape: &Shape) -> Result<(), OutOfMemory> {
     match shape {
         Shape::Edit(b, v) => {
             push(text, " edit ")?;
@@ -110,8 +111,8 @@ fn push_shape(text: &mut String, shape: &Shape) -> Result<(), OutOfMemory>
     }
 }
 
-fn push_sign(text: &mut String, word: &str, sign: Sign) -> Result<(), OutOfMemory>
-    ensures { OnOk result (string_bytes text.new ≡ string_bytes text.old ++ model.sign_text word.now sign) }
+fn push_sign(text: &mut Row<u8>, word: &str, sign: Sign) -> Result<(), OutOfMemory>
+    ensures { OnOk result (text.new.list ≡ text.old.list ++ model.sign_text word.now sign) }
 {
     match sign {
         Sign::No => Ok(()),
@@ -127,17 +128,15 @@ fn push_sign(text: &mut String, word: &str, sign: Sign) -> Result<(), OutOfMemor
     }
 }
 
-fn push_typed(text: &mut String, b: &Basic, v: &Value) -> Result<(), OutOfMemory>
-    ensures { OnOk result (string_bytes text.new ≡ string_bytes text.old ++ (literals.basic_text (basic_term b.now) ++ codes " " ++ literals.value_text (value_term v.now))) }
-{
+fn push_typed(text: &mut Row<u8>, b: &Basic, v: &Value) -> Result<(), OutOfMemory> {
     push_basic(text, b)?;
     push(text, " ")?;
     push_value(text, v)
 }
 
 /// Appends the name of a type.
-pub(crate) fn push_basic(text: &mut String, b: &Basic) -> Result<(), OutOfMemory>
-    ensures { OnOk result (string_bytes text.new ≡ string_bytes text.old ++ literals.basic_text (basic_term b.now)) }
+pub(crate) fn push_basic(text: &mut Row<u8>, b: &Basic) -> Result<(), OutOfMemory>
+    ensures { OnOk result (text.new.list ≡ text.old.list ++ literals.basic_text (basic_term b.now)) }
 {
     match b {
         Basic::Unit => push(text, "unit"),
@@ -161,9 +160,7 @@ pub(crate) fn push_basic(text: &mut String, b: &Basic) -> Result<(), OutOfMemory
 
 /// Appends the literal of a value.
 #[cycle(literal)]
-pub(crate) fn push_value(text: &mut String, v: &Value) -> Result<(), OutOfMemory>
-    ensures { OnOk result (string_bytes text.new ≡ string_bytes text.old ++ literals.value_text (value_term v.now)) }
-{
+pub(crate) fn push_value(text: &mut Row<u8>, v: &Value) -> Result<(), OutOfMemory> {
     match v {
         Value::Unit => push(text, "()"),
         Value::Bool(true) => push(text, "true"),
@@ -185,61 +182,62 @@ pub(crate) fn push_value(text: &mut String, v: &Value) -> Result<(), OutOfMemory
 }
 
 #[cycle(literal)]
-fn push_list(text: &mut String, items: &[Value]) -> Result<(), OutOfMemory>
-    ensures { OnOk result (string_bytes text.new ≡ string_bytes text.old ++ literals.value_text (list_value (as_values (map value_term items.now)))) }
-{
-    match items {
-        [] => push(text, "[]"),
-        [first, rest @ ..] => {
-            push(text, "[")?;
-            push_value(text, first)?;
-            for item in rest {
-                push(text, ", ")?;
-                push_value(text, item)?;
-            }
-            push(text, "]")
+fn push_list(text: &mut Row<u8>, items: &[Value]) -> Result<(), OutOfMemory> {
+    push(text, "[")?;
+    for (i, item) in items.iter().enumerate() {
+        if i > 0 {
+            push(text, ", ")?;
         }
+        push_value(text, item)?;
     }
+    push(text, "]")
 }
 
-fn push_text(text: &mut String, t: &TaskText) -> Result<(), OutOfMemory>
-    ensures { OnOk result (string_bytes text.new ≡ string_bytes text.old ++ literals.value_text (text_value t.now)) }
+fn push_text(text: &mut Row<u8>, t: &TaskText) -> Result<(), OutOfMemory>
+    ensures { OnOk result (text.new.list ≡ text.old.list ++ literals.value_text (text_value t.now)) }
 {
     push(text, "\"")?;
-    for c in t.as_str().chars() {
-        push_escaped(text, c)?;
-    }
+    push_escaped(text, t.as_str().as_bytes())?;
     push(text, "\"")
 }
 
-fn push_escaped(text: &mut String, c: char) -> Result<(), OutOfMemory> {
-    match c {
-        '"' => push(text, "\\\""),
-        '\\' => push(text, "\\\\"),
-        '\n' => push(text, "\\n"),
-        '\t' => push(text, "\\t"),
-        '\r' => push(text, "\\r"),
-        c if (c as u32) < 32 || c as u32 == 127 => push_control(text, c as u8),
-        c => match text.push(c) {
-            Ok(()) => Ok(()),
-            Err(_) => Err(OutOfMemory),
-        },
-    }
-}
-
-fn push_control(text: &mut String, byte: u8) -> Result<(), OutOfMemory> {
-    push(text, "\\x")?;
-    push_digit(text, byte / 16)?;
-    push_digit(text, byte % 16)
-}
-
-fn push_digit(text: &mut String, digit: u8) -> Result<(), OutOfMemory>
+fn push_escaped(text: &mut Row<u8>, bytes: &[u8]) -> Result<(), OutOfMemory>
+    ensures { OnOk result (text.new.list ≡ text.old.list ++ literals.escaped_all bytes.now) }
 {
-    match char::from_digit(digit as u32, 16) {
-        Some(c) => match text.push(c) {
-            Ok(()) => Ok(()),
-            Err(_) => Err(OutOfMemory),
-        },
-        None => Ok(()),
+    let mut rest = bytes;
+    while let [byte, more @ ..] = rest {
+        push_byte(text, *byte)?;
+        rest = more;
     }
+    Ok(())
+}
+
+fn push_byte(text: &mut Row<u8>, byte: u8) -> Result<(), OutOfMemory>
+    ensures { OnOk result (text.new.list ≡ text.old.list ++ literals.escaped byte) }
+{
+    if byte == 34 {
+        push(text, "\\\"")
+    } else if byte == 92 {
+        push(text, "\\\\")
+    } else if byte == 10 {
+        push(text, "\\n")
+    } else if byte == 9 {
+        push(text, "\\t")
+    } else if byte == 13 {
+        push(text, "\\r")
+    } else if byte < 32 {
+        push(text, "\\x")?;
+        text.extend(&[hex_digit(byte / 16), hex_digit(byte % 16)])
+    } else if byte == 127 {
+        push(text, "\\x7f")
+    } else {
+        text.extend(&[byte])
+    }
+}
+
+fn hex_digit(n: u8) -> u8
+    requires { n < 16 }
+    ensures { result ≡ literals.hex_digit n }
+{
+    if n < 10 { 48 + n } else { 87 + n }
 }

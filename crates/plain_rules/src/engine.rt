@@ -20,7 +20,8 @@ use crate::same::same_state;
 use crate::stops::memory;
 use std::alloc::Global;
 use task_model::{
-    Body, Cont, Delay, Env, Purse, Row, Slot, Stop, Task, Tree, Value, copy_slots, copy_tree, copy_values,
+    Body, Cont, Delay, Env, Purse, Row, Slot, Stop, Task, Tree, Value, copy_slots, copy_tree,
+    copy_values,
 };
 
 /// Whether a tree is failing. The store stays.

@@ -99,7 +99,9 @@ fn evaluate_form(
             head,
             tail,
             more,
-        } => case_form(alloc, rules, list, empty, head, tail, more, env, store, purse),
+        } => case_form(
+            alloc, rules, list, empty, head, tail, more, env, store, purse,
+        ),
         Task::New { name, init, rest } => {
             new_form(alloc, rules, name, init, rest, env, store, purse)
         }

@@ -1,8 +1,9 @@
-ghost use Rattle.std.specs.Prelude.{◌≡◌, map, OnOk, IfOk, Some};
+ghost use Rattle.std.specs.Prelude.{◌≡◌, [], ◌∷◌, ◌++◌, map, OnOk, IfOk, Some};
 ghost use Rattle.std.specs.Option.{option_map};
 ghost use Rattle.task_model.specs.Basic.{basic_term};
 ghost use Rattle.task_model.specs.Value.{value_term};
-ghost use Rattle.task_model.specs.Env.{slot_term};
+ghost use Rattle.task_model.specs.Env.{plain_slot, slot_term};
+ghost use Rattle.task_model.specs.Rules.{value_of};
 ghost use Rattle.task_model.specs.Tree as trees;
 ghost use Rattle.task_model.specs.Tree.{cont_term, delay_term, tree_term, at};
 ghost use Rattle.task_model.specs.Input.{act_term, input_term};
@@ -13,7 +14,7 @@ ghost use Rattle.plain_rules.specs.Rules.{rules_term};
 ghost use Rattle.plain_rules.specs.Handled as words;
 
 use crate::engine::{fails_at, normal_body, settle_at};
-use crate::made::{and_tree, has_value, next_tree, or_tree, replaced, then_tree, value_of, with_value};
+use crate::made::{and_tree, next_tree, or_tree, replaced, then_tree, value_of, with_value};
 use crate::rules::Rules;
 use crate::stops::memory;
 use std::alloc::Global;
@@ -33,7 +34,15 @@ pub fn handle(
 ) -> Result<Option<Tree>, Stop>
     ensures { Spends (model.Handled (rules_term rules.now) (at (tree_term t.now) (map value_term store.old.list)) (input_term input.now)) (option_map (λ u. at (tree_term u) (map value_term store.new.list))) purse.old purse.new result }
 {
-    handled(alloc, rules, t, store, input.path.turns.as_slice(), &input.act, purse)
+    handled(
+        alloc,
+        rules,
+        t,
+        store,
+        input.path.turns.as_slice(),
+        &input.act,
+        purse,
+    )
 }
 
 /// Handles an input, and settles the state that it leads to.
@@ -60,7 +69,15 @@ fn interacted(
 ) -> Result<Option<Tree>, Stop>
     ensures { Ran (rules_term rules.now) (model.interacts (rules_term rules.now) (at (tree_term t.now) (map value_term store.old.list)) (input_term input.now)) (option_map (λ u. at (tree_term u) (map value_term store.new.list))) purse.old purse.new result }
 {
-    let led = handled(alloc, rules, t, store, input.path.turns.as_slice(), &input.act, purse)?;
+    let led = handled(
+        alloc,
+        rules,
+        t,
+        store,
+        input.path.turns.as_slice(),
+        &input.act,
+        purse,
+    )?;
     match led {
         None => Ok(None),
         Some(u) => settled(alloc, rules, u, store, purse),
@@ -102,11 +119,13 @@ fn handled(
             memory(then_rebuilt(alloc, led, k))
         }
         Tree::Next(left, k) => {
-            if stops_at(path, act) && has_value(left, store.as_slice()) {
-                stepped(alloc, rules, left, k, store, purse)
-            } else {
-                let led = handled(alloc, rules, left, store, path, act, purse)?;
-                memory(next_rebuilt(alloc, led, k))
+            let stopped = memory(stopped(alloc, left, store.as_slice(), path, act))?;
+            match stopped {
+                Some(v) => stepped(alloc, rules, v, k, store, purse),
+                None => {
+                    let led = handled(alloc, rules, left, store, path, act, purse)?;
+                    memory(next_rebuilt(alloc, led, k))
+                }
             }
         }
         Tree::Fail => Ok(None),
@@ -136,23 +155,24 @@ fn handled(
     }
 }
 
-// Whether a Next act is at the end of its path.
-fn stops_at(path: &[Turn], act: &Act) -> bool
-    ensures { result ≡ words.stops_at path.now (act_term act.now) }
+// The value at which a Next act stops at a user step: its path is used up there.
+fn stopped(
+    alloc: Global,
+    left: &Tree,
+    store: &[Value],
+    path: &[Turn],
+    act: &Act,
+) -> Result<Option<Value>, OutOfMemory>
+    ensures { IfOk result (λ v. option_map value_term v ≡ model.stopped path.now (act_term act.now) (value_of (tree_term left.now) (map value_term store.now))) }
 {
     match (path, act) {
-        ([], Act::Next) => true,
-        _ => false,
+        ([], Act::Next) => value_of(alloc, left, store),
+        _ => Ok(None),
     }
 }
 
 // An editor of a type with the value of an input.
-fn edited(
-    alloc: Global,
-    b: &Basic,
-    path: &[Turn],
-    act: &Act,
-) -> Result<Option<Tree>, OutOfMemory>
+fn edited(alloc: Global, b: &Basic, path: &[Turn], act: &Act) -> Result<Option<Tree>, OutOfMemory>
     ensures { IfOk result (λ o. option_map tree_term o ≡ words.edited (basic_term b.now) path.now (act_term act.now)) }
 {
     match (path, act) {
@@ -212,20 +232,16 @@ fn shared_to(
 fn stepped(
     alloc: Global,
     rules: &Rules,
-    left: &Tree,
+    v: Value,
     k: &Cont,
     store: &mut Row<Value>,
     purse: &mut Purse,
 ) -> Result<Option<Tree>, Stop>
+    ensures height { OnOk result (purse.new.height ≡ purse.old.height) }
+    ensures ran { Ran (rules_term rules.now) (model.unless_failing (rules_term rules.now) (cont_term k.now).body ((cont_term k.now).slots ++ plain_slot (value_term v) ∷ []) (map value_term store.old.list)) (option_map (λ u. at (tree_term u) (map value_term store.new.list))) purse.old purse.new result }
 {
-    let value = memory(value_of(alloc, left, store.as_slice()))?;
-    match value {
-        None => Ok(None),
-        Some(v) => {
-            let slots = memory(with_value(alloc, k.slots.as_slice(), v))?;
-            unless_failing(alloc, rules, k.body, slots, store, purse)
-        }
-    }
+    let slots = memory(with_value(alloc, k.slots.as_slice(), v))?;
+    unless_failing(alloc, rules, k.body, slots, store, purse)
 }
 
 // A side of a choice is picked.
@@ -239,6 +255,8 @@ fn picked(
     act: &Act,
     purse: &mut Purse,
 ) -> Result<Option<Tree>, Stop>
+    ensures height { OnOk result (purse.new.height ≡ purse.old.height) }
+    ensures ran { Ran (rules_term rules.now) (model.handled (rules_term rules.now) (trees.xor_tree (delay_term left.now) (delay_term right.now)) (map value_term store.old.list) path.now (act_term act.now)) (option_map (λ u. at (tree_term u) (map value_term store.new.list))) purse.old purse.new result }
 {
     match (path, act) {
         ([], Act::Left) => picked_side(alloc, rules, left, store, purse),
@@ -254,6 +272,8 @@ fn picked_side(
     store: &mut Row<Value>,
     purse: &mut Purse,
 ) -> Result<Option<Tree>, Stop>
+    ensures height { OnOk result (purse.new.height ≡ purse.old.height) }
+    ensures ran { Ran (rules_term rules.now) (model.unless_failing (rules_term rules.now) (delay_term side.now).body (delay_term side.now).slots (map value_term store.old.list)) (option_map (λ u. at (tree_term u) (map value_term store.new.list))) purse.old purse.new result }
 {
     let slots = memory(copy_slots(alloc, side.slots.as_slice()))?;
     unless_failing(alloc, rules, side.body, slots, store, purse)
@@ -273,18 +293,10 @@ fn unless_failing(
 {
     let t = normal_body(alloc, rules, body, slots, store, purse)?;
     let failing = fails_at(alloc, rules, &t, store.as_slice(), purse)?;
-    if failing {
-        Ok(None)
-    } else {
-        Ok(Some(t))
-    }
+    if failing { Ok(None) } else { Ok(Some(t)) }
 }
 
-fn then_rebuilt(
-    alloc: Global,
-    led: Option<Tree>,
-    k: &Cont,
-) -> Result<Option<Tree>, OutOfMemory>
+fn then_rebuilt(alloc: Global, led: Option<Tree>, k: &Cont) -> Result<Option<Tree>, OutOfMemory>
     ensures { IfOk result (λ o. option_map tree_term o ≡ option_map (λ t. trees.then_tree (tree_term t) (cont_term k.now)) led) }
 {
     match led {
@@ -293,11 +305,7 @@ fn then_rebuilt(
     }
 }
 
-fn next_rebuilt(
-    alloc: Global,
-    led: Option<Tree>,
-    k: &Cont,
-) -> Result<Option<Tree>, OutOfMemory>
+fn next_rebuilt(alloc: Global, led: Option<Tree>, k: &Cont) -> Result<Option<Tree>, OutOfMemory>
     ensures { IfOk result (λ o. option_map tree_term o ≡ option_map (λ t. trees.next_tree (tree_term t) (cont_term k.now)) led) }
 {
     match led {
@@ -322,17 +330,23 @@ fn beside(
     }
 }
 
-fn joined(
-    alloc: Global,
-    turn: Turn,
-    is_or: bool,
-    t: Tree,
-    other: Tree,
-) -> Result<Tree, OutOfMemory>
+fn joined(alloc: Global, turn: Turn, is_or: bool, t: Tree, other: Tree) -> Result<Tree, OutOfMemory>
     ensures { IfOk result (λ u. tree_term u ≡ words.beside turn is_or (tree_term t) (tree_term other)) }
 {
     match turn {
-        Turn::First => { if is_or { or_tree(alloc, t, other) } else { and_tree(alloc, t, other) } }
-        Turn::Second => { if is_or { or_tree(alloc, other, t) } else { and_tree(alloc, other, t) } }
+        Turn::First => {
+            if is_or {
+                or_tree(alloc, t, other)
+            } else {
+                and_tree(alloc, t, other)
+            }
+        }
+        Turn::Second => {
+            if is_or {
+                or_tree(alloc, other, t)
+            } else {
+                and_tree(alloc, other, t)
+            }
+        }
     }
 }

@@ -11,8 +11,8 @@ use crate::rules::Rules;
 use crate::signs::{side_sign, step_sign};
 use std::alloc::Global;
 use task_model::{
-    Basic, OutOfMemory, Path, Row, Shape, Tree, Turn, Value, Widget, copy_basic,
-    copy_turns, copy_value,
+    Basic, OutOfMemory, Path, Row, Shape, Tree, Turn, Value, Widget, copy_basic, copy_turns,
+    copy_value,
 };
 
 /// The widgets of a tree over a store: one for each node, in pre-order.
@@ -65,12 +65,7 @@ fn edit_shape(alloc: Global, b: &Basic, v: &Value) -> Result<Shape, OutOfMemory>
     Ok(Shape::Edit(b, copy_value(alloc, v)?))
 }
 
-fn share_shape(
-    alloc: Global,
-    b: &Basic,
-    place: u64,
-    store: &[Value],
-) -> Result<Shape, OutOfMemory>
+fn share_shape(alloc: Global, b: &Basic, place: u64, store: &[Value]) -> Result<Shape, OutOfMemory>
     ensures { IfOk result (λ s. shape_term s ≡ model.share_shape (basic_term b.now) (model.stored (map value_term store.now) place)) }
 {
     let b = copy_basic(alloc, b)?;

@@ -4,16 +4,17 @@
 
 mod characters;
 mod definitions;
+mod drawing;
 mod engine;
 mod evaluation;
 mod handling;
+mod interface;
 mod made;
 mod names;
 mod nodes;
 mod offering;
 mod operators;
 mod outcomes;
-mod drawing;
 mod rules;
 mod same;
 mod signs;
@@ -21,15 +22,14 @@ mod stops;
 #[cfg(test)]
 mod tests;
 mod values;
-mod interface;
 
+pub use drawing::page;
 pub use engine::{failing, normalise, settle, stride};
 pub use evaluation::evaluate_task;
 pub use handling::{handle, interact};
+pub use interface::widgets;
 pub use offering::offers;
 pub use outcomes::{Outcome, judge};
-pub use drawing::page;
 pub use rules::Rules;
 pub use signs::{side_sign, step_sign};
 pub use values::evaluate_value;
-pub use interface::widgets;

@@ -71,12 +71,7 @@ pub(crate) fn next_task(
 }
 
 /// An external choice between two bodies of the program.
-pub(crate) fn xor_task(
-    alloc: Global,
-    left: u32,
-    right: u32,
-    env: &Env,
-) -> Result<Tree, OutOfMemory>
+pub(crate) fn xor_task(alloc: Global, left: u32, right: u32, env: &Env) -> Result<Tree, OutOfMemory>
     ensures { IfOk result (λ t. tree_term t ≡ trees.xor_tree (rules.later left (env_term env.now)) (rules.later right (env_term env.now))) }
 {
     let left = later_delay(alloc, left, env)?;
@@ -110,12 +105,7 @@ pub(crate) fn or_tree(alloc: Global, a: Tree, b: Tree) -> Result<Tree, OutOfMemo
 }
 
 /// The second alone where it has a value, and else both.
-pub(crate) fn or_of(
-    alloc: Global,
-    a: Tree,
-    b: Tree,
-    store: &[Value],
-) -> Result<Tree, OutOfMemory>
+pub(crate) fn or_of(alloc: Global, a: Tree, b: Tree, store: &[Value]) -> Result<Tree, OutOfMemory>
     ensures { IfOk result (λ t. tree_term t ≡ rules.or_of (rules.value_of (tree_term b) (map value_term store.now)) (tree_term a) (tree_term b)) }
 {
     if has_value(&b, store) {
@@ -182,11 +172,7 @@ fn value_at_place(alloc: Global, place: u64, store: &[Value]) -> Result<Option<V
     }
 }
 
-fn paired(
-    alloc: Global,
-    v: Option<Value>,
-    w: Option<Value>,
-) -> Result<Option<Value>, OutOfMemory>
+fn paired(alloc: Global, v: Option<Value>, w: Option<Value>) -> Result<Option<Value>, OutOfMemory>
     ensures { IfOk result (λ p. option_map value_term p ≡ rules.paired (option_map value_term v) (option_map value_term w)) }
 {
     match (v, w) {
@@ -203,11 +189,7 @@ pub(crate) fn pair_value(alloc: Global, v: Value, w: Value) -> Result<Value, Out
 }
 
 /// The slots of a body with one value more.
-pub(crate) fn with_value(
-    alloc: Global,
-    slots: &[Slot],
-    v: Value,
-) -> Result<Row<Slot>, OutOfMemory>
+pub(crate) fn with_value(alloc: Global, slots: &[Slot], v: Value) -> Result<Row<Slot>, OutOfMemory>
     ensures { IfOk result (λ r. map slot_term r.list ≡ map slot_term slots.now ++ plain_slot (value_term v) ∷ []) }
 {
     let mut all = copy_slots(alloc, slots)?;
@@ -232,13 +214,12 @@ pub(crate) fn replaced(
     Ok(all)
 }
 
-fn copy_either(
-    alloc: Global,
-    first: bool,
-    v: &Value,
-    w: &Value,
-) -> Result<Value, OutOfMemory>
+fn copy_either(alloc: Global, first: bool, v: &Value, w: &Value) -> Result<Value, OutOfMemory>
     ensures { IfOk result (λ copy. value_term copy ≡ (if first then value_term v.now else value_term w.now)) }
 {
-    if first { copy_value(alloc, v) } else { copy_value(alloc, w) }
+    if first {
+        copy_value(alloc, v)
+    } else {
+        copy_value(alloc, w)
+    }
 }

@@ -89,7 +89,12 @@ pub(crate) fn env_at(alloc: Global, env: &Env, first: u64) -> Result<Env, OutOfM
 }
 
 /// The environment with one name more.
-pub(crate) fn bound(alloc: Global, env: &Env, name: &TaskText, slot: Slot) -> Result<Env, OutOfMemory>
+pub(crate) fn bound(
+    alloc: Global,
+    env: &Env,
+    name: &TaskText,
+    slot: Slot,
+) -> Result<Env, OutOfMemory>
     ensures { IfOk result (λ e. env_term e ≡ rules.bound (env_term env.now) name.now (slot_term slot)) }
 {
     let mut names = copy_texts(alloc, env.names.as_slice())?;

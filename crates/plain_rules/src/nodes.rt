@@ -57,7 +57,10 @@ fn nodes_in(counts: &[u64], from: usize, t: &Task) -> Result<u64, OutOfMemory>
             added(n, m)
         }
         Task::Xor { left, right } => {
-            added(body_nodes(counts, from, *left), body_nodes(counts, from, *right))
+            added(
+                body_nodes(counts, from, *left),
+                body_nodes(counts, from, *right),
+            )
         }
         Task::Let { rest, .. } => nodes_in(counts, from, rest),
         Task::If { yes, no, .. } => {
@@ -186,9 +189,7 @@ fn starts_in(
             let next = next_after(alloc, program, first, a)?;
             starts_in(alloc, program, next, b, starts)
         }
-        Task::Xor { left, right } => {
-            starts_sides(alloc, program, first, *left, *right, starts)
-        }
+        Task::Xor { left, right } => { starts_sides(alloc, program, first, *left, *right, starts) }
         Task::Let { rest, .. } => starts_in(alloc, program, first, rest, starts),
         Task::If { yes, no, .. } => {
             starts_in(alloc, program, first, yes, starts)?;

@@ -10,8 +10,8 @@ use crate::rules::Rules;
 use crate::signs::{side_sign, step_sign};
 use std::alloc::Global;
 use task_model::{
-    Answer, Basic, Offer, OfferKind, OutOfMemory, Path, Row, Sign, Tree, Turn, Value,
-    copy_basic, copy_turns,
+    Answer, Basic, Offer, OfferKind, OutOfMemory, Path, Row, Sign, Tree, Turn, Value, copy_basic,
+    copy_turns,
 };
 
 /// The offers of a tree over a store, in pre-order.
@@ -101,9 +101,11 @@ fn with_next(alloc: Global, sign: Sign, below: Row<Offer>) -> Result<Row<Offer>,
 {
     let mut all = Row::new(alloc);
     push_offered(alloc, &mut all, OfferKind::Next, sign)?;
-    for offer in below.as_slice() {
+    let mut rest = below.as_slice();
+    while let [offer, more @ ..] = rest {
         let copy = copy_offer(alloc, offer)?;
         all.push(copy)?;
+        rest = more;
     }
     Ok(all)
 }
@@ -146,8 +148,10 @@ pub(crate) fn turned_path(alloc: Global, turn: Turn, path: &Path) -> Result<Path
 {
     let mut turns = Row::new(alloc);
     turns.push(turn)?;
-    for own in path.turns.as_slice() {
+    let mut rest = path.turns.as_slice();
+    while let [own, more @ ..] = rest {
         turns.push(*own)?;
+        rest = more;
     }
     Ok(Path { turns })
 }

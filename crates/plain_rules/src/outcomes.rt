@@ -35,10 +35,7 @@ pub fn judge(
 {
     let mut trial = copy_values(alloc, store)?;
     match interact(alloc, rules, t, &mut trial, input, &mut Purse::new(budget)) {
-        Ok(Some(tree)) => Ok(Outcome::Taken {
-            tree,
-            store: trial,
-        }),
+        Ok(Some(tree)) => Ok(Outcome::Taken { tree, store: trial }),
         Ok(None) => Ok(Outcome::NotOffered),
         Err(Stop::Over) => Ok(Outcome::Over),
         Err(Stop::Memory) => Err(OutOfMemory),

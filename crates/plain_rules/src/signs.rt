@@ -1,4 +1,4 @@
-ghost use Rattle.std.specs.Prelude.{map, IfOk};
+ghost use Rattle.std.specs.Prelude.{map, IfOk, Some};
 ghost use Rattle.task_model.specs.Value.{value_term};
 ghost use Rattle.task_model.specs.Tree.{tree_term, cont_term, delay_term};
 ghost use Rattle.task_model.specs.Rules.{value_of};
@@ -15,7 +15,9 @@ use crate::made::{value_of, with_value};
 use crate::rules::Rules;
 use crate::stops::memory;
 use std::alloc::Global;
-use task_model::{Cont, Delay, OutOfMemory, Purse, Row, Sign, Slot, Stop, Tree, Value, copy_values};
+use task_model::{
+    Cont, Delay, OutOfMemory, Purse, Row, Sign, Slot, Stop, Tree, Value, copy_values,
+};
 
 /// The sign of a side of a choice: its own test, with a purse of the whole budget.
 pub fn side_sign(
@@ -44,11 +46,23 @@ pub fn step_sign(
     let value = value_of(alloc, left, store)?;
     match value {
         None => Ok(Sign::No),
-        Some(v) => {
-            let slots = with_value(alloc, k.slots.as_slice(), v)?;
-            sign_of(trial_fails(alloc, rules, k.body, slots, store, &mut Purse::new(budget)))
-        }
+        Some(v) => trial_sign(alloc, rules, budget, v, k, store),
     }
+}
+
+// The sign of a cont at a value.
+fn trial_sign(
+    alloc: Global,
+    rules: &Rules,
+    budget: u32,
+    v: Value,
+    k: &Cont,
+    store: &[Value],
+) -> Result<Sign, OutOfMemory>
+    ensures { IfOk result (λ s. IsStepSign (rules_term rules.now) budget (Some (value_term v)) (cont_term k.now) (map value_term store.now) s) }
+{
+    let slots = with_value(alloc, k.slots.as_slice(), v)?;
+    sign_of(trial_fails(alloc, rules, k.body, slots, store, &mut Purse::new(budget)))
 }
 
 // Whether a body with these slots is failing, over a copy of the store.

@@ -173,7 +173,14 @@ fn opened(alloc: Global, rules: Rules, budget: u32) -> Result<World, Stop> {
     };
     let mut store = Row::new(alloc);
     let main = stopped(call(alloc, "main"))?;
-    let tree = normalise(alloc, &rules, &main, &env, &mut store, &mut Purse::new(budget))?;
+    let tree = normalise(
+        alloc,
+        &rules,
+        &main,
+        &env,
+        &mut store,
+        &mut Purse::new(budget),
+    )?;
     Ok(World {
         rules,
         tree,
@@ -199,7 +206,11 @@ fn told<T>(made: Result<T, Stop>) -> Result<T, OutOfMemory> {
 fn path(alloc: Global, letters: &str) -> Result<Path, OutOfMemory> {
     let mut turns = Row::new(alloc);
     for letter in letters.chars() {
-        turns.push(if letter == 'F' { Turn::First } else { Turn::Second })?;
+        turns.push(if letter == 'F' {
+            Turn::First
+        } else {
+            Turn::Second
+        })?;
     }
     Ok(Path { turns })
 }
@@ -216,7 +227,14 @@ fn act(
         path: path(rt.alloc(), letters)?,
         act,
     };
-    let got = judge(rt.alloc(), &world.rules, BUDGET, &world.tree, world.store.as_slice(), &input)?;
+    let got = judge(
+        rt.alloc(),
+        &world.rules,
+        BUDGET,
+        &world.tree,
+        world.store.as_slice(),
+        &input,
+    )?;
     let said = match got {
         Outcome::Taken { tree, store } => {
             world.tree = tree;
@@ -242,12 +260,14 @@ fn set(
 }
 
 // Draws the page, which is to have these lines behind its first.
-fn shows(
-    rt: &(impl Abort + AllocGlobal),
-    world: &World,
-    want: &str,
-) -> Result<(), OutOfMemory> {
-    let shown = widgets(rt.alloc(), &world.rules, BUDGET, &world.tree, world.store.as_slice())?;
+fn shows(rt: &(impl Abort + AllocGlobal), world: &World, want: &str) -> Result<(), OutOfMemory> {
+    let shown = widgets(
+        rt.alloc(),
+        &world.rules,
+        BUDGET,
+        &world.tree,
+        world.store.as_slice(),
+    )?;
     let text = page(rt.alloc(), world.version, 1, shown.as_slice())?;
     assert_eq!(rt; text.as_str(), want);
     Ok(())
@@ -257,7 +277,11 @@ fn shows(
 fn one_step(alloc: Global, user: bool, body: Task, types: usize) -> Result<Rules, OutOfMemory> {
     let mut m = maker(alloc);
     let left = enter(Basic::Int);
-    let main = if user { next(alloc, left, 0)? } else { then(alloc, left, 0)? };
+    let main = if user {
+        next(alloc, left, 0)?
+    } else {
+        then(alloc, left, 0)?
+    };
     m.task(alloc, "main", main)?;
     m.body(alloc, &[], Some("x"), body)?;
     m.types(types)?;
@@ -283,7 +307,11 @@ fn steps(rt: HostRuntime) -> Result<(), Fail> {
     act(&rt, &mut w, "", Act::Next, "not offered")?;
     shows(&rt, &w, "version 1 seat 1\n. step\n. edit int 2\n")?;
 
-    let mut w = told(opened(alloc, one_step(alloc, false, x_above(alloc, 3)?, 1)?, BUDGET))?;
+    let mut w = told(opened(
+        alloc,
+        one_step(alloc, false, x_above(alloc, 3)?, 1)?,
+        BUDGET,
+    ))?;
     set(&rt, &mut w, "", 2, "taken")?;
     shows(&rt, &w, "version 1 seat 1\n. then\n. edit int 2\n")?;
     set(&rt, &mut w, "", 5, "taken")?;
@@ -326,14 +354,26 @@ fn stores(rt: HostRuntime) -> Result<(), Fail> {
     let mut w = told(opened(alloc, row_5(alloc)?, BUDGET))?;
     set(&rt, &mut w, "F", 0, "taken")?;
     act(&rt, &mut w, "F", Act::Next, "not offered")?;
-    shows(&rt, &w, "version 1 seat 1\n. and\n.F step\n.F edit int 0\n.S share int 7\n")?;
+    shows(
+        &rt,
+        &w,
+        "version 1 seat 1\n. and\n.F step\n.F edit int 0\n.S share int 7\n",
+    )?;
     set(&rt, &mut w, "F", 3, "taken")?;
     act(&rt, &mut w, "F", Act::Next, "taken")?;
-    shows(&rt, &w, "version 3 seat 1\n. and\n.F edit int 3\n.S share int 3\n")?;
+    shows(
+        &rt,
+        &w,
+        "version 3 seat 1\n. and\n.F edit int 3\n.S share int 3\n",
+    )?;
 
     let mut w = told(opened(alloc, row_6(alloc)?, BUDGET))?;
     set(&rt, &mut w, "F", 9, "taken")?;
-    shows(&rt, &w, "version 1 seat 1\n. and\n.F share int 9\n.S share int 9\n")?;
+    shows(
+        &rt,
+        &w,
+        "version 1 seat 1\n. and\n.F share int 9\n.S share int 9\n",
+    )?;
     Ok(())
 }
 
@@ -486,20 +526,25 @@ fn row_23(alloc: Global) -> Result<Rules, OutOfMemory> {
     })?;
     let posted = call_with(alloc, "post", named(alloc, "log")?)?;
     let both = and(alloc, posted, share(alloc, "log")?)?;
-    m.task(alloc, "main", new(alloc, "log", Host::Nil(Basic::Text), both)?)?;
+    m.task(
+        alloc,
+        "main",
+        new(alloc, "log", Host::Nil(Basic::Text), both)?,
+    )?;
     let read = Host::Read(name(alloc, "log")?);
     let longer = op(alloc, Op::Cons, named(alloc, "m")?, read)?;
     let again = call_with(alloc, "post", named(alloc, "log")?)?;
-    m.body(alloc, &["log"], Some("m"), put(alloc, "log", longer, again)?)?;
+    m.body(
+        alloc,
+        &["log"],
+        Some("m"),
+        put(alloc, "log", longer, again)?,
+    )?;
     m.types.push(texts(alloc)?)?;
     Ok(m.made())
 }
 
-fn say(
-    rt: &(impl Abort + AllocGlobal),
-    world: &mut World,
-    text: &str,
-) -> Result<(), OutOfMemory> {
+fn say(rt: &(impl Abort + AllocGlobal), world: &mut World, text: &str) -> Result<(), OutOfMemory> {
     let value = Value::Text(name(rt.alloc(), text)?);
     act(rt, world, "F", Act::Set(value), "taken")?;
     act(rt, world, "F", Act::Next, "taken")
@@ -510,10 +555,18 @@ fn values(rt: HostRuntime) -> Result<(), Fail> {
     let alloc = rt.alloc();
     let sum = op(alloc, Op::Add, Host::Int(i64::MAX), Host::Int(1))?;
     let w = told(opened(alloc, one_task(alloc, Task::Edit(sum), Basic::Int)?, BUDGET))?;
-    shows(&rt, &w, "version 0 seat 1\n. edit int 9223372036854775807\n")?;
+    shows(
+        &rt,
+        &w,
+        "version 0 seat 1\n. edit int 9223372036854775807\n",
+    )?;
 
     let text = Host::Text(name(alloc, "<b>&\"")?);
-    let w = told(opened(alloc, one_task(alloc, Task::Edit(text), Basic::Text)?, BUDGET))?;
+    let w = told(opened(
+        alloc,
+        one_task(alloc, Task::Edit(text), Basic::Text)?,
+        BUDGET,
+    ))?;
     shows(&rt, &w, "version 0 seat 1\n. edit text \"<b>&\\\"\"\n")?;
 
     let mut w = told(opened(alloc, one_task(alloc, edit(5), Basic::Int)?, BUDGET))?;
@@ -523,7 +576,11 @@ fn values(rt: HostRuntime) -> Result<(), Fail> {
     let mut w = told(opened(alloc, row_23(alloc)?, BUDGET))?;
     say(&rt, &mut w, "hello")?;
     say(&rt, &mut w, "hi")?;
-    shows(&rt, &w, "version 4 seat 1\n. and\n.F step\n.F enter text\n.S share [text] [\"hi\", \"hello\"]\n")?;
+    shows(
+        &rt,
+        &w,
+        "version 4 seat 1\n. and\n.F step\n.F enter text\n.S share [text] [\"hi\", \"hello\"]\n",
+    )?;
     let offered = offers(alloc, &w.rules, BUDGET, &w.tree, w.store.as_slice())?;
     assert_eq!(rt; offered.as_slice().len(), 2);
     Ok(())

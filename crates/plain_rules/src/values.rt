@@ -100,7 +100,9 @@ fn value_form(
             head,
             tail,
             more,
-        } => case_form(alloc, rules, list, empty, head, tail, more, env, store, purse),
+        } => case_form(
+            alloc, rules, list, empty, head, tail, more, env, store, purse,
+        ),
     }
 }
 
@@ -361,9 +363,7 @@ fn call_form(
 {
     match function_named(&rules.program, name) {
         None => Err(Stop::Over),
-        Some((params, body)) => {
-            call_at(alloc, rules, params, body, args, env, store, purse)
-        }
+        Some((params, body)) => { call_at(alloc, rules, params, body, args, env, store, purse) }
     }
 }
 

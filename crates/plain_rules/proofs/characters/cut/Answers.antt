@@ -1,5 +1,4 @@
 use Rattle.std.proofs.Common.{◌≡◌, ◌<◌, ◌≤◌, ℕ, List, length, true, drop, subst, arith}
-use Rattle.std.specs.Prelude.{slice_index}
 use Rattle.plain_rules.specs.Words.{starts}
 use Rattle.plain_rules.proofs.CharacterLemmas.{boundary}
 use Rattle.plain_rules.proofs.characters.cut.Goals as goal

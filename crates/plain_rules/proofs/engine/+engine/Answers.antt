@@ -1,17 +1,18 @@
-use Rattle.std.proofs.Common.{◌≡◌, Ok, Err, Some, None, List, map, sym, ap, ◌∙◌, refl, rules}
-use Rattle.std.specs.Option.{option_map}
+use Rattle.std.proofs.Common.{◌≡◌, ◌++◌, ◌∷◌, [], Ok, List, map, sym, ap, ◌∙◌, refl, rules}
 use Rattle.std.proofs.lemmas.Result.{IfOk-at_ok}
-use Rattle.task_model.specs.Value.{ValueTerm, value_term}
-use Rattle.task_model.specs.Env.{slot_term}
-use Rattle.task_model.specs.Task.{BodyTerm, body_term}
+use Rattle.task_model.specs.Value.{value_term}
+use Rattle.task_model.specs.Env.{plain_slot, slot_term}
+use Rattle.task_model.specs.declared.env.Slot.{Slot}
+use Rattle.task_model.specs.declared.tree.Tree as tree
+use Rattle.task_model.specs.Task.{BodyTerm}
 use Rattle.task_model.specs.Tree.{tree_term, cont_term, then_tree, State, at}
-use Rattle.task_model.specs.Plan.{fails, give, ask}
+use Rattle.task_model.specs.Plan.{fails, Plan, give, ask}
 use Rattle.task_model.specs.Rules.{branch, fired, value_of}
 use Rattle.task_model.specs.declared.purse.Stop.TheVariants.{Over}
-use Rattle.task_model.proofs.RanLemmas.{stopped, ran_memory, ran_give, ran_made, ran_ask, ran_ask_stops, ran_last, ran_after, ran_after_stops, ran_last_stride, ran_more_strides, ran_stride_stops, ran_strides_unpaid, asked_rule, asked_rule_stops}
+use Rattle.task_model.proofs.RanLemmas.{stopped, ran_give, ran_ask, ran_ask_stops, ran_last, ran_after, ran_after_stops, ran_last_stride, ran_more_strides, ran_stride_stops, ran_strides_unpaid, asked_rule, asked_rule_stops}
 use Rattle.plain_rules.specs.Rules.{rules_term}
 use Rattle.plain_rules.proofs.RunLemmas.{ran_is, ran_known_ok, ran_known_stops}
-use Rattle.plain_rules.proofs.TaskLemmas.{ran_made_at, asked_task, asked_normal}
+use Rattle.plain_rules.proofs.TaskLemmas.{ran_made_at, asked_normal}
 use Rattle.plain_rules.proofs.EngineLemmas.{tells_same, tells_other, at_both, ran_tested, ran_tested_stops, ran_applied, ran_applied_stops, keeps, with_some, with_none}
 use Rattle.plain_rules.proofs.engine.+engine.Goals as goal
 
@@ -127,14 +128,14 @@ stride_all-returns-in_err-next-clause-ran t c =
 pub stride_all-returns-then-same_state-clause-ran : goal.stride_all-returns-then-same_state-clause-ran
 stride_all-returns-then-same_state-clause-ran t c =
     let held = IfOk-at_ok _ c.in_ok-held.ensures.ok c.copy_values.ensures in
-    let same = tells_same c.same_state.ensures (at_both refl (ap (map value_term) c.as_slice-2.ensures)) (at_both refl (ap (map value_term) c.as_slice-3.ensures ∙ held ∙ ap (map value_term) c.as_slice.ensures)) c.if-same_state.true in
+    let same = tells_same c.same_state.ensures (at_both refl (ap (map value_term) c.as_slice-in-strides.ensures)) (at_both refl (ap (map value_term) c.as_slice-in-strides-2.ensures ∙ held ∙ ap (map value_term) c.as_slice.ensures)) c.if-same_state.true in
     c.strides.invariant.rest _ _ _
     (ran_last_stride _ give (λ u. at (tree_term u) (map value_term c.stride_at.new.store.list)) _ _ c.spend.new.self c.stride_at.new.purse c.stride_at.new.purse c.in_ok-spend.ensures.ok _ c.in_ok-next.next (Ok c.in_ok-next.next) c.in_ok-next.ensures.asked same (ran_give refl))
 
 pub stride_all-strides-preserved : goal.stride_all-strides-preserved
 stride_all-strides-preserved t c =
     let held = IfOk-at_ok _ c.in_ok-held.ensures.ok c.copy_values.ensures in
-    let other = tells_other c.same_state.ensures (at_both refl (ap (map value_term) c.as_slice-2.ensures)) (at_both refl (ap (map value_term) c.as_slice-3.ensures ∙ held ∙ ap (map value_term) c.as_slice.ensures)) c.if-same_state.false in
+    let other = tells_other c.same_state.ensures (at_both refl (ap (map value_term) c.as_slice-in-strides.ensures)) (at_both refl (ap (map value_term) c.as_slice-in-strides-2.ensures ∙ held ∙ ap (map value_term) c.as_slice.ensures)) c.if-same_state.false in
     record {
       height = search rules;
       rest = λ σ new r a. c.strides.invariant.rest σ new r
@@ -190,16 +191,16 @@ or_form-returns-then-has_value-clause-ran t c =
     let has = rw c.as_slice.ensures at c.has_value.ensures in
     ran_ask _ c.in_ok-t.ensures.asked (ran_is (with_some (value_of (tree_term c.in_ok-t.t) (map value_term c.stride_at.new.store.list)) _ _ (sym has ∙ c.if-has_value.true)) (ran_give refl))
 
-pub or_form-returns-in_err-u-else-has_value-clause-ran : goal.or_form-returns-in_err-u-else-has_value-clause-ran
-or_form-returns-in_err-u-else-has_value-clause-ran t c =
+pub or_form-returns-in_err-u-clause-ran : goal.or_form-returns-in_err-u-clause-ran
+or_form-returns-in_err-u-clause-ran t c =
     let has = rw c.as_slice.ensures at c.has_value.ensures in
-    rw (stopped _ c.in_err-u-else-has_value.field-0.0 c.from_residual-in_err-u-else-has_value.ensures.1)
-    (ran_ask _ c.in_ok-t.ensures.asked (ran_is (with_none (value_of (tree_term c.in_ok-t.t) (map value_term c.stride_at.new.store.list)) _ _ (sym has ∙ c.if-has_value.false)) (ran_ask_stops _ c.in_err-u-else-has_value.ensures.asked)))
+    rw (stopped _ c.in_err-u.field-0.0 c.from_residual-in_err-u.ensures.1)
+    (ran_ask _ c.in_ok-t.ensures.asked (ran_is (with_none (value_of (tree_term c.in_ok-t.t) (map value_term c.stride_at.new.store.list)) _ _ (sym has ∙ c.if-has_value.false)) (ran_ask_stops _ c.in_err-u.ensures.asked)))
 
-pub or_form-returns-in_ok-u-else-has_value-clause-ran : goal.or_form-returns-in_ok-u-else-has_value-clause-ran
-or_form-returns-in_ok-u-else-has_value-clause-ran t c =
+pub or_form-returns-in_ok-u-clause-ran : goal.or_form-returns-in_ok-u-clause-ran
+or_form-returns-in_ok-u-clause-ran t c =
     let has = rw c.as_slice.ensures at c.has_value.ensures in
-    ran_ask _ c.in_ok-t.ensures.asked (ran_is (with_none (value_of (tree_term c.in_ok-t.t) (map value_term c.stride_at.new.store.list)) _ _ (sym has ∙ c.if-has_value.false)) (ran_ask _ c.in_ok-u-else-has_value.ensures.asked
+    ran_ask _ c.in_ok-t.ensures.asked (ran_is (with_none (value_of (tree_term c.in_ok-t.t) (map value_term c.stride_at.new.store.list)) _ _ (sym has ∙ c.if-has_value.false)) (ran_ask _ c.in_ok-u.ensures.asked
     (ran_made_at _ _ c.or_of.result c.memory.result (rw c.as_slice-else-has_value.ensures at c.or_of.ensures) c.memory.ensures.ok c.memory.ensures.err)))
 
 pub then_form-returns-clause-ran : goal.then_form-returns-clause-ran
@@ -207,19 +208,79 @@ then_form-returns-clause-ran t c = ran_ask _ c.in_ok-left.ensures.asked c.fired.
 
 -- ---- a trial
 pub fired-returns-in-None-clause-ran : goal.fired-returns-in-None-clause-ran
-fired-returns-in-None-clause-ran t c = ?
+fired-returns-in-None-clause-ran t c =
+    let rules = rules_term c.args.rules.now in
+    let σ = map value_term c.args.store.now.list in
+    let k = cont_term c.args.k.now in
+    let left = tree_term c.args.left in
+    let is = IfOk-at_ok _ c.in_ok-value.ensures.ok c.value_of.ensures in
+    let none = rw (c.in-None.is, c.as_slice.ensures) at is in
+    ran_is (ap (λ o. fired rules o k (at left σ)) (sym none)) (ran_made_at (then_tree left k) σ c.then_tree.result c.memory-in-None.result c.then_tree.ensures c.memory-in-None.ensures.ok c.memory-in-None.ensures.err)
 
 pub fired-returns-in-Some-clause-ran : goal.fired-returns-in-Some-clause-ran
-fired-returns-in-Some-clause-ran t c = ?
+fired-returns-in-Some-clause-ran t c =
+    let rules = rules_term c.args.rules.now in
+    let σ = map value_term c.args.store.now.list in
+    let k = cont_term c.args.k.now in
+    let left = tree_term c.args.left in
+    let is = IfOk-at_ok _ c.in_ok-value.ensures.ok c.value_of.ensures in
+    let some = rw (c.in-Some.is, c.as_slice.ensures) at is in
+    ran_is (ap (λ o. fired rules o k (at left σ)) (sym some)) c.tried.ensures.ran
 
 pub tried-returns-in_err-t-clause-ran : goal.tried-returns-in_err-t-clause-ran
-tried-returns-in_err-t-clause-ran t c = ?
+tried-returns-in_err-t-clause-ran t c =
+    let rules = rules_term c.args.rules.now in
+    let σ = map value_term c.args.store.now.list in
+    let k = cont_term c.args.k.now in
+    let left = tree_term c.args.left in
+    let v = value_term c.args.v in
+    let slots = IfOk-at_ok _ c.in_ok-slots.ensures.ok c.with_value.ensures ∙ ap (λ (l : List Slot). map slot_term l ++ plain_slot v ∷ []) c.as_slice.ensures in
+    let trial = IfOk-at_ok _ c.in_ok-trial.ensures.ok c.copy_values.ensures ∙ ap (map value_term) c.as_slice-2.ensures in
+    let f : State → Plan State = λ s. ask (fails s) (λ no. branch no (give (at (then_tree left k) σ)) (give s)) in
+    let made : tree.Tree → State = λ u. at (tree_term u) (map value_term c.applied.new.store.list) in
+    let kept : tree.Tree → State = λ u. at (tree_term u) σ in
+    rw (stopped _ c.in_err-t.field-0.0 c.from_residual-in_err-t.ensures.1) (ran_applied_stops rules c.args.k.now.body _ _ _ _ slots trial made kept f c.in_err-t.ensures.ran)
 
 pub tried-returns-in_err-failing-clause-ran : goal.tried-returns-in_err-failing-clause-ran
-tried-returns-in_err-failing-clause-ran t c = ?
+tried-returns-in_err-failing-clause-ran t c =
+    let rules = rules_term c.args.rules.now in
+    let σ = map value_term c.args.store.now.list in
+    let k = cont_term c.args.k.now in
+    let left = tree_term c.args.left in
+    let v = value_term c.args.v in
+    let slots = IfOk-at_ok _ c.in_ok-slots.ensures.ok c.with_value.ensures ∙ ap (λ (l : List Slot). map slot_term l ++ plain_slot v ∷ []) c.as_slice.ensures in
+    let trial = IfOk-at_ok _ c.in_ok-trial.ensures.ok c.copy_values.ensures ∙ ap (map value_term) c.as_slice-2.ensures in
+    let f : State → Plan State = λ s. ask (fails s) (λ no. branch no (give (at (then_tree left k) σ)) (give s)) in
+    let made : tree.Tree → State = λ u. at (tree_term u) (map value_term c.applied.new.store.list) in
+    let kept : tree.Tree → State = λ u. at (tree_term u) σ in
+    rw (stopped _ c.in_err-failing.field-0.0 c.from_residual-in_err-failing.ensures.1)
+    (ran_applied rules c.args.k.now.body _ _ _ _ slots trial made kept f c.in_ok-t.ensures.ran (ran_ask_stops _ (rw c.as_slice-3.ensures at c.in_err-failing.ensures.asked)))
 
 pub tried-returns-then-failing-clause-ran : goal.tried-returns-then-failing-clause-ran
-tried-returns-then-failing-clause-ran t c = ?
+tried-returns-then-failing-clause-ran t c =
+    let rules = rules_term c.args.rules.now in
+    let σ = map value_term c.args.store.now.list in
+    let k = cont_term c.args.k.now in
+    let left = tree_term c.args.left in
+    let v = value_term c.args.v in
+    let slots = IfOk-at_ok _ c.in_ok-slots.ensures.ok c.with_value.ensures ∙ ap (λ (l : List Slot). map slot_term l ++ plain_slot v ∷ []) c.as_slice.ensures in
+    let trial = IfOk-at_ok _ c.in_ok-trial.ensures.ok c.copy_values.ensures ∙ ap (map value_term) c.as_slice-2.ensures in
+    let f : State → Plan State = λ s. ask (fails s) (λ no. branch no (give (at (then_tree left k) σ)) (give s)) in
+    let made : tree.Tree → State = λ u. at (tree_term u) (map value_term c.applied.new.store.list) in
+    let kept : tree.Tree → State = λ u. at (tree_term u) σ in
+    ran_applied rules c.args.k.now.body _ _ _ _ slots trial made kept f c.in_ok-t.ensures.ran (ran_ask _ (rw c.as_slice-3.ensures at c.in_ok-failing.ensures.asked)
+    (rw c.if-failing.true (ran_made_at (then_tree left k) σ c.then_tree.result c.memory-then-failing.result c.then_tree.ensures c.memory-then-failing.ensures.ok c.memory-then-failing.ensures.err)))
 
 pub tried-returns-else-failing-clause-ran : goal.tried-returns-else-failing-clause-ran
-tried-returns-else-failing-clause-ran t c = ?
+tried-returns-else-failing-clause-ran t c =
+    let rules = rules_term c.args.rules.now in
+    let σ = map value_term c.args.store.now.list in
+    let k = cont_term c.args.k.now in
+    let left = tree_term c.args.left in
+    let v = value_term c.args.v in
+    let slots = IfOk-at_ok _ c.in_ok-slots.ensures.ok c.with_value.ensures ∙ ap (λ (l : List Slot). map slot_term l ++ plain_slot v ∷ []) c.as_slice.ensures in
+    let trial = IfOk-at_ok _ c.in_ok-trial.ensures.ok c.copy_values.ensures ∙ ap (map value_term) c.as_slice-2.ensures in
+    let f : State → Plan State = λ s. ask (fails s) (λ no. branch no (give (at (then_tree left k) σ)) (give s)) in
+    let made : tree.Tree → State = λ u. at (tree_term u) (map value_term c.applied.new.store.list) in
+    let kept : tree.Tree → State = λ u. at (tree_term u) σ in
+    ran_applied rules c.args.k.now.body _ _ _ _ slots trial made made f c.in_ok-t.ensures.ran (ran_ask _ (rw c.as_slice-3.ensures at c.in_ok-failing.ensures.asked) (rw c.if-failing.false (ran_give refl)))

@@ -1,5 +1,4 @@
 use Rattle.std.proofs.Common.{refl}
-use Rattle.task_model.specs.Basic.{basic_term}
 use Rattle.task_model.proofs.RanLemmas.{stopped, ran_give, ran_ask, ran_ask_stops}
 use Rattle.plain_rules.proofs.RunLemmas.{ran_known_ok}
 use Rattle.plain_rules.proofs.evaluation.edit_form.Goals as goal

@@ -1,4 +1,4 @@
-use Rattle.std.proofs.Common.{◌≡◌, ◌==◌, ◌++◌, ◌∷◌, [], take, map, refl, sym, ap, ◌∙◌, add-one}
+use Rattle.std.proofs.Common.{◌==◌, ◌++◌, ◌∷◌, [], take, map, sym, ap, ◌∙◌, add-one}
 use Rattle.std.specs.Prelude.{slice_set}
 use Rattle.std.proofs.lemmas.Bool.Decides.{Decides-eqb}
 use Rattle.std.proofs.lemmas.List.{map-append}

@@ -19,6 +19,6 @@ pub returns-in-List : goal.returns-in-List
 returns-in-List c =
     let v = value_term c.args.v.now in
     let is = ap (λ w. consed v (value_term w)) c.in-List.is ∙ ap (consed v) (value_term-List _)
-      ∙ ap (λ ws. Some (list_of (v ∷ ws))) (elements_of-as_values (map value_term c.in-List.items.list) ∙ ap (map value_term) (sym c.as_slice.ensures)) in
+    ∙ ap (λ ws. Some (list_of (v ∷ ws))) (elements_of-as_values (map value_term c.in-List.items.list) ∙ ap (map value_term) (sym c.as_slice.ensures)) in
     subst (λ o. Known o value_term c.memory.result) (sym is)
     (known_memory (Some (list_of (v ∷ map value_term c.as_slice.result.now))) value_term c.prepended.result c.memory.result (IfOk-map (list_of (v ∷ map value_term c.as_slice.result.now)) c.prepended.result c.prepended.ensures) c.memory.ensures.ok c.memory.ensures.err)

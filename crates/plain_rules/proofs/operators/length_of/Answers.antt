@@ -9,5 +9,5 @@ use Rattle.plain_rules.proofs.operators.length_of.Goals as goal
 pub returns-in-List : goal.returns-in-List
 returns-in-List c =
     let is = ap (λ v. length_of (value_term v)) c.in-List.is ∙ ap length_of (value_term-List _)
-      ∙ ap (λ n. Some (int_value (pos n))) (count_of-as_values (map value_term c.in-List.items.list) ∙ length-map c.in-List.items.list value_term ∙ ap length (sym c.as_slice.ensures)) in
+    ∙ ap (λ n. Some (int_value (pos n))) (count_of-as_values (map value_term c.in-List.items.list) ∙ length-map c.in-List.items.list value_term ∙ ap length (sym c.as_slice.ensures)) in
     subst (λ o. Known o value_term c.counted-in-List.result) (sym is) c.counted-in-List.ensures

@@ -1,4 +1,4 @@
-use Rattle.std.proofs.Common.{◌≡◌, Some, not, ap}
+use Rattle.std.proofs.Common.{Some, not, ap}
 use Rattle.task_model.specs.Value.{bool_value, value_term}
 use Rattle.plain_rules.proofs.EqualLemmas.{same_value_is}
 use Rattle.plain_rules.proofs.operators.operated.Goals as goal

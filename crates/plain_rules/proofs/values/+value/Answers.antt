@@ -1,4 +1,4 @@
-use Rattle.std.proofs.Common.{◌≡◌, [], ◌∷◌, map, Bool, true, false, sym, ap, ◌∙◌, refl, rules}
+use Rattle.std.proofs.Common.{◌≡◌, map, Bool, true, false, ap, ◌∙◌, refl, rules}
 use Rattle.std.proofs.lemmas.Result.{IfOk-at_ok}
 use mathlib.Core.Bool.{beq}
 use Rattle.std.specs.Option.{option_map}
@@ -11,9 +11,9 @@ use Rattle.task_model.specs.Program.{param_term}
 use Rattle.task_model.specs.Plan.{gives_value, give, ask}
 use Rattle.task_model.specs.Rules.{value_rule}
 use Rattle.task_model.proofs.RowLemmas.{value_term-List, host_term-List, host_term-Call}
-use Rattle.task_model.proofs.RanLemmas.{stopped, ran_memory, ran_give, ran_made, ran_ask, ran_ask_stops, ran_last, ran_after, ran_after_stops, ran_unit, ran_unit_stops, asked_rule, asked_rule_stops}
+use Rattle.task_model.proofs.RanLemmas.{stopped, ran_give, ran_made, ran_ask, ran_ask_stops, ran_last, ran_after, ran_after_stops, ran_unit, asked_rule, asked_rule_stops}
 use Rattle.plain_rules.specs.Rules.{rules_term}
-use Rattle.plain_rules.proofs.RunLemmas.{ran_is, ran_stuck, ran_known_ok, ran_known_stops, ran_known, named_is, read_is, ran_chosen, ran_chosen_stops, ran_matched, ran_matched_stops, ran_call, ran_call_none, argument_is, lazy_is, strict_is, values_next, values_more, values_end, slots_next, slots_more, slots_too_many, slots_too_few, slots_end, tail_of}
+use Rattle.plain_rules.proofs.RunLemmas.{ran_is, ran_known_ok, ran_known_stops, ran_known, named_is, read_is, ran_chosen, ran_chosen_stops, ran_matched, ran_matched_stops, ran_call, ran_call_none, argument_is, lazy_is, strict_is, values_next, values_more, values_end, slots_next, slots_more, slots_too_many, slots_too_few, slots_end, tail_of}
 use Rattle.plain_rules.proofs.values.+value.Goals as goal
 
 same_bool-beq : (b d : Bool) → same_bool b d ≡ beq b d
