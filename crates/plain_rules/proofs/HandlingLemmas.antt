@@ -6,13 +6,13 @@ use Rattle.std.proofs.lemmas.Result.{IfOk-at_ok}
 use Rattle.task_model.specs.Left.{Left}
 use Rattle.task_model.specs.Basic.{BasicTerm}
 use Rattle.task_model.specs.Value.{ValueTerm, value_has}
-use Rattle.task_model.specs.Tree.{TreeTerm, edit_tree, share_tree, tree_term, State, at}
-use Rattle.task_model.specs.Input.{ActTerm, set_act}
-use Rattle.task_model.specs.Handling.{if_typed, at_editor, rebuilt, unless_failing}
+use Rattle.task_model.specs.Tree.{TreeTerm, LaterTerm, edit_tree, share_tree, xor_tree, tree_term, State, at}
+use Rattle.task_model.specs.Input.{ActTerm, set_act, next_act, left_act, right_act}
+use Rattle.task_model.specs.Handling.{if_typed, at_editor, rebuilt, handled, unless_failing}
 use Rattle.task_model.specs.declared.tree.Tree as tree
 use Rattle.task_model.specs.declared.input.Turn.{Turn}
 use Rattle.task_model.proofs.RanLemmas.{ran_give, ran_memory}
-use Rattle.plain_rules.specs.Handled.{edited, shared}
+use Rattle.plain_rules.specs.Handled.{edited, shared, picks}
 use Rattle.plain_rules.proofs.RunLemmas.{ran_is}
 use Rattle.task_model.specs.Spends.{Spends, Runs}
 use Rattle.task_model.specs.Checked.{CheckedTerm}
@@ -102,3 +102,15 @@ retested c i ws ws' σ e {old = old} {new = new} {r = r} a = subst (λ z. Ran c 
 -- a body with slots that are equal to others
 pub relaunched : (c : CheckedTerm) (i : ℕ) (ws ws' : List SlotTerm) (σ : List ValueTerm) → ws ≡ ws' → {Y : Type 0} {view : Y → Option State} {old new : Left} {r : Result Y Stop} → Ran c (unless_failing c i ws σ) view old new r → Ran c (unless_failing c i ws' σ) view old new r
 relaunched c i ws ws' σ e {view = view} {old = old} {new = new} {r = r} a = subst (λ z. Ran c (unless_failing c i z σ) view old new r) e a
+
+abbrev pub by_pick : CheckedTerm → LaterTerm → LaterTerm → List ValueTerm → Option Bool → Plan (Option State)
+by_pick c j k σ None = give None
+by_pick c j k σ (Some true) = unless_failing c j.body j.slots σ
+by_pick c j k σ (Some false) = unless_failing c k.body k.slots σ
+
+pub picks_is : (c : CheckedTerm) (j k : LaterTerm) (σ : List ValueTerm) (path : List Turn) (act : ActTerm) → handled c (xor_tree j k) σ path act ≡ by_pick c j k σ (picks path act)
+picks_is c j k σ [] (set_act v) = refl
+picks_is c j k σ [] next_act = refl
+picks_is c j k σ [] left_act = refl
+picks_is c j k σ [] right_act = refl
+picks_is c j k σ (t ∷ path) act = refl

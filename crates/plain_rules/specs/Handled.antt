@@ -3,7 +3,7 @@ use Rattle.std.specs.Prelude.{ℕ, Bool, true, false, List, [], ◌∷◌, Optio
 use Rattle.task_model.specs.Basic.{BasicTerm}
 use Rattle.task_model.specs.Value.{ValueTerm, value_has}
 use Rattle.task_model.specs.Tree.{TreeTerm, edit_tree, share_tree, and_tree, or_tree, State, at}
-use Rattle.task_model.specs.Input.{ActTerm, set_act}
+use Rattle.task_model.specs.Input.{ActTerm, set_act, left_act, right_act}
 use Rattle.task_model.specs.declared.input.Turn.{Turn}
 use Rattle.task_model.specs.declared.input.Turn.TheVariants as turns
 
@@ -29,3 +29,9 @@ joined_by false t u = and_tree t u
 abbrev pub beside : Turn → Bool → TreeTerm → TreeTerm → TreeTerm
 beside turns.First is_or t other = joined_by is_or t other
 beside turns.Second is_or t other = joined_by is_or other t
+
+-- whether the left side is picked, or the right one; none where neither is
+abbrev pub picks : List Turn → ActTerm → Option Bool
+picks [] left_act = Some true
+picks [] right_act = Some false
+picks path act = None

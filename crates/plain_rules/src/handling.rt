@@ -258,10 +258,20 @@ fn picked(
     ensures height { OnOk result (purse.new.height ≡ purse.old.height) }
     ensures ran { Ran (rules_term rules.now) (model.handled (rules_term rules.now) (trees.xor_tree (delay_term left.now) (delay_term right.now)) (map value_term store.old.list) path.now (act_term act.now)) (option_map (λ u. at (tree_term u) (map value_term store.new.list))) purse.old purse.new result }
 {
+    match picks(path, act) {
+        Some(first) => { if first { picked_side(alloc, rules, left, store, purse) } else { picked_side(alloc, rules, right, store, purse) } }
+        None => Ok(None),
+    }
+}
+
+// Whether the left side is picked, or the right one; none where neither is.
+fn picks(path: &[Turn], act: &Act) -> Option<bool>
+    ensures { result ≡ words.picks path.now (act_term act.now) }
+{
     match (path, act) {
-        ([], Act::Left) => picked_side(alloc, rules, left, store, purse),
-        ([], Act::Right) => picked_side(alloc, rules, right, store, purse),
-        _ => Ok(None),
+        ([], Act::Left) => Some(true),
+        ([], Act::Right) => Some(false),
+        _ => None,
     }
 }
 
