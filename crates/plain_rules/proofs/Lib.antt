@@ -7,4 +7,3 @@ pub mod RunLemmas
 pub mod TaskLemmas
 pub mod EngineLemmas
 pub mod HandlingLemmas
-pub mod OutcomeLemmas

@@ -4,5 +4,4 @@ pub mod Words
 pub mod Starts
 pub mod Bodies
 pub mod Handled
-pub mod Outcomes
 pub mod Signs

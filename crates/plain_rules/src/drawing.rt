@@ -23,7 +23,7 @@ pub fn page(
 }
 
 // The text of these bytes. Bytes that are no text, which no page has, are want of memory.
-fn text_of(alloc: Global, bytes: &[u8]) -> Result<TaskText, OutOfMemory>
+pub(crate) fn text_of(alloc: Global, bytes: &[u8]) -> Result<TaskText, OutOfMemory>
     ensures { IfOk result (λ text. text ≡ bytes.now) }
 {
     match str::from_utf8(bytes) {
@@ -32,7 +32,7 @@ fn text_of(alloc: Global, bytes: &[u8]) -> Result<TaskText, OutOfMemory>
     }
 }
 
-fn push(text: &mut Row<u8>, more: &str) -> Result<(), OutOfMemory>
+pub(crate) fn push(text: &mut Row<u8>, more: &str) -> Result<(), OutOfMemory>
     ensures { OnOk result (text.new.list ≡ text.old.list ++ more.now) }
 {
     text.extend(more.as_bytes())
@@ -60,7 +60,7 @@ fn push_lines(text: &mut Row<u8>, widgets: &[Widget]) -> Result<(), OutOfMemory>
     Ok(())
 }
 
-fn push_path(text: &mut Row<u8>, turns: &[Turn]) -> Result<(), OutOfMemory>
+pub(crate) fn push_path(text: &mut Row<u8>, turns: &[Turn]) -> Result<(), OutOfMemory>
     ensures { OnOk result (text.new.list ≡ text.old.list ++ model.path_text turns.now) }
 {
     push(text, ".")?;

