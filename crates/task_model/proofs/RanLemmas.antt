@@ -1,20 +1,20 @@
 -- How the calls of an evaluation come together.
-use Rattle.std.proofs.Common.{◌≡◌, ◌≢◌, ℕ, zero, suc, ◌+◌, ◌≤◌, max, Result, Ok, Err, refl, sym, ap, ◌∙◌, subst, arith, IfOk, IfErr}
+use Rattle.std.proofs.Common.{◌≡◌, ◌≢◌, ℕ, suc, ◌+◌, ◌≤◌, max, Result, Ok, Err, refl, sym, ap, ◌∙◌, subst, arith, IfOk, IfErr}
 use Rattle.std.specs.Result.{IsErrAnd}
 use Rattle.std.proofs.lemmas.Result.{IfOk-at_ok}
 use Rattle.task_model.specs.Left.{Left}
-use Rattle.task_model.specs.Work.{Work, never, gives, then_on, rule}
+use Rattle.task_model.specs.Work.{Work, never, gives, then_on}
 use Rattle.task_model.specs.Spends.{Spends, Runs}
 use Rattle.task_model.specs.Tree.{State}
 use Rattle.task_model.specs.Checked.{CheckedTerm}
-use Rattle.task_model.specs.Plan.{Judgement, strides, Derived, Plan, give, stuck, ask, unit, stride_on, after, Strides, last_stride, more_strides, work, derives_at, Derives}
+use Rattle.task_model.specs.Plan.{Judgement, strides, Derived, Plan, give, ask, unit, stride_on, after, Strides, last_stride, more_strides, work, derives_at, Derives}
 use Rattle.task_model.specs.Rules.{rule_of}
 use Rattle.task_model.specs.Calls.{Asked, Ran}
 use Rattle.task_model.specs.declared.purse.Stop.{Stop}
 use Rattle.task_model.specs.declared.purse.Stop.TheVariants.{Over, Memory}
 use Rattle.task_model.specs.declared.memory.OutOfMemory.{OutOfMemory}
 use Rattle.task_model.proofs.WorkLemmas.{Agree, Low}
-use Rattle.task_model.proofs.PlanLemmas.{agree_at, agree_work, low_at, under_at, agree_strides, work_after, after_work}
+use Rattle.task_model.proofs.PlanLemmas.{agree_at, agree_work, low_at, under_at, work_after, after_work}
 
 -- ---- what a call answers
 -- nothing spent

@@ -1,4 +1,4 @@
--- What the calls of an evaluation answer, at the height that the purse has left.
+-- What the calls of an evaluation answer, at the height that the purse has left (docs/RULES.md, "Units and heights").
 use Rattle.std.specs.Prelude.{Result}
 use Rattle.task_model.specs.Left.{Left}
 use Rattle.task_model.specs.Checked.{CheckedTerm}

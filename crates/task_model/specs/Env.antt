@@ -1,4 +1,4 @@
--- Slots and environments as plain terms.
+-- Slots and environments as plain terms (docs/RULES.md, "Programs").
 use Rattle.std.specs.Prelude.{ℕ, List, [], map}
 use Rattle.task_model.specs.Text.{Text}
 use Rattle.task_model.specs.Value.{ValueTerm, value_term}

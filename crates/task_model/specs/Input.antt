@@ -1,4 +1,4 @@
--- Inputs and entries as plain terms.
+-- Inputs and entries as plain terms (docs/RULES.md, "Inputs").
 use Rattle.std.specs.Prelude.{ℕ, List}
 use Rattle.task_model.specs.Value.{ValueTerm, value_term}
 use Rattle.task_model.specs.declared.input.Turn.{Turn}

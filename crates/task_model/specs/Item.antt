@@ -1,4 +1,4 @@
--- Histories as plain terms.
+-- Histories as plain terms (docs/RULES.md, "Histories").
 use Rattle.std.specs.Prelude.{ℕ, List, map}
 use Rattle.task_model.specs.Program.{ProgramTerm, program_term}
 use Rattle.task_model.specs.Input.{EntryTerm, entry_term}

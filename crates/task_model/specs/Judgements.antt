@@ -4,11 +4,11 @@ use Rattle.task_model.specs.Value.{ValueTerm}
 use Rattle.task_model.specs.Env.{EnvTerm}
 use Rattle.task_model.specs.Host.{HostTerm}
 use Rattle.task_model.specs.Task.{TaskTerm}
-use Rattle.task_model.specs.Tree.{State}
+use Rattle.task_model.specs.Tree.{LaterTerm, State}
 use Rattle.task_model.specs.Checked.{CheckedTerm}
 use Rattle.task_model.specs.Work.{Work}
-use Rattle.task_model.specs.Plan.{gives_value, evaluates, fails, strides, settles, normal, Derives}
-use Rattle.task_model.specs.Rules.{rule_of}
+use Rattle.task_model.specs.Plan.{gives_value, evaluates, fails, strides, settles, normal, give, work, Derives}
+use Rattle.task_model.specs.Rules.{applied, rule_of}
 
 module _ (c : CheckedTerm) where
   -- an expression gives a value
@@ -18,6 +18,10 @@ module _ (c : CheckedTerm) where
   -- a task evaluates to a tree and a store
   abbrev pub Evaluates : TaskTerm → EnvTerm → List ValueTerm → Work State
   Evaluates t env σ = Derives (rule_of c) (evaluates t env σ)
+
+  -- a cont at a value evaluates to a tree and a store, by no further rule
+  abbrev pub Applies : LaterTerm → ValueTerm → List ValueTerm → Work State
+  Applies k v σ = work (Derives (rule_of c)) (applied c k v σ give)
 
   -- a state is failing, or not
   abbrev pub Fails : State → Work Bool

@@ -1,4 +1,4 @@
--- What a purse has left.
+-- What a purse has left (docs/RULES.md, "Units and heights").
 use Rattle.std.specs.Prelude.{ℕ}
 
 -- units, and rules that may still be nested

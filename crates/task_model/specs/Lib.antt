@@ -9,6 +9,7 @@ pub mod Host
 pub mod Task
 pub mod Program
 pub mod Tree
+pub mod Foot
 pub mod Input
 pub mod Item
 pub mod Literal
@@ -25,7 +26,9 @@ pub mod Sign
 pub mod Offer
 pub mod Widget
 pub mod Page
+pub mod Html
 pub mod Accepted
+pub mod PlainTree
 pub mod State
 pub mod Spends
 pub mod Token

@@ -14,7 +14,7 @@ use Rattle.task_model.specs.Plan.{Judgement, gives_value, evaluates, fails, stri
 use Rattle.task_model.specs.declared.host.Op.{Op}
 use Rattle.task_model.specs.declared.host.Op.TheVariants as ops
 
--- ---- environments
+-- ---- environments (docs/RULES.md, "Programs")
 -- with one name more
 abbrev pub bound : EnvTerm → Text → SlotTerm → EnvTerm
 bound env x s = record { names = env.names ++ x ∷ []; slots = env.slots ++ s ∷ []; first = env.first }
@@ -33,7 +33,7 @@ abbrev pub as_place : {A : Type 0} → SlotTerm → (ℕ → Plan A) → Plan A
 as_place (plain_slot v) f = stuck
 as_place (place_slot n) f = f n
 
--- ---- choices
+-- ---- choices (docs/RULES.md, "Expressions", "Tasks")
 abbrev pub branch : {A : Type 0} → Bool → Plan A → Plan A → Plan A
 branch true a b = a
 branch false a b = b
@@ -49,7 +49,7 @@ matched (list_value no_values) a f = a
 matched (list_value (more_values v vs)) a f = f v (list_value vs)
 matched v a f = stuck
 
--- ---- arguments
+-- ---- arguments (docs/RULES.md, "Expressions")
 abbrev pub bare_name : HostTerm → Option Text
 bare_name (name_expr x) = Some x
 bare_name e = None
@@ -76,7 +76,7 @@ abbrev pub values_for : EnvTerm → List ValueTerm → List ValueTerm → HostTe
 values_for env σ done no_exprs = give done
 values_for env σ done (more_exprs e es) = ask (gives_value e env σ) (λ v. values_for env σ (done ++ v ∷ []) es)
 
--- ---- values of trees
+-- ---- values of trees (docs/RULES.md, "Values of trees")
 abbrev pub paired : Option ValueTerm → Option ValueTerm → Option ValueTerm
 paired None w = None
 paired (Some v) None = None
@@ -104,13 +104,13 @@ abbrev pub or_of : Option ValueTerm → TreeTerm → TreeTerm → TreeTerm
 or_of None t u = or_tree t u
 or_of (Some v) t u = u
 
--- ---- bodies
+-- ---- bodies (docs/RULES.md, "Tasks")
 -- a body of the program with a slot for each name of its scope
 abbrev pub later : ℕ → EnvTerm → LaterTerm
 later i env = record { body = i; slots = env.slots }
 
 module _ (c : CheckedTerm) where
-  -- ---- expressions
+  -- ---- expressions (docs/RULES.md, "Expressions")
   -- an operator: `||` and `&&` evaluate their right side only where the left one leaves it open
   abbrev pub op_rule : Op → HostTerm → HostTerm → EnvTerm → List ValueTerm → Plan ValueTerm
   op_rule ops.Or a b env σ = ask (gives_value a env σ) (λ v. chosen v (give (bool_value true)) (ask (gives_value b env σ) give))
@@ -141,7 +141,7 @@ module _ (c : CheckedTerm) where
   value_rule (case_expr e a x y b) env σ =
       ask (gives_value e env σ) (λ v. matched v (ask (gives_value a env σ) give) (λ head tail. ask (gives_value b (bound (bound env x (plain_slot head)) y (plain_slot tail)) σ) give))
 
-  -- ---- evaluating
+  -- ---- evaluating (docs/RULES.md, "Tasks")
   abbrev pub evaluate_rule : TaskTerm → EnvTerm → List ValueTerm → Plan State
   evaluate_rule (edit e) env σ = known (slice_get c.types env.first) (λ b. ask (gives_value e env σ) (λ v. give (at (edit_tree b v) σ)))
   evaluate_rule (enter b) env σ = give (at (enter_tree b) σ)
@@ -168,7 +168,7 @@ module _ (c : CheckedTerm) where
   evaluate_rule (put_task x e t) env σ =
       known (slot_of env x) (λ s. as_place s (λ n. ask (gives_value e env σ) (λ v. ask (evaluates t env (slice_set σ n v)) give)))
 
-  -- ---- bodies
+  -- ---- bodies (docs/RULES.md, "Tasks")
   -- a body's names with these slots, before its task
   abbrev pub opened_env : ℕ → BodyTerm → List SlotTerm → EnvTerm
   opened_env i b vs = record { names = names_with b.binder b.scope; slots = vs; first = body_first c.program i }
@@ -189,7 +189,7 @@ module _ (c : CheckedTerm) where
   abbrev pub trial : LaterTerm → ValueTerm → List ValueTerm → Plan Bool
   trial k v σ = tested k.body (k.slots ++ plain_slot v ∷ []) σ (λ s no. give no)
 
-  -- ---- failing
+  -- ---- failing (docs/RULES.md, "Failing")
   abbrev pub fail_rule : TreeTerm → List ValueTerm → Plan Bool
   fail_rule (edit_tree b v) σ = give false
   fail_rule (enter_tree b) σ = give false
@@ -201,7 +201,7 @@ module _ (c : CheckedTerm) where
   fail_rule (or_tree t u) σ = ask (fails (at t σ)) (λ no. branch no (ask (fails (at u σ)) give) (give false))
   fail_rule (xor_tree j k) σ = after (side j σ) (λ no. branch no (side k σ) (give false))
 
-  -- ---- strides
+  -- ---- strides (docs/RULES.md, "Strides")
   -- an internal step whose left was strided: the cont at its value, or the step where there is none or where that fails
   abbrev pub fired : Option ValueTerm → LaterTerm → State → Plan State
   fired None k s = give (at (then_tree s.tree k) s.store)
@@ -220,7 +220,7 @@ module _ (c : CheckedTerm) where
       ask (strides (at t σ)) (λ s. with_value (value_of s.tree s.store) (give s)
       (ask (strides (at u s.store)) (λ s'. give (at (or_of (value_of s'.tree s'.store) s.tree s'.tree) s'.store))))
 
-  -- ---- every judgement's rule
+  -- ---- every judgement's rule (docs/RULES.md, "Settling and normalising")
   abbrev pub rule_of : (q : Judgement) → Plan (Derived q)
   rule_of (gives_value e env σ) = value_rule e env σ
   rule_of (evaluates t env σ) = evaluate_rule t env σ

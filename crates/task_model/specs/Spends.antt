@@ -1,4 +1,4 @@
--- What a call that works with a purse answers.
+-- What a call that works with a purse answers (docs/RULES.md, "Units and heights").
 use Rattle.std.specs.Prelude.{◌≡◌, ℕ, ◌+◌, ◌≤◌, Result, Ok, Err}
 use Rattle.task_model.specs.Left.{Left}
 use Rattle.task_model.specs.Work.{Work}

@@ -12,7 +12,10 @@ use Rattle.task_model.specs.Outcome.{IsTaken}
 use Rattle.task_model.specs.Accepted.{main_name, IsAccepted}
 use Rattle.task_model.specs.Text.{Text}
 use Rattle.task_model.specs.Page.{page_text}
+use Rattle.task_model.specs.Html.{html_text}
 use Rattle.task_model.specs.Widget.{WidgetTerm, AreWidgets}
+use Rattle.task_model.specs.declared.widget.Face.{Face}
+use Rattle.task_model.specs.declared.widget.Face.TheVariants as faces
 
 module _ (c : CheckedTerm) (budget : ℕ) where
   -- the opening: `main()`, normalised in the empty environment and store within the budget
@@ -72,11 +75,23 @@ prefix_of (opened p budget ∷ items) version = opened p budget ∷ prefix_of it
 prefix_of (took e ∷ items) zero = []
 prefix_of (took e ∷ items) (suc version) = took e ∷ prefix_of items version
 
--- the terminal page of a history for a seat
-abbrev pub IsTerminal : List ItemTerm → ℕ → Text → Type 0
-IsTerminal [] seat text = ⊥
-IsTerminal (took e ∷ items) seat text = ⊥
-IsTerminal (opened p budget ∷ items) seat text =
-    (types : List BasicTerm) × (t : State) × (ws : List WidgetTerm) × IsAccepted (record { program = p; types = types })
+-- the widgets of a history's state
+abbrev pub HasWidgets : List ItemTerm → List WidgetTerm → Type 0
+HasWidgets [] ws = ⊥
+HasWidgets (took e ∷ items) ws = ⊥
+HasWidgets (opened p budget ∷ items) ws =
+    (types : List BasicTerm) × (t : State) × IsAccepted (record { program = p; types = types })
     × IsReached (record { program = p; types = types }) budget items t × AreWidgets (record { program = p; types = types }) budget t.tree t.store ws
-    × (text ≡ page_text (version_of items) seat ws)
+
+-- the terminal page of a history for a seat (docs/FORMATS.md, "Pages")
+abbrev pub IsTerminal : List ItemTerm → ℕ → Text → Type 0
+IsTerminal items seat text = (ws : List WidgetTerm) × HasWidgets items ws × (text ≡ page_text (version_of items) seat ws)
+
+-- the HTML page of a history for a seat (docs/FORMATS.md, "HTML pages")
+abbrev pub IsHtml : List ItemTerm → ℕ → Text → Type 0
+IsHtml items seat text = (ws : List WidgetTerm) × HasWidgets items ws × (text ≡ html_text (version_of items) seat ws)
+
+-- the page of either face
+abbrev pub IsPage : Face → List ItemTerm → ℕ → Text → Type 0
+IsPage faces.Text items seat text = IsTerminal items seat text
+IsPage faces.Html items seat text = IsHtml items seat text

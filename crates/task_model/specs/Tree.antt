@@ -1,4 +1,4 @@
--- Trees as plain terms.
+-- Trees as plain terms (docs/RULES.md, "Programs", states).
 use Rattle.std.specs.Prelude.{ℕ, List, map}
 use Rattle.task_model.specs.Basic.{BasicTerm, basic_term}
 use Rattle.task_model.specs.Value.{ValueTerm, value_term}

@@ -1,4 +1,5 @@
--- Values as plain terms: no pointers and no spare room. Two values are equal where their terms are.
+-- Values as plain terms: no pointers and no spare room. Two values are equal where their terms are (docs/LANGUAGE.md, "Types and
+-- values"; docs/RULES.md, "Inputs").
 use Rattle.std.specs.Prelude.{ℕ, ℤ, suc, Bool, true, false, nat_le, List, [], ◌∷◌, length, if◌then◌else◌}
 use Rattle.task_model.specs.Text.{Text}
 use Rattle.task_model.specs.Basic.{BasicTerm, unit_type, bool_type, int_type, text_type, pair_type, list_type}

@@ -1,12 +1,8 @@
 pub mod AtomLemmas
 pub mod ChainLemmas
-pub mod Fronts
-pub mod Leading
-pub mod Longest
 pub mod MarkLemmas
 pub mod ProgramLemmas
-pub mod RunLemmas
+pub mod SpotLemmas
 pub mod TokenLemmas
 pub mod TypeLemmas
 pub mod WholeLemmas
-pub mod Words

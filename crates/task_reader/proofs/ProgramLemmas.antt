@@ -9,7 +9,7 @@ use Rattle.task_model.specs.Task.{TaskTerm}
 use Rattle.task_model.specs.Token.{TokenTerm, number_from}
 use Rattle.task_reader.specs.declared.mark.Mark.TheVariants.{Task, Main, Int, Edit, Enter, Open, Close, Comma, Colon, Equals, And}
 use Rattle.task_reader.specs.declared.spot.Spot.{Spot}
-use Rattle.task_reader.specs.Lexes.{ArePlain}
+use Rattle.task_reader.specs.Plain.{ArePlain}
 use Rattle.task_reader.specs.Spots.{spot_terms}
 use Rattle.task_reader.specs.Marks.{mark_token}
 use Rattle.task_reader.specs.PlainText.{TypeParse, int_word, pair_of, AtomParse, edit_number, enter_int, group, ChainParse, single, joined, ProgramParse, type_tokens, atom_tokens, chain_tokens, program_tokens, chain_levels, type_of, atom_task, chain_task, program_of}

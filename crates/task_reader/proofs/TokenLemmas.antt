@@ -3,7 +3,7 @@ use Rattle.std.proofs.Common.{◌≡◌, ℕ, List, [], ◌∷◌, ◌++◌, sym
 use Rattle.task_model.specs.Token.{TokenTerm}
 use Rattle.task_reader.specs.declared.mark.Mark.{Mark}
 use Rattle.task_reader.specs.Marks.{spelling_of, mark_token}
-use Rattle.task_reader.proofs.Leading.{told, told-mark}
+use Rattle.task_reader.proofs.MarkLemmas.{told, told-mark}
 
 pub same_first : {t u : TokenTerm} {xs ys : List TokenTerm} → t ∷ xs ≡ u ∷ ys → t ≡ u
 same_first e = cc

@@ -1,7 +1,6 @@
 pub mod Answer
 pub mod PlainText
 pub mod Marks
-pub mod Lexes
-pub mod Numbers
+pub mod Plain
 pub mod Reads
 pub mod Spots

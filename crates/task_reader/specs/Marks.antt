@@ -1,6 +1,5 @@
 -- The tokens of a plain program that are always spelled the same.
-use Rattle.std.specs.Prelude.{◌≡◌, ℕ, Bool, false, codes, [], ◌∷◌, ◌++◌, ◌==◌, ◌||◌}
-use Rattle.std.specs.Char.{is_ascii_alphanumeric}
+use Rattle.std.specs.Prelude.{ℕ, codes}
 use Rattle.task_model.specs.Text.{Text}
 use Rattle.task_model.specs.Token.{TokenKindTerm, TokenTerm, name_token, keyword_token, symbol_token}
 use Rattle.task_reader.specs.declared.mark.Mark.{Mark}
@@ -37,30 +36,3 @@ kind_of And = symbol_token
 -- the token of a mark at a place
 abbrev pub mark_token : Mark → ℕ → TokenTerm
 mark_token m p = record { kind = kind_of m; from = p; spelling = spelling_of m }
-
--- an ASCII letter, a digit or `_`
-abbrev pub is_word_byte : ℕ → Bool
-is_word_byte b = is_ascii_alphanumeric b || (b == 95)
-
--- with this byte behind it, a mark is the beginning of a longer token
-abbrev pub grows_by : Mark → ℕ → Bool
-grows_by Task b = is_word_byte b
-grows_by Main b = is_word_byte b
-grows_by Int b = is_word_byte b
-grows_by Edit b = is_word_byte b
-grows_by Enter b = is_word_byte b
-grows_by Open b = false
-grows_by Close b = false
-grows_by Comma b = false
-grows_by Colon b = (b == 58) || (b == 61)
-grows_by Equals b = b == 61
-grows_by And b = false
-
--- with these bytes behind it
-abbrev pub goes_on : Mark → Text → Bool
-goes_on m [] = false
-goes_on m (b ∷ bs) = grows_by m b
-
--- the bytes begin with a mark as a whole token, and the rest follows
-abbrev pub Stands : Mark → Text → Text → Type 0
-Stands m bytes rest = (bytes ≡ spelling_of m ++ rest) × (goes_on m rest ≡ false)

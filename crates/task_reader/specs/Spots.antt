@@ -1,13 +1,13 @@
 -- The tokens that the reader keeps, as the tokens of the source.
-use Rattle.std.specs.Prelude.{ℕ, List, [], ◌∷◌, map, Option, Some, None}
+use Rattle.std.specs.Prelude.{ℕ, List, map}
 use Rattle.task_model.specs.Token.{TokenTerm}
-use Rattle.task_reader.specs.declared.spot.Token.{Token}
-use Rattle.task_reader.specs.declared.spot.Token.TheVariants as tokens
+use Rattle.task_reader.specs.declared.spot.PlainToken.{PlainToken}
+use Rattle.task_reader.specs.declared.spot.PlainToken.TheVariants as tokens
 use Rattle.task_reader.specs.declared.spot.Spot.{Spot}
 use Rattle.task_reader.specs.Marks.{mark_token}
 use Rattle.task_reader.specs.PlainText as plain
 
-abbrev pub token_term : Token → ℕ → TokenTerm
+abbrev pub token_term : PlainToken → ℕ → TokenTerm
 token_term (tokens.Mark m) p = mark_token m p
 token_term (tokens.Number n) p = plain.number n.digits.now p
 
@@ -17,8 +17,3 @@ spot_term s = token_term s.token s.from
 
 abbrev pub spot_terms : List Spot → List TokenTerm
 spot_terms spots = map spot_term spots
-
--- the token of a piece at a place, or none where it is a blank or a comment
-abbrev pub piece_terms : Option Token → ℕ → List TokenTerm
-piece_terms None p = []
-piece_terms (Some t) p = token_term t p ∷ []

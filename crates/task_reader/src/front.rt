@@ -6,7 +6,7 @@ ghost use Rattle.task_reader.specs.PlainText as plain;
 ghost use Rattle.task_reader.specs.Spots.{spot_terms};
 
 use crate::mark::Mark;
-use crate::spot::{Spot, Token};
+use crate::spot::{PlainToken, Spot};
 
 /// The place of this mark, if it stands first, and the tokens after it.
 pub(crate) fn strip<'t>(spots: &'t [Spot<'t>], mark: Mark) -> Option<(u64, &'t [Spot<'t>])>
@@ -16,7 +16,7 @@ pub(crate) fn strip<'t>(spots: &'t [Spot<'t>], mark: Mark) -> Option<(u64, &'t [
 {
     let (first, rest) = spots.split_first()?;
     match first.token {
-        Token::Mark(found) if found == mark => Some((first.from, rest)),
+        PlainToken::Mark(found) if found == mark => Some((first.from, rest)),
         _ => None,
     }
 }
@@ -30,7 +30,7 @@ pub(crate) fn number<'t>(spots: &'t [Spot<'t>]) -> Option<(u64, u64, &'t [Spot<'
 {
     let (first, rest) = spots.split_first()?;
     match first.token {
-        Token::Number(number) => Some((number.value, first.from, rest)),
-        Token::Mark(_) => None,
+        PlainToken::Number(number) => Some((number.value, first.from, rest)),
+        PlainToken::Mark(_) => None,
     }
 }

@@ -2,16 +2,15 @@
 #![tactic(auto)]
 
 mod front;
-mod lexer;
 mod mark;
 mod part;
 mod program;
 mod read;
-mod runs;
 mod spot;
 mod tasks;
 #[cfg(test)]
 mod tests;
+mod tokens;
 mod typed;
 mod types;
 

@@ -1,5 +1,5 @@
-ghost use Rattle.std.specs.Prelude.{◌≡◌, ℕ, List, MatchOption};
-ghost use Rattle.task_reader.specs.Marks.{spelling_of, grows_by, goes_on, is_word_byte, Stands};
+ghost use Rattle.std.specs.Prelude.{◌≡◌, ◌↔◌, IsTrue, MatchOption};
+ghost use Rattle.task_reader.specs.Marks.{spelling_of};
 
 /// A token that is always spelled the same.
 #[derive(Clone, Copy, Debug, PartialEq, Eq)]
@@ -17,6 +17,7 @@ pub(crate) enum Mark {
     And,
 }
 
+// Each mark.
 const MARKS: [Mark; 11] = [
     Mark::Task,
     Mark::Main,
@@ -30,12 +31,6 @@ const MARKS: [Mark; 11] = [
     Mark::Equals,
     Mark::And,
 ];
-
-fn continues_word(byte: u8) -> bool
-    ensures { result ≡ is_word_byte byte }
-{
-    byte.is_ascii_alphanumeric() || byte == b'_'
-}
 
 impl Mark {
     fn spelling(self) -> &'static [u8]
@@ -56,42 +51,22 @@ impl Mark {
         }
     }
 
-    /// Whether this mark with this byte behind it begins a longer token.
-    fn grows_by(self, byte: u8) -> bool
-        ensures { result ≡ grows_by self byte }
+    /// Whether these bytes are this mark.
+    fn is_spelled(self, bytes: &[u8]) -> bool
+        ensures { IsTrue result ↔ (bytes.now ≡ spelling_of self) }
     {
-        match self {
-            Mark::Task | Mark::Main | Mark::Int | Mark::Edit | Mark::Enter => continues_word(byte),
-            Mark::Colon => byte == b':' || byte == b'=',
-            Mark::Equals => byte == b'=',
-            Mark::Open | Mark::Close | Mark::Comma | Mark::And => false,
-        }
+        bytes == self.spelling()
     }
 
-    /// What stands after this mark, if it is the token at the front of these bytes.
-    fn strip(self, bytes: &[u8]) -> Option<&[u8]>
-        ensures { MatchOption result
-            ((rest : List ℕ) → Stands self bytes.now rest → ⊥)
-            (λ rest. Stands self bytes.now rest.now) }
+    /// The mark that is spelled so.
+    pub(crate) fn spelled(bytes: &[u8]) -> Option<Mark>
+        ensures { MatchOption result ((m : Mark) → bytes.now ≡ spelling_of m → ⊥) (λ m. bytes.now ≡ spelling_of m) }
     {
-        let rest = bytes.strip_prefix(self.spelling())?;
-        match rest.first() {
-            Some(next) if self.grows_by(*next) => None,
-            _ => Some(rest),
+        for mark in MARKS {
+            if mark.is_spelled(bytes) {
+                return Some(mark);
+            }
         }
+        None
     }
-}
-
-/// The mark that is the token at the front of these bytes, and what stands after it.
-pub(crate) fn mark_at(bytes: &[u8]) -> Option<(Mark, &[u8])>
-    ensures { MatchOption result
-        ((m : _) (rest : List ℕ) → Stands m bytes.now rest → ⊥)
-        (λ r. Stands r.0 bytes.now r.1.now) }
-{
-    for mark in MARKS {
-        if let Some(rest) = mark.strip(bytes) {
-            return Some((mark, rest));
-        }
-    }
-    None
 }

@@ -54,12 +54,13 @@ impl Part {
           places = start ∷ (place ∷ []);
         }) }
     {
+        let places = places_of(alloc, start, &[place], &[])?;
         Ok(Part {
             task: Task::Edit(Host::Int(value as i64)),
             levels: 2,
             count: 1,
             start,
-            places: places_of(alloc, start, &[place], &[])?,
+            places,
         })
     }
 
@@ -72,12 +73,13 @@ impl Part {
           places = start ∷ [];
         }) }
     {
+        let places = places_of(alloc, start, &[], &[])?;
         Ok(Part {
             task: Task::Enter(Basic::Int),
             levels: 2,
             count: 1,
             start,
-            places: places_of(alloc, start, &[], &[])?,
+            places,
         })
     }
 
@@ -107,5 +109,23 @@ impl Part {
             places,
             task: Task::And(boxed(alloc, self.task)?, boxed(alloc, right.task)?),
         })
+    }
+
+    /// This task in parentheses, the first of which stands here.
+    pub(crate) fn group(self, start: u64) -> Part
+        requires { self.levels + 1 < 2 ^ 64 }
+        ensures { part_term result ≡ record {
+          task = task_term self.task;
+          levels = suc self.levels;
+          count = self.count;
+          start = start;
+          places = self.places.list;
+        } }
+    {
+        Part {
+            levels: self.levels + 1,
+            start,
+            ..self
+        }
     }
 }

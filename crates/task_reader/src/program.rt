@@ -93,8 +93,9 @@ pub(crate) fn read_definition<'t>(
 pub(crate) fn program_of(alloc: Global, basic: Basic, task: Task) -> Result<Program, OutOfMemory>
     ensures { IfOk result (λ p. program_term p ≡ main_program (basic_term basic) (task_term task)) }
 {
+    let name = TaskText::of(alloc, "main")?;
     let main = Def {
-        name: TaskText::of(alloc, "main")?,
+        name,
         params: Row::new(alloc),
         result: basic,
         what: DefBody::Task(task),

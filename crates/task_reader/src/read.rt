@@ -6,9 +6,9 @@ ghost use Rattle.task_model.specs.Task.{task_term};
 ghost use Rattle.task_reader.specs.PlainText.{IsPlainText};
 ghost use Rattle.task_reader.specs.Answer.{IsNotPlain, IsOnlyPlain, IsRefusal};
 
-use crate::lexer::plain_tokens;
 use crate::part::places_of;
 use crate::program::{Definition, program_of, read_definition};
+use crate::tokens::plain_tokens;
 use std::alloc::Global;
 use std::str;
 use task_model::{OutOfMemory, Program, Row};
@@ -44,12 +44,8 @@ fn built(alloc: Global, main: Definition, end: u64) -> Result<Read, OutOfMemory>
     ensures program { IfOk result (λ r. program_term r.program ≡ main_program (basic_term main.result) (task_term main.body.task)) }
     ensures places { IfOk result (λ r. r.places.list ≡ main.start ∷ (main.body.places.list ++ (end ∷ []))) }
 {
-    let Definition {
-        start,
-        result,
-        body,
-    } = main;
-    let places = places_of(alloc, start, body.places.as_slice(), &[end])?;
+    let places = places_of(alloc, main.start, main.body.places.as_slice(), &[end])?;
+    let Definition { result, body, .. } = main;
     let program = program_of(alloc, result, body.task)?;
     Ok(Read { program, places })
 }
@@ -63,10 +59,10 @@ fn read_plain(alloc: Global, bytes: &[u8]) -> Result<Option<Read>, OutOfMemory>
     if bytes.len() > MOST_BYTES {
         return Ok(None);
     }
-    if str::from_utf8(bytes).is_err() {
+    let Ok(source) = str::from_utf8(bytes) else {
         return Ok(None);
-    }
-    let Some(spots) = plain_tokens(alloc, bytes)? else {
+    };
+    let Some(spots) = plain_tokens(alloc, source)? else {
         return Ok(None);
     };
     let Some(main) = read_definition(alloc, spots.as_slice())? else {

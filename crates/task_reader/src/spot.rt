@@ -14,7 +14,7 @@ pub(crate) struct Number<'s> {
 
 /// A token of a plain program.
 #[derive(Clone, Copy)]
-pub(crate) enum Token<'s> {
+pub(crate) enum PlainToken<'s> {
     Mark(Mark),
     Number(Number<'s>),
 }
@@ -22,6 +22,6 @@ pub(crate) enum Token<'s> {
 /// A token and the place of its first byte.
 #[derive(Clone, Copy)]
 pub(crate) struct Spot<'s> {
-    pub(crate) token: Token<'s>,
+    pub(crate) token: PlainToken<'s>,
     pub(crate) from: u64,
 }

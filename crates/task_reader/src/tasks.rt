@@ -43,15 +43,13 @@ fn read_atom<'t>(
     let Some((start, rest)) = strip(spots, Mark::Open) else {
         return Ok(None);
     };
-    let Some((mut part, rest)) = read_chain(alloc, room - 1, rest)? else {
+    let Some((part, rest)) = read_chain(alloc, room - 1, rest)? else {
         return Ok(None);
     };
     let Some((_, rest)) = strip(rest, Mark::Close) else {
         return Ok(None);
     };
-    part.levels += 1;
-    part.start = start;
-    Ok(Some((part, rest)))
+    Ok(Some((part.group(start), rest)))
 }
 
 /// The tasks of at most so many levels with `<&>` between them at the front of these tokens, and what stands after them.

@@ -20,7 +20,8 @@ use Rattle.task_model.specs.declared.input.Turn.{Turn}
 use Rattle.task_model.specs.declared.input.Turn.TheVariants as turns
 use Rattle.task_model.specs.declared.purse.Stop.{Stop}
 use Rattle.task_model.specs.declared.purse.Stop.TheVariants.{Over, Memory}
-use Rattle.world_core.specs.PlainTree.{PlainTree, node_at, put_at, type_at}
+use Rattle.task_model.specs.PlainTree.{PlainTree}
+use Rattle.world_core.specs.PlainTree.{node_at, put_at, type_at}
 use Rattle.world_core.specs.Acting.{Sets, IsLacking, Judges, Acts}
 use Rattle.task_model.specs.declared.stops.ActStop.{ActStop}
 use Rattle.task_model.specs.declared.stops.ActStop.TheVariants.{NotOffered}

@@ -18,7 +18,8 @@ use Rattle.task_model.specs.Accepted.{PlainType}
 use Rattle.task_model.specs.declared.basic.Basic.{Basic}
 use Rattle.task_model.specs.declared.value.Value.{Value}
 use Rattle.task_model.proofs.RanLemmas.{ran_give}
-use Rattle.world_core.specs.PlainTree.{PlainTree, HasNumber, IsInt, MayEvaluate}
+use Rattle.task_model.specs.PlainTree.{PlainTree}
+use Rattle.world_core.specs.PlainTree.{HasNumber, IsInt, MayEvaluate}
 
 -- a number's expression gives its value
 pub number_ran : {c : CheckedTerm} {old : Left} (e : HostTerm) (env : EnvTerm) (σ : List ValueTerm) (v : Value) → HasNumber e (value_term v) → Ran c (value_rule c e env σ) value_term old old (Ok v)

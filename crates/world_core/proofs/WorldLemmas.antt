@@ -28,7 +28,8 @@ use Rattle.task_model.specs.declared.purse.Stop.{Stop}
 use Rattle.task_model.specs.declared.purse.Stop.TheVariants.{Over, Memory}
 use Rattle.task_model.proofs.OutcomeLemmas.{lead_to_more}
 use Rattle.task_model.proofs.OfferLemmas.{widgets_exist}
-use Rattle.world_core.specs.PlainTree.{PlainTree, tree_nodes, IsSmallTree}
+use Rattle.task_model.specs.PlainTree.{PlainTree, IsSmallTree}
+use Rattle.world_core.specs.PlainTree.{tree_nodes}
 use Rattle.world_core.specs.World.{SeenWorld, WorldTerm, world_term, IsStanding, with_entry, Replies, IsPage}
 use Rattle.world_core.specs.Acting.{Acts}
 use Rattle.world_core.specs.Inside.{IsKept}
@@ -84,7 +85,7 @@ standing_legal w s = subst IsLegal (sym s.begins) (s.budget, s.seats, (w.state, 
 pub standing_terminal : (w : WorldTerm) (seat : ℕ) (text : Text) → IsStanding w → IsPage w seat text → IsTerminal w.history seat text
 standing_terminal w seat text s p =
     subst (λ h. IsTerminal h seat text) (sym s.begins)
-    (w.checked.types, w.state, p.0, s.accepted, s.reached, p.1, p.2 ∙ ap (λ h. page_text (version_of h) seat p.0) s.begins)
+    (p.0, (w.checked.types, w.state, s.accepted, s.reached, p.1), p.2 ∙ ap (λ h. page_text (version_of h) seat p.0) s.begins)
 
 -- a text that is the page of any widgets of the tree is the world's page
 pub page_of : (w : WorldTerm) (seat version : ℕ) (text : Text) → version ≡ version_of w.history

@@ -11,7 +11,8 @@ use Rattle.task_model.specs.Outcome.{IsOutcome, taken, not_offered, over_budget}
 use Rattle.task_model.specs.declared.tree.Tree.{Tree}
 use Rattle.task_model.specs.declared.stops.ActStop.{ActStop}
 use Rattle.task_model.specs.declared.stops.ActStop.TheVariants.{NotOffered, Over, Memory}
-use Rattle.world_core.specs.PlainTree.{PlainTree, node_at, put_at}
+use Rattle.task_model.specs.PlainTree.{PlainTree}
+use Rattle.world_core.specs.PlainTree.{node_at, put_at}
 
 -- the input puts this node in its place
 pub record Sets (t : TreeTerm) (i : InputTerm) (node : TreeTerm) : Type 0 where

@@ -1,7 +1,7 @@
 -- What every world keeps.
 use Rattle.std.specs.Prelude.{◌≡◌, []}
 use Rattle.task_model.specs.Tree.{tree_term}
-use Rattle.world_core.specs.PlainTree.{IsSmallTree}
+use Rattle.task_model.specs.PlainTree.{IsSmallTree}
 use Rattle.world_core.specs.World.{SeenWorld, world_term, IsStanding}
 
 pub record IsKept (w : SeenWorld) : Type 0 where

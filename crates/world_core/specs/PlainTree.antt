@@ -1,4 +1,4 @@
--- The trees of plain programs: editors of ints, and pairs.
+-- Plain tasks and trees at work: numbers, environments without names, and the nodes that paths lead to.
 use Rattle.std.specs.Prelude.{◌≡◌, ℕ, suc, ◌+◌, ◌≤◌, List, [], ◌∷◌, length, replicate, Option, Some, None}
 use Rattle.task_model.specs.Basic.{BasicTerm, int_type, pair_type}
 use Rattle.task_model.specs.Value.{ValueTerm, int_value}
@@ -10,13 +10,6 @@ use Rattle.task_model.specs.Checked.{CheckedTerm, nodes_of}
 use Rattle.task_model.specs.Accepted.{PlainType, symbols_of}
 use Rattle.task_model.specs.declared.input.Turn.{Turn}
 use Rattle.task_model.specs.declared.input.Turn.TheVariants as turns
-
--- a plain tree of a type
-abbrev pub PlainTree : TreeTerm → BasicTerm → Type 0
-PlainTree (edit_tree int_type (int_value i)) b = b ≡ int_type
-PlainTree (enter_tree int_type) b = b ≡ int_type
-PlainTree (and_tree t u) b = (x : BasicTerm) × (y : BasicTerm) × (b ≡ pair_type x y) × PlainTree t x × PlainTree u y
-PlainTree t b = ⊥
 
 -- a number's expression
 abbrev pub IsNumber : HostTerm → Type 0
@@ -75,13 +68,7 @@ type_at (Some (edit_tree b v)) = Some b
 type_at (Some (enter_tree b)) = Some b
 type_at o = None
 
--- a plain tree of a type that has at most 64 symbols
-pub record IsSmallTree (t : TreeTerm) : Type 0 where
-  pub type : BasicTerm
-  pub plain : PlainTree t type
-  pub small : symbols_of type ≤ 64
-
--- a plain task of such a type
+-- a plain task of a type that has at most 64 symbols
 pub record IsSmallTask (t : TaskTerm) : Type 0 where
   pub type : BasicTerm
   pub typed : PlainType t type

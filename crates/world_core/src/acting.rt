@@ -3,7 +3,7 @@ ghost use Rattle.task_model.specs.Basic.{BasicTerm, basic_term};
 ghost use Rattle.task_model.specs.Value.{value_term};
 ghost use Rattle.task_model.specs.Tree.{tree_term, edit_tree};
 ghost use Rattle.task_model.specs.Input.{input_term};
-ghost use Rattle.world_core.specs.PlainTree.{PlainTree};
+ghost use Rattle.task_model.specs.PlainTree.{PlainTree};
 ghost use Rattle.world_core.specs.Acting.{Judges, Acts};
 
 use crate::editing::{put_node, type_at};

@@ -6,7 +6,8 @@ ghost use Rattle.task_model.specs.Tree.{tree_term};
 ghost use Rattle.task_model.specs.Checked.{CheckedTerm};
 ghost use Rattle.task_model.specs.Widget.{WidgetTerm, AreWidgets};
 ghost use Rattle.task_model.specs.Page.{turns_text, path_text, widget_lines, head_text, page_text};
-ghost use Rattle.world_core.specs.PlainTree.{PlainTree, IsInt};
+ghost use Rattle.task_model.specs.PlainTree.{PlainTree};
+ghost use Rattle.world_core.specs.PlainTree.{IsInt};
 ghost use Rattle.world_core.specs.Drawing.{all_below};
 
 use itoa::Buffer;

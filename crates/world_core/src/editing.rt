@@ -2,7 +2,8 @@ ghost use Rattle.std.specs.Prelude.{◌≡◌, ◌≤◌, ℕ, Some, IsSome};
 ghost use Rattle.std.specs.Option.{option_map};
 ghost use Rattle.task_model.specs.Basic.{BasicTerm, basic_term};
 ghost use Rattle.task_model.specs.Tree.{tree_term};
-ghost use Rattle.world_core.specs.PlainTree.{PlainTree, tree_nodes, node_at, put_at};
+ghost use Rattle.task_model.specs.PlainTree.{PlainTree};
+ghost use Rattle.world_core.specs.PlainTree.{tree_nodes, node_at, put_at};
 ghost use Rattle.world_core.specs.PlainTree as plain;
 
 use std::mem;

@@ -10,7 +10,8 @@ ghost use Rattle.task_model.specs.Plan.{gives_value, evaluates};
 ghost use Rattle.task_model.specs.Rules.{evaluate_rule};
 ghost use Rattle.task_model.specs.Calls.{Asked, Ran};
 ghost use Rattle.task_model.specs.Accepted.{PlainType, main_name, IsAccepted};
-ghost use Rattle.world_core.specs.PlainTree.{PlainTree, IsNumber, HasNumber, IsInt, IsSmallTree, IsSmallTask, plain_env, MayEvaluate};
+ghost use Rattle.task_model.specs.PlainTree.{PlainTree, IsSmallTree};
+ghost use Rattle.world_core.specs.PlainTree.{IsNumber, HasNumber, IsInt, IsSmallTask, plain_env, MayEvaluate};
 
 use std::alloc::Global;
 use task_model::{

@@ -11,7 +11,7 @@ ghost use Rattle.task_model.specs.Judgements.{Settles, Normal};
 ghost use Rattle.task_model.specs.Spends.{Spends};
 ghost use Rattle.task_model.specs.Calls.{Asked, Ran};
 ghost use Rattle.task_model.specs.Accepted.{main_name, IsAccepted};
-ghost use Rattle.world_core.specs.PlainTree.{PlainTree, IsSmallTree};
+ghost use Rattle.task_model.specs.PlainTree.{PlainTree, IsSmallTree};
 
 use crate::evaluation::call_main;
 use std::alloc::Global;

@@ -5,7 +5,8 @@ ghost use Rattle.task_model.specs.Input.{input_term};
 ghost use Rattle.task_model.specs.Item.{opened, history_term};
 ghost use Rattle.task_model.specs.Checked.{checked_term};
 ghost use Rattle.task_model.specs.State.{IsOpening, IsState, IsLegal, IsTerminal, IsSeat, IsBudget, version_of};
-ghost use Rattle.world_core.specs.PlainTree.{tree_nodes, IsSmallTree};
+ghost use Rattle.task_model.specs.PlainTree.{IsSmallTree};
+ghost use Rattle.world_core.specs.PlainTree.{tree_nodes};
 ghost use Rattle.world_core.specs.World.{SeenWorld, world_term, IsStanding, Replies, IsPage};
 
 use crate::acting::act;

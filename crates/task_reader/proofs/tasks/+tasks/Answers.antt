@@ -1,4 +1,4 @@
-use Rattle.std.proofs.Common.{arith, add-one}
+use Rattle.std.proofs.Common.{arith}
 use Rattle.task_reader.proofs.AtomLemmas as atoms
 use Rattle.task_reader.proofs.ChainLemmas as chains
 use Rattle.task_reader.proofs.tasks.+tasks.Goals as goal
@@ -32,7 +32,7 @@ read_atom-returns-in_default-strip-4 t c = atoms.no_close c.args.room c.in-Some-
 pub read_atom-returns : goal.read_atom-returns
 read_atom-returns t c =
     let read = atoms.group_read c.args.room c.in-Some-strip-3.ensures (rw c.in-Some-2.is at c.in_ok-part-3.ensures) (omega arith) c.in-Some-strip-4.ensures in
-    rw add-one read
+    rw c.group.ensures read
 
 pub read_chain-returns-in_default : goal.read_chain-returns-in_default
 read_chain-returns-in_default t c = chains.no_start (rw c.in_default.is at c.in_ok-left.ensures)

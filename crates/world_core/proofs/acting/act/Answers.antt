@@ -2,7 +2,8 @@ use Rattle.std.proofs.Common.{refl, sym, subst, ◌∙◌, ap}
 use Rattle.std.specs.Option.{IsSome}
 use Rattle.task_model.specs.Input.{input_term}
 use Rattle.task_model.specs.Tree.{tree_term}
-use Rattle.world_core.specs.PlainTree.{PlainTree, node_at, put_at}
+use Rattle.task_model.specs.PlainTree.{PlainTree}
+use Rattle.world_core.specs.PlainTree.{node_at, put_at}
 use Rattle.world_core.specs.Acting.{Acts}
 use Rattle.world_core.proofs.ActingLemmas.{node_at-put_at, put_at-put_at, acts_judged, acts_taken, acts_stopped}
 use Rattle.task_model.proofs.RanLemmas.{stopped}

@@ -1,0 +1,13 @@
+pub mod WordLemmas
+pub mod IntLemmas
+pub mod CharacterLemmas
+pub mod TextLemmas
+pub mod EscapeLemmas
+pub mod ContentLemmas
+pub mod FitLemmas
+pub mod LiteralLemmas
+pub mod ListLemmas
+pub mod ChoiceLemmas
+pub mod TypeLemmas
+pub mod ReadLemmas
+pub mod PrintLemmas

@@ -1,0 +1,13 @@
+mod LikeLemmas
+mod TwinLemmas
+mod AlikeLemmas
+mod FrameLemmas
+mod PlaceLemmas
+mod FootLemmas
+mod FailingLemmas
+mod NextLemmas
+mod PlainLemmas
+mod PlainFaceLemmas
+mod OfferListLemmas
+mod LackingLemmas
+mod MatchLemmas

@@ -1,0 +1,96 @@
+ghost use Rattle.std.specs.Prelude.{◌≡◌, ◌↔◌, ℕ, Bool, true, List, [], length, Some, None, slice_get};
+ghost use Rattle.std.specs.List.{All, Contains};
+ghost use Rattle.std.specs.List.Sorted.{IsStrictlyIncreasing};
+ghost use Rattle.task_model.specs.Value.{ValueTerm};
+ghost use Rattle.task_model.specs.Tree.{LaterTerm, TreeTerm, State, at};
+ghost use Rattle.task_model.specs.Foot.{with_places, foot, AgreeOn};
+ghost use Rattle.task_model.specs.Checked.{CheckedTerm};
+ghost use Rattle.task_model.specs.Rules.{value_of, side, trial};
+ghost use Rattle.task_model.specs.Judgements.{Fails, Within};
+ghost use Rattle.task_model.specs.Input.{InputTerm};
+ghost use Rattle.task_model.specs.Item.{ItemTerm};
+ghost use Rattle.task_model.specs.Accepted.{IsAccepted};
+ghost use Rattle.task_model.specs.PlainTree.{IsSmallTree};
+ghost use Rattle.task_model.specs.Outcome.{taken, not_offered, over_budget, IsOutcome};
+ghost use Rattle.task_model.specs.State.{IsReached};
+ghost use Rattle.task_model.specs.Sign.{Test};
+ghost use Rattle.task_model.specs.Offer.{next_offer, OfferTerm, AreOffers, SomeMatches};
+ghost use Rattle.task_model.specs.Widget.{WidgetTerm, AreWidgets};
+ghost use Rattle.task_laws.specs.Places.{places_in};
+ghost use Rattle.task_laws.specs.PlainStates.{IsPlainState, SetsInt, OffersInt, IsPlainShape};
+
+/// A tree's foot has exactly the places that are in the tree, in increasing order and each once. Two stores agree on it
+/// where they have the same length and the same values at these places.
+pub fn foot_is_in_order()
+    ensures increasing { (t : TreeTerm) → IsStrictlyIncreasing (foot t) }
+    ensures places { (t : TreeTerm) (n : ℕ) → Contains (foot t) n ↔ Contains (places_in t) n }
+    ensures agreeing { (t : TreeTerm) (σ τ : List ValueTerm) →
+        AgreeOn (foot t) σ τ ↔ ((length σ ≡ length τ) × All (λ n. slice_get σ n ≡ slice_get τ n) (places_in t)) }
+{}
+
+/// Over stores that agree on a tree's foot the tree has the same value, and is failing or not in the same number of units
+/// and at the same height.
+pub fn foot_frames_values_and_failing()
+    ensures value { (t : TreeTerm) (σ τ : List ValueTerm) → AgreeOn (foot t) σ τ → value_of t σ ≡ value_of t τ }
+    ensures failing { (c : CheckedTerm) (t : TreeTerm) (σ τ : List ValueTerm) → AgreeOn (foot t) σ τ →
+        (failing : Bool) (n h : ℕ) → Fails c (at t σ) failing n h ↔ Fails c (at t τ) failing n h }
+{}
+
+/// Over stores that agree on the places of its slots a cont's trial at a value, and the test of a side, have the same end
+/// in the same number of units and at the same height.
+pub fn foot_frames_tests()
+    ensures trial { (c : CheckedTerm) (budget : ℕ) (k : LaterTerm) (v : ValueTerm) (σ τ : List ValueTerm) →
+        AgreeOn (with_places k.slots []) σ τ →
+        (failing : Bool) (n h : ℕ) → Test c budget (trial c k v σ) failing n h ↔ Test c budget (trial c k v τ) failing n h }
+    ensures side { (c : CheckedTerm) (budget : ℕ) (k : LaterTerm) (σ τ : List ValueTerm) →
+        AgreeOn (with_places k.slots []) σ τ →
+        (failing : Bool) (n h : ℕ) → Test c budget (side c k σ) failing n h ↔ Test c budget (side c k τ) failing n h }
+{}
+
+/// Over stores that agree on a tree's foot the tree has the same offers and the same widgets.
+pub fn foot_frames_offers_and_widgets()
+    ensures offers { (c : CheckedTerm) (budget : ℕ) (t : TreeTerm) (σ τ : List ValueTerm) → AgreeOn (foot t) σ τ →
+        (os : List OfferTerm) → AreOffers c budget t σ os ↔ AreOffers c budget t τ os }
+    ensures widgets { (c : CheckedTerm) (budget : ℕ) (t : TreeTerm) (σ τ : List ValueTerm) → AgreeOn (foot t) σ τ →
+        (ws : List WidgetTerm) → AreWidgets c budget t σ ws ↔ AreWidgets c budget t τ ws }
+{}
+
+/// Some offer of a state's tree matches an input exactly where its outcome there is another than not offered, and none does
+/// exactly where its outcome is not offered.
+pub fn offered_or_not()
+    ensures offered { (c : CheckedTerm) (budget : ℕ) (s : State) (i : InputTerm) (os : List OfferTerm) → AreOffers c budget s.tree s.store os →
+        SomeMatches os i ↔ (IsOutcome c budget s i not_offered → ⊥) }
+    ensures not_offered { (c : CheckedTerm) (budget : ℕ) (s : State) (i : InputTerm) (os : List OfferTerm) → AreOffers c budget s.tree s.store os →
+        IsOutcome c budget s i not_offered ↔ (SomeMatches os i → ⊥) }
+{}
+
+/// What is failing has no value. What is failing within the budget offers nothing.
+pub fn failing_offers_nothing()
+    ensures value { (c : CheckedTerm) (t : TreeTerm) (σ : List ValueTerm) (n h : ℕ) → Fails c (at t σ) true n h → value_of t σ ≡ None }
+    ensures offers { (c : CheckedTerm) (budget : ℕ) (t : TreeTerm) (σ : List ValueTerm) (n h : ℕ) →
+        Fails c (at t σ) true n h → Within budget n h → (os : List OfferTerm) → AreOffers c budget t σ os → os ≡ [] }
+{}
+
+/// Where the left part of a user step has a value, none of its offers is Next with an empty path: that path is the step's.
+pub fn next_stands_alone()
+    ensures { (c : CheckedTerm) (budget : ℕ) (left : TreeTerm) (σ : List ValueTerm) (v : ValueTerm) (os : List OfferTerm) →
+        value_of left σ ≡ Some v → AreOffers c budget left σ os → All (λ o. o.path ≡ [] → o.kind ≡ next_offer → ⊥) os }
+{}
+
+/// A plain program meets none of the other cases: at all its states the tree is plain and small and the store empty; the
+/// tree isn't failing; it offers nothing but setting ints, for certain, and shows nothing but editors of ints and pairs;
+/// what is taken sets an int, and no input is over the budget. Today all accepted programs are plain.
+pub fn plain_programs_stay_plain()
+    ensures accepted { (c : CheckedTerm) (budget : ℕ) (items : List ItemTerm) (s : State) →
+        IsAccepted c → IsReached c budget items s → IsPlainState c budget s }
+    ensures state { (c : CheckedTerm) (budget : ℕ) (s : State) → IsPlainState c budget s → IsSmallTree s.tree × (s.store ≡ []) }
+    ensures failing { (c : CheckedTerm) (budget : ℕ) (s : State) → IsPlainState c budget s → (n h : ℕ) → Fails c s true n h → ⊥ }
+    ensures offers { (c : CheckedTerm) (budget : ℕ) (s : State) → IsPlainState c budget s →
+        (os : List OfferTerm) → AreOffers c budget s.tree s.store os → All OffersInt os }
+    ensures widgets { (c : CheckedTerm) (budget : ℕ) (s : State) → IsPlainState c budget s →
+        (ws : List WidgetTerm) → AreWidgets c budget s.tree s.store ws → All (λ w. IsPlainShape w.shape) ws }
+    ensures taken { (c : CheckedTerm) (budget : ℕ) (s : State) → IsPlainState c budget s →
+        (i : InputTerm) (t : State) → IsOutcome c budget s i (taken t) → SetsInt i.act }
+    ensures over_budget { (c : CheckedTerm) (budget : ℕ) (s : State) → IsPlainState c budget s →
+        (i : InputTerm) → IsOutcome c budget s i over_budget → ⊥ }
+{}

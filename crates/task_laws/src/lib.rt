@@ -1,0 +1,11 @@
+//! Laws over the definitions of `task_model`: each is a function that does nothing, and whose clauses hold of the
+//! definitions alone.
+#![tactic(auto)]
+
+mod laws;
+
+pub use laws::{
+    failing_offers_nothing, foot_frames_offers_and_widgets, foot_frames_tests,
+    foot_frames_values_and_failing, foot_is_in_order, next_stands_alone, offered_or_not,
+    plain_programs_stay_plain,
+};

@@ -1,0 +1,15 @@
+pub mod Bytes
+pub mod Classes
+pub mod Deciding
+pub mod EscapeLemmas
+pub mod Leading
+pub mod Lines
+pub mod Longest
+pub mod OneReading
+pub mod PartLemmas
+pub mod Pieces
+pub mod Reached
+pub mod SomeReading
+pub mod TableLemmas
+pub mod Tables
+pub mod Words

@@ -1,0 +1,22 @@
+//! The tokens of a program.
+#![tactic(auto)]
+
+mod cursor;
+mod keyword;
+mod laws;
+mod lexer;
+mod number;
+mod run;
+mod stop;
+mod symbol;
+#[cfg(test)]
+mod tests;
+mod text;
+mod token;
+
+pub use keyword::Keyword;
+pub use laws::one_reading;
+pub use lexer::lex;
+pub use stop::{LexKind, LexStop};
+pub use symbol::Symbol;
+pub use token::{Token, TokenKind, Tokens};
