@@ -1,0 +1,9 @@
+pub mod ListLemmas
+pub mod TermLemmas
+pub mod CharacterLemmas
+pub mod KnownLemmas
+pub mod EqualLemmas
+pub mod RunLemmas
+pub mod TaskLemmas
+pub mod EngineLemmas
+pub mod HandlingLemmas
