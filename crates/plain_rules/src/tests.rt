@@ -102,15 +102,15 @@ struct Maker {
     types: Row<Basic>,
 }
 
-fn maker(alloc: Global) -> Maker {
-    Maker {
-        defs: Row::new(alloc),
-        bodies: Row::new(alloc),
-        types: Row::new(alloc),
-    }
-}
-
 impl Maker {
+    fn new(alloc: Global) -> Maker {
+        Maker {
+            defs: Row::new(alloc),
+            bodies: Row::new(alloc),
+            types: Row::new(alloc),
+        }
+    }
+
     fn task(&mut self, alloc: Global, text: &str, task: Task) -> Result<(), OutOfMemory> {
         self.defs.push(Def {
             name: name(alloc, text)?,
@@ -297,7 +297,7 @@ fn shows_html(
 
 // `enter int >>? x . BODY`, or with `>>=`
 fn one_step(alloc: Global, user: bool, body: Task, types: usize) -> Result<Rules, OutOfMemory> {
-    let mut m = maker(alloc);
+    let mut m = Maker::new(alloc);
     let left = enter(Basic::Int);
     let main = if user {
         next(alloc, left, 0)?
@@ -351,7 +351,7 @@ fn put(alloc: Global, text: &str, value: Host, rest: Task) -> Result<Task, OutOf
 
 // `new r = 7 in (enter int >>? x . (r := x ; if x > 0 then edit x else fail int)) <&> share r`
 fn row_5(alloc: Global) -> Result<Rules, OutOfMemory> {
-    let mut m = maker(alloc);
+    let mut m = Maker::new(alloc);
     let step = next(alloc, enter(Basic::Int), 0)?;
     let both = and(alloc, step, share(alloc, "r")?)?;
     m.task(alloc, "main", new(alloc, "r", Host::Int(7), both)?)?;
@@ -363,7 +363,7 @@ fn row_5(alloc: Global) -> Result<Rules, OutOfMemory> {
 
 // `new r = 1 in share r <&> share r`
 fn row_6(alloc: Global) -> Result<Rules, OutOfMemory> {
-    let mut m = maker(alloc);
+    let mut m = Maker::new(alloc);
     let both = and(alloc, share(alloc, "r")?, share(alloc, "r")?)?;
     m.task(alloc, "main", new(alloc, "r", Host::Int(1), both)?)?;
     m.types(2)?;
@@ -401,7 +401,7 @@ fn stores(rt: HostRuntime) -> Result<(), Fail> {
 
 // `edit 1 <?> fail int`
 fn row_7(alloc: Global) -> Result<Rules, OutOfMemory> {
-    let mut m = maker(alloc);
+    let mut m = Maker::new(alloc);
     m.task(alloc, "main", Task::Xor { left: 0, right: 1 })?;
     m.body(alloc, &[], None, edit(1))?;
     m.body(alloc, &[], None, Task::Fail(Basic::Int))?;
@@ -411,7 +411,7 @@ fn row_7(alloc: Global) -> Result<Rules, OutOfMemory> {
 
 // `enter int <|> enter int`
 fn row_8(alloc: Global) -> Result<Rules, OutOfMemory> {
-    let mut m = maker(alloc);
+    let mut m = Maker::new(alloc);
     let left = boxed(alloc, enter(Basic::Int))?;
     let main = Task::Or(left, boxed(alloc, enter(Basic::Int))?);
     m.task(alloc, "main", main)?;
@@ -420,7 +420,7 @@ fn row_8(alloc: Global) -> Result<Rules, OutOfMemory> {
 
 // `(enter int >>? x . edit x) >>? y . edit (y * 2)`
 fn row_9(alloc: Global) -> Result<Rules, OutOfMemory> {
-    let mut m = maker(alloc);
+    let mut m = Maker::new(alloc);
     let first = next(alloc, enter(Basic::Int), 0)?;
     m.task(alloc, "main", next(alloc, first, 1)?)?;
     m.body(alloc, &[], Some("x"), Task::Edit(named(alloc, "x")?))?;
@@ -455,7 +455,7 @@ fn choices(rt: HostRuntime) -> Result<(), Fail> {
 
 // `task loop() : int = edit 1 >>= x . loop()` and `main() = loop()`
 fn row_10(alloc: Global) -> Result<Rules, OutOfMemory> {
-    let mut m = maker(alloc);
+    let mut m = Maker::new(alloc);
     m.task(alloc, "loop", then(alloc, edit(1), 0)?)?;
     m.task(alloc, "main", call(alloc, "loop")?)?;
     m.body(alloc, &[], Some("x"), call(alloc, "loop")?)?;
@@ -465,7 +465,7 @@ fn row_10(alloc: Global) -> Result<Rules, OutOfMemory> {
 
 // `a() = edit 1 >>= x . b()`, `b() = edit 2 >>= x . a()` and `main() = a()`
 fn row_11(alloc: Global) -> Result<Rules, OutOfMemory> {
-    let mut m = maker(alloc);
+    let mut m = Maker::new(alloc);
     m.task(alloc, "a", then(alloc, edit(1), 0)?)?;
     m.task(alloc, "b", then(alloc, edit(2), 1)?)?;
     m.task(alloc, "main", call(alloc, "a")?)?;
@@ -477,7 +477,7 @@ fn row_11(alloc: Global) -> Result<Rules, OutOfMemory> {
 
 // `main() <?> main()`
 fn row_24(alloc: Global) -> Result<Rules, OutOfMemory> {
-    let mut m = maker(alloc);
+    let mut m = Maker::new(alloc);
     m.task(alloc, "main", Task::Xor { left: 0, right: 1 })?;
     m.body(alloc, &[], None, call(alloc, "main")?)?;
     m.body(alloc, &[], None, call(alloc, "main")?)?;
@@ -486,7 +486,7 @@ fn row_24(alloc: Global) -> Result<Rules, OutOfMemory> {
 
 // `edit 1 >>= x . edit 2 >>= y . edit 3`
 fn three_edits(alloc: Global) -> Result<Rules, OutOfMemory> {
-    let mut m = maker(alloc);
+    let mut m = Maker::new(alloc);
     m.task(alloc, "main", then(alloc, edit(1), 0)?)?;
     m.body(alloc, &[], Some("x"), then(alloc, edit(2), 1)?)?;
     m.body(alloc, &["x"], Some("y"), edit(3))?;
@@ -521,7 +521,7 @@ fn budgets(rt: HostRuntime) -> Result<(), Fail> {
 
 // A program of one task, whose one node has this type.
 fn one_task(alloc: Global, task: Task, basic: Basic) -> Result<Rules, OutOfMemory> {
-    let mut m = maker(alloc);
+    let mut m = Maker::new(alloc);
     m.task(alloc, "main", task)?;
     m.types.push(basic)?;
     Ok(m.made())
@@ -534,7 +534,7 @@ fn texts(alloc: Global) -> Result<Basic, OutOfMemory> {
 // `task post(log : ref [text]) = enter text >>? m . (log := m :: !log ; post(log))`
 // and `main() = new log = nil text in post(log) <&> share log`
 fn row_23(alloc: Global) -> Result<Rules, OutOfMemory> {
-    let mut m = maker(alloc);
+    let mut m = Maker::new(alloc);
     let mut params = Row::new(alloc);
     params.push(Param {
         name: name(alloc, "log")?,
