@@ -31,7 +31,9 @@ pub fn handle(
     store: &mut Row<Value>,
     input: &Input,
     purse: &mut Purse,
-) -> Result<Option<Tree>, Stop> {
+) -> Result<Option<Tree>, Stop>
+    ensures { Spends (model.Handled (rules_term rules.now) (at (tree_term t.now) (map value_term store.old.list)) (input_term input.now)) (option_map (λ u. at (tree_term u) (map value_term store.new.list))) purse.old purse.new result }
+{
     handled(
         alloc,
         rules,
@@ -51,7 +53,9 @@ pub fn interact(
     store: &mut Row<Value>,
     input: &Input,
     purse: &mut Purse,
-) -> Result<Option<Tree>, Stop> {
+) -> Result<Option<Tree>, Stop>
+    ensures { Spends (model.Interacts (rules_term rules.now) (at (tree_term t.now) (map value_term store.old.list)) (input_term input.now)) (option_map (λ u. at (tree_term u) (map value_term store.new.list))) purse.old purse.new result }
+{
     interacted(alloc, rules, t, store, input, purse)
 }
 
@@ -62,7 +66,9 @@ fn interacted(
     store: &mut Row<Value>,
     input: &Input,
     purse: &mut Purse,
-) -> Result<Option<Tree>, Stop> {
+) -> Result<Option<Tree>, Stop>
+    ensures { Ran (rules_term rules.now) (model.interacts (rules_term rules.now) (at (tree_term t.now) (map value_term store.old.list)) (input_term input.now)) (option_map (λ u. at (tree_term u) (map value_term store.new.list))) purse.old purse.new result }
+{
     let led = handled(
         alloc,
         rules,
@@ -102,6 +108,7 @@ fn handled(
     purse: &mut Purse,
 ) -> Result<Option<Tree>, Stop>
     ensures height { OnOk result (purse.new.height ≡ purse.old.height) }
+    ensures ran { Ran (rules_term rules.now) (model.handled (rules_term rules.now) (tree_term t.now) (map value_term store.old.list) path.now (act_term act.now)) (option_map (λ u. at (tree_term u) (map value_term store.new.list))) purse.old purse.new result }
 {
     match t {
         Tree::Edit(b, _) => memory(edited(alloc, b, path, act)),
@@ -124,25 +131,29 @@ fn handled(
         Tree::Fail => Ok(None),
         Tree::And(a, b) => match path {
             [] => Ok(None),
-            [Turn::First, rest @ ..] => {
-                let led = handled(alloc, rules, a, store, rest, act, purse)?;
-                memory(beside(alloc, Turn::First, false, led, b))
-            }
-            [Turn::Second, rest @ ..] => {
-                let led = handled(alloc, rules, b, store, rest, act, purse)?;
-                memory(beside(alloc, Turn::Second, false, led, a))
-            }
+            [turn, rest @ ..] => match turn {
+                Turn::First => {
+                    let led = handled(alloc, rules, a, store, rest, act, purse)?;
+                    memory(beside(alloc, Turn::First, false, led, b))
+                }
+                Turn::Second => {
+                    let led = handled(alloc, rules, b, store, rest, act, purse)?;
+                    memory(beside(alloc, Turn::Second, false, led, a))
+                }
+            },
         },
         Tree::Or(a, b) => match path {
             [] => Ok(None),
-            [Turn::First, rest @ ..] => {
-                let led = handled(alloc, rules, a, store, rest, act, purse)?;
-                memory(beside(alloc, Turn::First, true, led, b))
-            }
-            [Turn::Second, rest @ ..] => {
-                let led = handled(alloc, rules, b, store, rest, act, purse)?;
-                memory(beside(alloc, Turn::Second, true, led, a))
-            }
+            [turn, rest @ ..] => match turn {
+                Turn::First => {
+                    let led = handled(alloc, rules, a, store, rest, act, purse)?;
+                    memory(beside(alloc, Turn::First, true, led, b))
+                }
+                Turn::Second => {
+                    let led = handled(alloc, rules, b, store, rest, act, purse)?;
+                    memory(beside(alloc, Turn::Second, true, led, a))
+                }
+            },
         },
         Tree::Xor(j, k) => picked(alloc, rules, j, k, store, path, act, purse),
     }
