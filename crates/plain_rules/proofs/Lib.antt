@@ -7,3 +7,4 @@ pub mod RunLemmas
 pub mod TaskLemmas
 pub mod EngineLemmas
 pub mod HandlingLemmas
+pub mod OutcomeLemmas

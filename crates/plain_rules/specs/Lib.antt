@@ -5,3 +5,4 @@ pub mod Starts
 pub mod Bodies
 pub mod Handled
 pub mod Signs
+pub mod Outcomes

@@ -1,3 +1,11 @@
+ghost use Rattle.std.specs.Prelude.{map, IfOk};
+ghost use Rattle.task_model.specs.Value.{value_term};
+ghost use Rattle.task_model.specs.Tree.{tree_term, at};
+ghost use Rattle.task_model.specs.Input.{input_term};
+ghost use Rattle.task_model.specs.Outcome.{IsOutcome};
+ghost use Rattle.plain_rules.specs.Rules.{rules_term};
+ghost use Rattle.plain_rules.specs.Outcomes.{outcome_term, Judged};
+
 use crate::handling::interact;
 use crate::rules::Rules;
 use std::alloc::Global;
@@ -22,10 +30,20 @@ pub fn judge(
     t: &Tree,
     store: &[Value],
     input: &Input,
-) -> Result<Outcome, OutOfMemory> {
+) -> Result<Outcome, OutOfMemory>
+    ensures { IfOk result (λ o. IsOutcome (rules_term rules.now) budget (at (tree_term t.now) (map value_term store.now)) (input_term input.now) (outcome_term o)) }
+{
     let mut trial = copy_values(alloc, store)?;
-    match interact(alloc, rules, t, &mut trial, input, &mut Purse::new(budget)) {
-        Ok(Some(tree)) => Ok(Outcome::Taken { tree, store: trial }),
+    let answer = interact(alloc, rules, t, &mut trial, input, &mut Purse::new(budget));
+    judged(answer, trial)
+}
+
+// The outcome that this answer of handling and settling tells, over the store that they leave.
+fn judged(answer: Result<Option<Tree>, Stop>, store: Row<Value>) -> Result<Outcome, OutOfMemory>
+    ensures { Judged answer store result }
+{
+    match answer {
+        Ok(Some(tree)) => Ok(Outcome::Taken { tree, store }),
         Ok(None) => Ok(Outcome::NotOffered),
         Err(Stop::Over) => Ok(Outcome::Over),
         Err(Stop::Memory) => Err(OutOfMemory),
