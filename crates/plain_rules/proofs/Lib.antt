@@ -8,3 +8,4 @@ pub mod TaskLemmas
 pub mod EngineLemmas
 pub mod HandlingLemmas
 pub mod OutcomeLemmas
+pub mod DrawnLemmas

@@ -6,3 +6,5 @@ pub mod Bodies
 pub mod Handled
 pub mod Signs
 pub mod Outcomes
+pub mod Drawn
+pub mod Forms

@@ -4,6 +4,7 @@ ghost use Rattle.task_model.specs.Value.{text_value, list_value, as_values, valu
 ghost use Rattle.task_model.specs.Literal as literals;
 ghost use Rattle.task_model.specs.Widget.{shape_term, widget_term};
 ghost use Rattle.task_model.specs.Page as model;
+ghost use Rattle.plain_rules.specs.Drawn.{separator};
 
 use itoa::Buffer;
 use std::alloc::Global;
@@ -15,7 +16,9 @@ pub fn page(
     version: u64,
     seat: u8,
     widgets: &[Widget],
-) -> Result<TaskText, OutOfMemory> {
+) -> Result<TaskText, OutOfMemory>
+    ensures { IfOk result (λ text. text ≡ model.page_text version seat (map widget_term widgets.now)) }
+{
     let mut text = Row::new(alloc);
     push_head(&mut text, version, seat)?;
     push_lines(&mut text, widgets)?;
@@ -49,15 +52,23 @@ fn push_head(text: &mut Row<u8>, version: u64, seat: u8) -> Result<(), OutOfMemo
     push(text, "\n")
 }
 
-fn push_lines(text: &mut Row<u8>, widgets: &[Widget]) -> Result<(), OutOfMemory> {
+fn push_lines(text: &mut Row<u8>, widgets: &[Widget]) -> Result<(), OutOfMemory>
+    ensures { OnOk result (text.new.list ≡ text.old.list ++ model.widget_lines (map widget_term widgets.now)) }
+{
     let mut rest = widgets;
     while let [widget, more @ ..] = rest {
-        push_path(text, widget.path.turns.as_slice())?;
-        push_shape(text, &widget.shape)?;
-        push(text, "\n")?;
+        push_line(text, widget)?;
         rest = more;
     }
     Ok(())
+}
+
+fn push_line(text: &mut Row<u8>, widget: &Widget) -> Result<(), OutOfMemory>
+    ensures { OnOk result (text.new.list ≡ text.old.list ++ model.widget_line (widget_term widget.now)) }
+{
+    push_path(text, widget.path.turns.as_slice())?;
+    push_shape(text, &widget.shape)?;
+    push(text, "\n")
 }
 
 pub(crate) fn push_path(text: &mut Row<u8>, turns: &[Turn]) -> Result<(), OutOfMemory>
@@ -81,7 +92,9 @@ fn push_turn(text: &mut Row<u8>, turn: Turn) -> Result<(), OutOfMemory>
     }
 }
 
-fn push_shape(text: &mut Row<u8>, shape: &Shape) -> Result<(), OutOfMemory> {
+fn push_shape(text: &mut Row<u8>, shape: &Shape) -> Result<(), OutOfMemory>
+    ensures { OnOk result (text.new.list ≡ text.old.list ++ model.shape_text (shape_term shape.now)) }
+{
     match shape {
         Shape::Edit(b, v) => {
             push(text, " edit ")?;
@@ -128,7 +141,9 @@ fn push_sign(text: &mut Row<u8>, word: &str, sign: Sign) -> Result<(), OutOfMemo
     }
 }
 
-fn push_typed(text: &mut Row<u8>, b: &Basic, v: &Value) -> Result<(), OutOfMemory> {
+fn push_typed(text: &mut Row<u8>, b: &Basic, v: &Value) -> Result<(), OutOfMemory>
+    ensures { OnOk result (text.new.list ≡ text.old.list ++ literals.basic_text (basic_term b.now) ++ codes " " ++ literals.value_text (value_term v.now)) }
+{
     push_basic(text, b)?;
     push(text, " ")?;
     push_value(text, v)
@@ -160,7 +175,9 @@ pub(crate) fn push_basic(text: &mut Row<u8>, b: &Basic) -> Result<(), OutOfMemor
 
 /// Appends the literal of a value.
 #[cycle(literal)]
-pub(crate) fn push_value(text: &mut Row<u8>, v: &Value) -> Result<(), OutOfMemory> {
+pub(crate) fn push_value(text: &mut Row<u8>, v: &Value) -> Result<(), OutOfMemory>
+    ensures { OnOk result (text.new.list ≡ text.old.list ++ literals.value_text (value_term v.now)) }
+{
     match v {
         Value::Unit => push(text, "()"),
         Value::Bool(true) => push(text, "true"),
@@ -182,15 +199,22 @@ pub(crate) fn push_value(text: &mut Row<u8>, v: &Value) -> Result<(), OutOfMemor
 }
 
 #[cycle(literal)]
-fn push_list(text: &mut Row<u8>, items: &[Value]) -> Result<(), OutOfMemory> {
+fn push_list(text: &mut Row<u8>, items: &[Value]) -> Result<(), OutOfMemory>
+    ensures { OnOk result (text.new.list ≡ text.old.list ++ literals.value_text (list_value (as_values (map value_term items.now)))) }
+{
     push(text, "[")?;
     for (i, item) in items.iter().enumerate() {
-        if i > 0 {
-            push(text, ", ")?;
-        }
+        push_separator(text, i)?;
         push_value(text, item)?;
     }
     push(text, "]")
+}
+
+// What stands before the element of this number.
+fn push_separator(text: &mut Row<u8>, i: usize) -> Result<(), OutOfMemory>
+    ensures { OnOk result (text.new.list ≡ text.old.list ++ separator i) }
+{
+    if i > 0 { push(text, ", ") } else { Ok(()) }
 }
 
 fn push_text(text: &mut Row<u8>, t: &TaskText) -> Result<(), OutOfMemory>

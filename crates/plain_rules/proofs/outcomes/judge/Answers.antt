@@ -8,5 +8,5 @@ use Rattle.plain_rules.proofs.outcomes.judge.Goals as goal
 
 pub returns : goal.returns
 returns c =
-    judged_is (rules_term c.args.rules.now) c.args.budget (tree_term c.args.t.now) (input_term c.args.input.now) _ _ c.interact.new.store
-    (map value_term c.args.store.now) _ c.interact.result c.judged.result c.in_ok-trial.ensures c.new.ensures.units c.new.ensures.height c.interact.ensures c.judged.ensures
+    judged_is (rules_term c.args.rules.now) c.args.budget (tree_term c.args.t.now) (input_term c.args.input.now) _ _ c.interact-answer.new.store
+    (map value_term c.args.store.now) _ c.interact-answer.result c.judged.result c.in_ok-trial.ensures c.new.ensures.units c.new.ensures.height c.interact-answer.ensures c.judged.ensures
