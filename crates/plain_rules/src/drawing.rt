@@ -1,10 +1,10 @@
 ghost use Rattle.std.specs.Prelude.{◌≡◌, ◌++◌, ◌∷◌, [], map, ◌<◌, codes, IfOk, OnOk};
 ghost use Rattle.task_model.specs.Basic.{basic_term};
-ghost use Rattle.task_model.specs.Value.{text_value, list_value, as_values, value_term};
+ghost use Rattle.task_model.specs.Value.{text_value, value_term};
 ghost use Rattle.task_model.specs.Literal as literals;
 ghost use Rattle.task_model.specs.Widget.{shape_term, widget_term};
 ghost use Rattle.task_model.specs.Page as model;
-ghost use Rattle.plain_rules.specs.Drawn.{separator};
+ghost use Rattle.plain_rules.specs.Drawn.{separator, elements};
 
 use itoa::Buffer;
 use std::alloc::Global;
@@ -39,6 +39,13 @@ pub(crate) fn push(text: &mut Row<u8>, more: &str) -> Result<(), OutOfMemory>
     ensures { OnOk result (text.new.list ≡ text.old.list ++ more.now) }
 {
     text.extend(more.as_bytes())
+}
+
+/// Appends these bytes.
+pub(crate) fn push_bytes(text: &mut Row<u8>, more: &[u8]) -> Result<(), OutOfMemory>
+    ensures { OnOk result (text.new.list ≡ text.old.list ++ more.now) }
+{
+    text.extend(more)
 }
 
 fn push_head(text: &mut Row<u8>, version: u64, seat: u8) -> Result<(), OutOfMemory>
@@ -200,14 +207,22 @@ pub(crate) fn push_value(text: &mut Row<u8>, v: &Value) -> Result<(), OutOfMemor
 
 #[cycle(literal)]
 fn push_list(text: &mut Row<u8>, items: &[Value]) -> Result<(), OutOfMemory>
-    ensures { OnOk result (text.new.list ≡ text.old.list ++ literals.value_text (list_value (as_values (map value_term items.now)))) }
+    ensures { OnOk result (text.new.list ≡ text.old.list ++ (codes "[" ++ elements (map value_term items.now) ++ codes "]")) }
 {
     push(text, "[")?;
+    push_elements(text, items)?;
+    push(text, "]")
+}
+
+#[cycle(literal)]
+fn push_elements(text: &mut Row<u8>, items: &[Value]) -> Result<(), OutOfMemory>
+    ensures { OnOk result (text.new.list ≡ text.old.list ++ elements (map value_term items.now)) }
+{
     for (i, item) in items.iter().enumerate() {
         push_separator(text, i)?;
         push_value(text, item)?;
     }
-    push(text, "]")
+    Ok(())
 }
 
 // What stands before the element of this number.

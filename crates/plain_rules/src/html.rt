@@ -7,7 +7,7 @@ ghost use Rattle.task_model.specs.Page.{path_text};
 ghost use Rattle.task_model.specs.Html as model;
 ghost use Rattle.plain_rules.specs.Forms.{form_start, form_end, literal_fields};
 
-use crate::drawing::{push, push_basic, push_path, push_value, text_of};
+use crate::drawing::{push, push_basic, push_bytes, push_path, push_value, text_of};
 use itoa::Buffer;
 use std::alloc::Global;
 use task_model::{Basic, OutOfMemory, Row, Shape, Sign, TaskText, Turn, Value, Widget};
@@ -35,13 +35,19 @@ pub fn html_page(
 fn push_head(text: &mut Row<u8>, version: u64, seat: u8) -> Result<(), OutOfMemory>
     ensures { OnOk result (text.new.list ≡ text.old.list ++ model.paragraph (codes "version " ++ decimal version ++ codes " seat " ++ decimal seat)) }
 {
-    let mut number = Buffer::new();
     push(text, "<p>")?;
+    push_numbers(text, version, seat)?;
+    push(text, "</p>\n")
+}
+
+fn push_numbers(text: &mut Row<u8>, version: u64, seat: u8) -> Result<(), OutOfMemory>
+    ensures { OnOk result (text.new.list ≡ text.old.list ++ (codes "version " ++ decimal version ++ codes " seat " ++ decimal seat)) }
+{
+    let mut number = Buffer::new();
     push(text, "version ")?;
     push(text, number.format(version))?;
     push(text, " seat ")?;
-    push(text, number.format(seat))?;
-    push(text, "</p>\n")
+    push(text, number.format(seat))
 }
 
 fn push_fragments(
@@ -199,7 +205,7 @@ fn push_fields(text: &mut Row<u8>, b: &Basic, shown: &[u8]) -> Result<(), OutOfM
                 text,
                 "<input type=\"hidden\" name=\"as\" value=\"raw\"><textarea name=\"value\">\n",
             )?;
-            text.extend(shown)?;
+            push_bytes(text, shown)?;
             push(text, "</textarea>")
         }
         Basic::Unit => push_literal_fields(text, b, shown),
@@ -217,7 +223,7 @@ fn push_literal_fields(text: &mut Row<u8>, b: &Basic, shown: &[u8]) -> Result<()
     push(text, "<input type=\"hidden\" name=\"as\" value=\"")?;
     push_basic(text, b)?;
     push(text, "\"><input name=\"value\" value=\"")?;
-    text.extend(shown)?;
+    push_bytes(text, shown)?;
     push(text, "\">")
 }
 

@@ -1,7 +1,7 @@
-use Rattle.std.proofs.Common.{◌≡◌, ◌++◌, map, take, codes}
+use Rattle.std.proofs.Common.{◌≡◌, ◌++◌, map, take}
 use Rattle.task_model.specs.Value.{value_term}
 use Rattle.plain_rules.specs.Drawn.{elements}
 use Rattle.plain_rules.proofs.drawing.+literal.Given as goal
 
-abbrev pub invariant-push_list-loop-i : goal.invariant-push_list-loop-i
-invariant-push_list-loop-i l = l.text.list ≡ (l.fn.text.list ++ codes "[") ++ elements (map value_term (take l.i l.items))
+abbrev pub invariant-push_elements-loop-i : goal.invariant-push_elements-loop-i
+invariant-push_elements-loop-i l = l.text.list ≡ l.fn.text.list ++ elements (map value_term (take l.i l.items))
