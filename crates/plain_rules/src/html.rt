@@ -50,11 +50,7 @@ fn push_numbers(text: &mut Row<u8>, version: u64, seat: u8) -> Result<(), OutOfM
     push(text, number.format(seat))
 }
 
-fn push_fragments(
-    alloc: Global,
-    text: &mut Row<u8>,
-    widgets: &[Widget],
-) -> Result<(), OutOfMemory>
+fn push_fragments(alloc: Global, text: &mut Row<u8>, widgets: &[Widget]) -> Result<(), OutOfMemory>
     ensures { OnOk result (text.new.list ≡ text.old.list ++ model.widget_fragments (map widget_term widgets.now)) }
 {
     let mut rest = widgets;
