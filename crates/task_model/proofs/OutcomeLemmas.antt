@@ -29,7 +29,7 @@ module _ (c : CheckedTerm) (budget : ℕ) where
     once = agree_work (Derives (rule_of c)) (Derives (rule_of c)) (λ q. at_most_one (rule_of c) q) (interacts c s i)
 
     -- lacking and interacting to none are the same
-    none_lacks : (n h : ℕ) → W None n h → Within budget n h → IsNotOffered c budget s i
+    pub none_lacks : (n h : ℕ) → W None n h → Within budget n h → IsNotOffered c budget s i
     none_lacks n h d l =
         let w = work_after (Derives (rule_of c)) settled (handles c s i) None n h d in
         by_answer w.middle w.n1 w.h1 w.n2 w.h2 w.one w.two w.units w.height
