@@ -6,15 +6,3 @@ pub mod SpotLemmas
 pub mod TokenLemmas
 pub mod TypeLemmas
 pub mod WholeLemmas
-pub mod GrammarLemmas
-pub mod RuleLemmas
-pub mod TypeRules
-pub mod SeriesLemmas
-pub mod PassingLemmas
-pub mod OptionalLemmas
-pub mod CountLemmas
-pub mod ExpressionRules
-pub mod OperatorLemmas
-pub mod AtomRules
-pub mod EnclosedRules
-pub mod NoOperators

@@ -4,12 +4,3 @@ pub mod Marks
 pub mod Plain
 pub mod Reads
 pub mod Spots
-pub mod Lexemes
-pub mod Grammar
-pub mod Meaning
-pub mod Nodes
-pub mod ProgramText
-pub mod Faults
-pub mod Languages
-pub mod Parts
-pub mod Prefixes
