@@ -8,10 +8,9 @@ use Rattle.program_grammar.specs.Grammar.{program, Parse, tokens, levels}
 use Rattle.program_grammar.specs.Meaning.{program_of}
 use Rattle.program_grammar.specs.Nodes as nodes
 
--- A source of at most 1,048,576 bytes has this program, with at most 200 levels, and these places of its nodes in pre-order. The length
--- of the source stands last.
-pub record IsProgramText (source : Text) (p : ProgramTerm) (places : List ℕ) : Type 0 where
-  pub short : length source ≤ 1048576
+-- The tokens of a source are those of this program, with at most 200 levels, and these are the places of its nodes in pre-order. The
+-- length of the source stands last.
+pub record HasReading (source : Text) (p : ProgramTerm) (places : List ℕ) : Type 0 where
   pub terms : List TokenTerm
   pub has : HasTokens source terms
   pub parse : Parse program
@@ -19,3 +18,8 @@ pub record IsProgramText (source : Text) (p : ProgramTerm) (places : List ℕ) :
   pub within : levels parse ≤ 200
   pub stands_for : program_of parse ≡ p
   pub placed : places ≡ nodes.places parse ++ length source ∷ []
+
+-- the same of a source of at most 1,048,576 bytes
+pub record IsProgramText (source : Text) (p : ProgramTerm) (places : List ℕ) : Type 0 where
+  pub short : length source ≤ 1048576
+  pub reading : HasReading source p places

@@ -1,0 +1,2 @@
+//! Programs as text, with the fewest parentheses.
+#![tactic(auto)]
