@@ -173,9 +173,12 @@ abbrev pub binder_text : Option Text → Text
 binder_text None = []
 binder_text (Some x) = x
 
+abbrev pub no_body : BodyText
+no_body = record { binder = []; rank = 0; tokens = [] }
+
 -- the body of this number, of which the first has that number; there is none elsewhere
 abbrev pub body_numbered : ℕ → List BodyText → ℕ → BodyText
-body_numbered first [] i = record { binder = []; rank = 0; tokens = [] }
+body_numbered first [] i = no_body
 body_numbered first (b ∷ bs) i = if i == first then b else body_numbered (suc first) bs i
 
 -- a body at a place
@@ -207,12 +210,18 @@ task_tokens first bs (case_task e t x y u) =
 task_tokens first bs (new_task x e t) = codes "new" ∷ x ∷ codes "=" ∷ expression_at 8 e ++ codes "in" ∷ placed 3 (task_rank t) (task_tokens first bs t)
 task_tokens first bs (put_task x e t) = x ∷ codes ":=" ∷ expression_at 8 e ++ codes ";" ∷ placed 3 (task_rank t) (task_tokens first bs t)
 
+-- a body as it is written, where the bodies that it may name begin with this number
+abbrev pub body_text : ℕ → List BodyText → BodyTerm → BodyText
+body_text first bs b = record { binder = binder_text b.binder; rank = task_rank b.task; tokens = task_tokens first bs b.task }
+
 -- bodies as they are written, the first of which has this number; a body names later ones alone
 abbrev pub body_texts : ℕ → List BodyTerm → List BodyText
 body_texts first [] = []
-body_texts first (b ∷ bs) =
-    let later = body_texts (suc first) bs in
-    record { binder = binder_text b.binder; rank = task_rank b.task; tokens = task_tokens (suc first) later b.task } ∷ later
+body_texts first (b ∷ bs) = let later = body_texts (suc first) bs in body_text (suc first) later b ∷ later
+
+-- a task at a place, where the bodies that it may name begin with this number
+abbrev pub task_at : ℕ → ℕ → List BodyText → TaskTerm → List Text
+task_at place first bs t = placed place (task_rank t) (task_tokens first bs t)
 
 -- ---- definitions
 abbrev pub kind_tokens : KindTerm → List Text
@@ -234,7 +243,7 @@ definition_word (task_body t) = codes "task"
 
 abbrev pub definition_body : List BodyText → DefBodyTerm → List Text
 definition_body bs (fun_body e) = expression_at 8 e
-definition_body bs (task_body t) = placed 3 (task_rank t) (task_tokens 0 bs t)
+definition_body bs (task_body t) = task_at 3 0 bs t
 
 abbrev pub definition_tokens : List BodyText → DefTerm → List Text
 definition_tokens bs d =

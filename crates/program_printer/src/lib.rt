@@ -1,2 +1,7 @@
 //! Programs as text, with the fewest parentheses.
-#![tactic(auto)]
+#![tactic(auto, using(crate::proofs::LineLemmas::with_tokens_append))]
+
+mod expressions;
+mod operators;
+mod printer;
+mod types;
