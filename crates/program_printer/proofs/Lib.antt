@@ -1,2 +1,4 @@
+pub mod BodyLemmas
 pub mod LineLemmas
 pub mod ListLemmas
+pub mod Weights
