@@ -11,3 +11,4 @@ pub mod AtomRules
 pub mod EnclosedRules
 pub mod NoOperators
 pub mod FaultLemmas
+pub mod ReadingLemmas
