@@ -4,7 +4,7 @@ use Rattle.std.specs.Prelude.{codes, if◌then◌else◌}
 use Rattle.task_model.specs.Text.{Text}
 use Rattle.task_model.specs.Host.{HostTerm, HostTerms, no_exprs, more_exprs, as_exprs, host_term}
 use Rattle.task_model.specs.declared.host.Host.{Host}
-use Rattle.task_model.specs.Program.{ParamTerm, param_term, DefTerm, def_term}
+use Rattle.task_model.specs.Program.{ParamTerm, param_term, def_term}
 use Rattle.task_model.specs.declared.program.Param.{Param}
 use Rattle.task_model.specs.declared.program.Def.{Def}
 use Rattle.program_printer.specs.Lines.{with_tokens}
