@@ -1,4 +1,6 @@
 pub mod BodyLemmas
+pub mod ExpressionPlaces
+pub mod ExpressionProductions
 pub mod LineLemmas
 pub mod ListLemmas
 pub mod Placing

@@ -26,6 +26,11 @@ listed_commas : (e : HostTerm) (es : HostTerms) → listed_tokens (more_exprs e 
 listed_commas e no_exprs = sym (append-nil (expression_at 8 e))
 listed_commas e (more_exprs d es) = ap (λ l. expression_at 8 e ++ codes "," ∷ l) (listed_commas d es)
 
+-- one expression at the end
+pub listed_more : (e : HostTerm) (es : List HostTerm) (d : HostTerm) → listed_tokens (as_exprs ((e ∷ es) ++ d ∷ [])) ≡ listed_tokens (as_exprs (e ∷ es)) ++ codes "," ∷ expression_at 8 d
+listed_more e [] d = refl
+listed_more e (f ∷ es) d = ap (λ l. expression_at 8 e ++ codes "," ∷ l) (listed_more f es d) ∙ sym (append_assoc (expression_at 8 e) (codes "," ∷ listed_tokens (as_exprs (f ∷ es))) (codes "," ∷ expression_at 8 d))
+
 -- one item more
 pub rest_more : (first : Bool) (text : Text) (e : HostTerm) (es : HostTerms) →
     with_tokens text (rest_of first (more_exprs e es)) ≡ with_tokens (with_tokens (with_tokens text (if first then [] else codes "," ∷ [])) (expression_at 8 e)) (rest_of false es)
