@@ -21,6 +21,7 @@ use Rattle.program_printer.specs.Printed.{basic_tokens, expression_at, expressio
 use Rattle.program_printer.proofs.ListLemmas.{listed_more}
 use Rattle.program_printer.proofs.Placing.{IsSpelled}
 use Rattle.program_printer.proofs.Showing.{Shown, looser, leaf, leaf_two, pass, front, between, enclose, enclose_two, bound, branched, word_spelled, sign_spelled}
+use Rattle.program_printer.proofs.LongShowing.{matched}
 use Rattle.program_printer.proofs.ExpressionPlaces.{Own, own_here, at_place, term_at}
 
 -- ---- types
@@ -180,3 +181,10 @@ own_if {c} {a} {b} p o q =
     (branched (word words.If 0) (word words.Then 0) (word words.Else 0) (word_spelled words.If 0) (word_spelled words.Then 0) (word_spelled words.Else 0)
     (λ n x m y r z. grammar.if_then n x m y r z) (λ n x m y r z. refl) (λ n x m y r z e f g. ap (λ w. if_expr w (meaning y) (meaning z)) e ∙ ap (λ w. if_expr c w (meaning z)) f ∙ ap (λ w. if_expr c a w) g) (λ n x m y r z. refl)
     (at_place 8 c (omega arith) p) (at_place 8 a (omega arith) o) (at_place 8 b (omega arith) q))
+
+pub own_case : (x y : Text) {l a b : HostTerm} {i j k : ℕ} → IsSpelled (name x 0) → IsSpelled (name y 0) → Own 8 l i → Own 8 a j → Own 8 b k → Own 8 (case_expr l a x y b) (suc (max i (max j k)))
+own_case x y {l} {a} {b} sx sy p o q =
+    own_here 8 (case_expr l a x y b) refl
+    (matched x y sx sy (λ n d o1 o2 o3 o4 e p1 p2 p3 p4 p5 z. grammar.case_of n d o1 o2 o3 o4 e p1 x p2 p3 y p4 p5 z) (λ n d o1 o2 o3 o4 e p1 p2 p3 p4 p5 z. refl)
+    (λ n d o1 o2 o3 o4 e p1 p2 p3 p4 p5 z f g h. ap (λ w. case_expr w (meaning e) x y (meaning z)) f ∙ ap (λ w. case_expr l w x y (meaning z)) g ∙ ap (λ w. case_expr l a x y w) h)
+    (λ n d o1 o2 o3 o4 e p1 p2 p3 p4 p5 z. refl) (at_place 8 l (omega arith) p) (at_place 8 a (omega arith) o) (at_place 8 b (omega arith) q))

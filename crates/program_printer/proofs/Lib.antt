@@ -3,6 +3,7 @@ pub mod ExpressionPlaces
 pub mod ExpressionProductions
 pub mod LineLemmas
 pub mod ListLemmas
+pub mod LongShowing
 pub mod Placing
 pub mod Showing
 pub mod TokenLines
