@@ -6,5 +6,7 @@ pub mod ListLemmas
 pub mod LongShowing
 pub mod Placing
 pub mod Showing
+pub mod SpelledLiterals
+pub mod TaskPlaces
 pub mod TokenLines
 pub mod Weights
