@@ -8,5 +8,6 @@ pub mod Placing
 pub mod Showing
 pub mod SpelledLiterals
 pub mod TaskPlaces
+pub mod TaskProductions
 pub mod TokenLines
 pub mod Weights
