@@ -72,7 +72,7 @@ text_printed v utf8 = let (d, are, is) = parse_of (text_value v) utf8 in go d ar
     go (text quoted content t n) are is = let same : content ≡ v = cc in subst (λ w. IsText (value_text (text_value v)) w) same (subst (λ q. IsText q content) (whole n quoted are) t)
     go (pair m a k b n) are is = absurd cc
     go (empty m n) are is = absurd cc
-    go (list m a more) are is = absurd cc
+    go (list m a others) are is = absurd cc
 
 pub text_again : (t v : Text) (p : ℕ) → IsSpelled (quote t v p) → IsSpelled (quote (value_text (text_value v)) v 0)
 text_again t v p ((ps, is, are), within) = (text_printed v (parts_utf8 ps v are).1, within)
