@@ -1,4 +1,16 @@
+pub mod BodyCounts
 pub mod BodyLemmas
+pub mod DefinitionProductions
+pub mod ExpressionPlaces
+pub mod ExpressionProductions
 pub mod LineLemmas
 pub mod ListLemmas
+pub mod LongShowing
+pub mod Placing
+pub mod Printable
+pub mod Showing
+pub mod SpelledLiterals
+pub mod TaskPlaces
+pub mod TaskProductions
+pub mod TokenLines
 pub mod Weights

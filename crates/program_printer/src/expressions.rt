@@ -1,18 +1,17 @@
 ghost use Rattle.std.specs.Prelude.{◌≡◌, ◌∷◌, ◌++◌, [], OnOk, IfOk, codes, map};
-ghost use Rattle.task_model.specs.Basic.{basic_term};
 ghost use Rattle.task_model.specs.Value.{text_value};
 ghost use Rattle.task_model.specs.Literal.{value_text};
 ghost use Rattle.task_model.specs.Host.{host_term, as_exprs, op_expr, let_expr, if_expr, case_expr, pair_expr};
-ghost use Rattle.program_printer.specs.Printed.{basic_tokens, expression_rank, expression_tokens, expression_at, listed_tokens};
+ghost use Rattle.program_printer.specs.Printed.{expression_rank, expression_tokens, expression_at, listed_tokens};
 ghost use Rattle.program_printer.specs.Lines.{with_tokens};
 
 use crate::operators::{left_place, operator_rank, operator_text, right_place};
 use crate::printer::Printer;
-use crate::types::write_basic;
+use crate::types::write_typed;
 use itoa::Buffer;
 use literal_text::print_value;
 use std::alloc::Global;
-use task_model::{Basic, Host, Op, OutOfMemory, TaskText, Value, copy_text};
+use task_model::{Host, Op, OutOfMemory, TaskText, Value, copy_text};
 
 // Of the nonterminals of expressions, from the tightest, each one reaches the productions of those before it.
 pub(crate) const ATOM: u8 = 0;
@@ -59,14 +58,6 @@ fn write_text(out: &mut Printer, content: &TaskText) -> Result<(), OutOfMemory>
 {
     let literal = text_literal(out.alloc(), content)?;
     out.token(literal.as_str())
-}
-
-/// A word, and a type behind it.
-pub(crate) fn write_typed(out: &mut Printer, word: &str, b: &Basic) -> Result<(), OutOfMemory>
-    ensures { OnOk result (out.new ≡ with_tokens out.old (word.now ∷ basic_tokens (basic_term b.now))) }
-{
-    out.token(word)?;
-    write_basic(out, b)
 }
 
 /// The tokens of an expression at a place, in parentheses where that can't reach its production.

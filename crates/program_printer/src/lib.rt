@@ -1,9 +1,13 @@
 //! Programs as text, with the fewest parentheses.
 #![tactic(auto, using(crate::proofs::LineLemmas::with_tokens_append))]
 
+mod definitions;
 mod expressions;
 mod later;
 mod operators;
+mod print;
 mod printer;
 mod tasks;
 mod types;
+
+pub use print::print_program;

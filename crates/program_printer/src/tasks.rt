@@ -4,9 +4,12 @@ ghost use Rattle.task_model.specs.Task.{task_term, body_term, and_task, or_task,
 ghost use Rattle.program_printer.specs.Printed.{expression_at, binder_text, body_numbered, body_at, body_texts, step_tokens, task_rank, task_tokens, task_at};
 ghost use Rattle.program_printer.specs.Lines.{with_tokens};
 
-use crate::expressions::{ATOM as HOST_ATOM, EXPRESSION, write_call, write_elements, write_expression, write_no_elements, write_typed};
+use crate::expressions::{
+    ATOM as HOST_ATOM, EXPRESSION, write_call, write_elements, write_expression, write_no_elements,
+};
 use crate::later::{Later, Numbered};
 use crate::printer::Printer;
+use crate::types::write_typed;
 use task_model::{Body, Host, OutOfMemory, Task};
 
 // Of the nonterminals of tasks, from the tightest, each one reaches the productions of those before it.

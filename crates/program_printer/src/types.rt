@@ -1,4 +1,4 @@
-ghost use Rattle.std.specs.Prelude.{◌≡◌, OnOk};
+ghost use Rattle.std.specs.Prelude.{◌≡◌, ◌∷◌, OnOk};
 ghost use Rattle.task_model.specs.Basic.{basic_term};
 ghost use Rattle.program_printer.specs.Printed.{basic_tokens};
 ghost use Rattle.program_printer.specs.Lines.{with_tokens};
@@ -28,4 +28,12 @@ pub(crate) fn write_basic(out: &mut Printer, b: &Basic) -> Result<(), OutOfMemor
             out.token("]")
         }
     }
+}
+
+/// A word, and a type behind it.
+pub(crate) fn write_typed(out: &mut Printer, word: &str, b: &Basic) -> Result<(), OutOfMemory>
+    ensures { OnOk result (out.new ≡ with_tokens out.old (word.now ∷ basic_tokens (basic_term b.now))) }
+{
+    out.token(word)?;
+    write_basic(out, b)
 }

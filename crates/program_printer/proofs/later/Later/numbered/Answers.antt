@@ -1,6 +1,4 @@
-use Rattle.std.proofs.Common.{◌≡◌, ◌∷◌, ◌++◌, List, map, ℕ, ◌+◌, ◌-◌, ◌<◌, ◌≤◌, length, inl, inr, sym, arith}
-use Rattle.task_model.specs.Task.{body_term}
-use Rattle.program_printer.specs.Printed.{no_body, body_numbered, body_text, body_texts}
+use Rattle.std.proofs.Common.{◌-◌, inl, inr, arith}
 use Rattle.program_printer.proofs.BodyLemmas.{body_split, body_found, body_absent}
 use Rattle.program_printer.proofs.later.Later.numbered.Goals as goal
 use Rattle.program_printer.proofs.later.Later.numbered.Goals.{then-number-self-via-then-number-self, then-number-self-via-else-number-self+then-self-number}
