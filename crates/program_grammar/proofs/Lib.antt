@@ -10,3 +10,4 @@ pub mod OperatorLemmas
 pub mod AtomRules
 pub mod EnclosedRules
 pub mod NoOperators
+pub mod RowTerms
