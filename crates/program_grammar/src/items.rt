@@ -83,7 +83,6 @@ impl Items {
     }
 
     /// A call with these arguments, whose name stands here.
-    #[tactic(auto, using(crate::proofs::RowTerms::call_term))]
     pub fn call(self, alloc: Global, name: &str, place: u64) -> Result<Node<Host>, Stop>
         requires { self.levels + 1 < 2 ^ 64 }
         ensures shown { IfOk result (λ r. shown_host r ≡ over_list (λ l. call_expr name.now (as_exprs l)) place (shown_items self)) }
