@@ -12,3 +12,4 @@ pub mod EnclosedRules
 pub mod NoOperators
 pub mod FaultLemmas
 pub mod ReadingLemmas
+pub mod RowTerms

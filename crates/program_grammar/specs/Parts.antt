@@ -7,6 +7,7 @@ use Rattle.program_grammar.specs.declared.lexeme.Located.{Located}
 use Rattle.program_grammar.specs.declared.measured.Measured.{Measured}
 use Rattle.program_grammar.specs.Lexemes as terms
 use Rattle.program_grammar.specs.declared.node.Node.{Node}
+use Rattle.program_grammar.specs.declared.items.Items.{Items}
 use Rattle.program_grammar.specs.declared.series.Level.{Level}
 use Rattle.program_grammar.specs.declared.series.Level.TheVariants as codes_of
 use Rattle.task_model.specs.Host.{HostTerm, host_term}
@@ -52,6 +53,28 @@ shown d = record { term = meaning d; levels = levels d; start = start d; places 
 abbrev pub shown_host : Node host.Host → Shown HostTerm
 shown_host n = record { term = host_term n.term; levels = n.levels; start = n.start; places = n.places.items }
 
+-- ---- listings
+-- what a reader hands on of arguments or elements: a listing is no node, and starts nowhere
+pub record Listed (V : Type 0) : Type 0 where
+  pub list : V
+  pub levels : ℕ
+  pub places : List ℕ
+
+abbrev pub shown_list : {f : Form} → Parse f → Listed (Meaning f)
+shown_list d = record { list = meaning d; levels = levels d; places = places d }
+
+abbrev pub shown_items : Items → Listed (List HostTerm)
+shown_items r = record { list = map host_term r.list.list; levels = r.levels; places = r.places.items }
+
+abbrev pub no_items : Listed (List HostTerm)
+no_items = record { list = []; levels = 0; places = [] }
+
+abbrev pub one_item : Shown HostTerm → Listed (List HostTerm)
+one_item a = record { list = a.term ∷ []; levels = a.levels; places = a.places }
+
+abbrev pub more_items : Listed (List HostTerm) → Shown HostTerm → Listed (List HostTerm)
+more_items l a = record { list = l.list ++ a.term ∷ []; levels = max l.levels a.levels; places = l.places ++ a.places }
+
 -- ---- the levels of operators that group to the left
 abbrev pub series_of : Level → Series
 series_of codes_of.Either = either
@@ -89,6 +112,13 @@ shown_part codes_of.Product d = shown d
 -- ---- expressions from their parts
 abbrev pub leaf_host : HostTerm → ℕ → Shown HostTerm
 leaf_host t p = record { term = t; levels = 1; start = p; places = p ∷ [] }
+
+-- a node over a type, and over a listing, which begins here
+abbrev pub over_type : (BasicTerm → HostTerm) → ℕ → BasicTerm × ℕ → Shown HostTerm
+over_type make p b = record { term = make b.0; levels = 1 + b.1; start = p; places = p ∷ [] }
+
+abbrev pub over_list : (List HostTerm → HostTerm) → ℕ → Listed (List HostTerm) → Shown HostTerm
+over_list make p l = record { term = make l.list; levels = 1 + l.levels; start = p; places = p ∷ l.places }
 
 -- a node over one part, and over two, which begins here
 abbrev pub over_one : (HostTerm → HostTerm) → ℕ → Shown HostTerm → Shown HostTerm

@@ -1,8 +1,9 @@
-ghost use Rattle.std.specs.Prelude.{◌≡◌, ◌+◌, ◌<◌, ◌^◌, [], ◌∷◌, ◌++◌, IfOk};
-ghost use Rattle.task_model.specs.Host.{host_term, op_expr, pair_expr, let_expr, if_expr};
+ghost use Rattle.std.specs.Prelude.{◌≡◌, ◌+◌, ◌<◌, ◌^◌, [], ◌∷◌, ◌++◌, IfOk, IfErr};
+ghost use Rattle.task_model.specs.Host.{host_term, name_expr, read_expr, nil_expr, op_expr, pair_expr, let_expr, if_expr, case_expr};
 ghost use Rattle.program_grammar.specs.Meaning.{prefix_of};
 ghost use Rattle.program_grammar.specs.Prefixes.{prefix_term};
 
+use crate::measured::Measured;
 use crate::prefixes::Prefix;
 use exact_reading::Stop;
 use std::alloc::Global;
@@ -17,9 +18,21 @@ pub struct Node<T: Drop> {
     pub places: Vec<u64>,
 }
 
+/// The text of a name.
+pub fn name_text(alloc: Global, name: &str) -> Result<TaskText, Stop>
+    ensures text { IfOk result (λ r. r ≡ name.now) }
+    ensures memory { IfErr result (λ e. e ≡ Stop.Memory) }
+{
+    match TaskText::of(alloc, name) {
+        Ok(text) => Ok(text),
+        Err(_) => Err(Stop::Memory),
+    }
+}
+
 /// A place, and then those of two parts.
-fn joined(place: u64, first: Vec<u64>, second: Vec<u64>) -> Result<Vec<u64>, Stop>
-    ensures { IfOk result (λ r. r.items ≡ place ∷ (first.items ++ second.items)) }
+pub fn joined(place: u64, first: Vec<u64>, second: Vec<u64>) -> Result<Vec<u64>, Stop>
+    ensures places { IfOk result (λ r. r.items ≡ place ∷ (first.items ++ second.items)) }
+    ensures memory { IfErr result (λ e. e ≡ Stop.Memory) }
 {
     let mut places = first;
     let mut others = second;
@@ -28,12 +41,29 @@ fn joined(place: u64, first: Vec<u64>, second: Vec<u64>) -> Result<Vec<u64>, Sto
     Ok(places)
 }
 
+/// A place, and then those of three parts.
+pub fn threefold(
+    place: u64,
+    first: Vec<u64>,
+    second: Vec<u64>,
+    third: Vec<u64>,
+) -> Result<Vec<u64>, Stop>
+    ensures places { IfOk result (λ r. r.items ≡ place ∷ (first.items ++ (second.items ++ third.items))) }
+    ensures memory { IfErr result (λ e. e ≡ Stop.Memory) }
+{
+    let mut others = second;
+    let mut last = third;
+    others.append(&mut last)?;
+    joined(place, first, others)
+}
+
 impl Node<Host> {
-    ghost use Rattle.program_grammar.specs.Parts.{shown_host, leaf_host, over_one, over_two, over_three, grouped};
+    ghost use Rattle.program_grammar.specs.Parts.{measured, shown_host, leaf_host, over_type, over_one, over_two, over_three, grouped};
 
     /// A node without parts.
     pub fn leaf(alloc: Global, term: Host, place: u64) -> Result<Node<Host>, Stop>
-        ensures { IfOk result (λ r. shown_host r ≡ leaf_host (host_term term) place) }
+        ensures shown { IfOk result (λ r. shown_host r ≡ leaf_host (host_term term) place) }
+        ensures memory { IfErr result (λ e. e ≡ Stop.Memory) }
     {
         let mut places = Vec::new(alloc);
         places.push(place)?;
@@ -46,14 +76,10 @@ impl Node<Host> {
     }
 
     /// An operand behind an operator, which stands here.
-    pub fn prefixed(
-        self,
-        alloc: Global,
-        prefix: Prefix,
-        place: u64,
-    ) -> Result<Node<Host>, Stop>
+    pub fn prefixed(self, alloc: Global, prefix: Prefix, place: u64) -> Result<Node<Host>, Stop>
         requires { self.levels + 1 < 2 ^ 64 }
-        ensures { IfOk result (λ r. shown_host r ≡ over_one (prefix_of (prefix_term prefix)) place (shown_host self)) }
+        ensures shown { IfOk result (λ r. shown_host r ≡ over_one (prefix_of (prefix_term prefix)) place (shown_host self)) }
+        ensures memory { IfErr result (λ e. e ≡ Stop.Memory) }
     {
         let levels = 1 + self.levels;
         let mut places = self.places;
@@ -68,15 +94,11 @@ impl Node<Host> {
     }
 
     /// Two operands with an operator between them.
-    pub fn operated(
-        self,
-        alloc: Global,
-        op: Op,
-        right: Node<Host>,
-    ) -> Result<Node<Host>, Stop>
+    pub fn operated(self, alloc: Global, op: Op, right: Node<Host>) -> Result<Node<Host>, Stop>
         requires left { self.levels + 1 < 2 ^ 64 }
         requires right { right.levels + 1 < 2 ^ 64 }
-        ensures { IfOk result (λ r. shown_host r ≡ over_two (op_expr op) self.start (shown_host self) (shown_host right)) }
+        ensures shown { IfOk result (λ r. shown_host r ≡ over_two (op_expr op) self.start (shown_host self) (shown_host right)) }
+        ensures memory { IfErr result (λ e. e ≡ Stop.Memory) }
     {
         let levels = 1 + self.levels.max(right.levels);
         let start = self.start;
@@ -92,15 +114,11 @@ impl Node<Host> {
     }
 
     /// A pair, whose parenthesis stands here.
-    pub fn pair(
-        self,
-        alloc: Global,
-        place: u64,
-        second: Node<Host>,
-    ) -> Result<Node<Host>, Stop>
+    pub fn pair(self, alloc: Global, place: u64, second: Node<Host>) -> Result<Node<Host>, Stop>
         requires left { self.levels + 1 < 2 ^ 64 }
         requires right { second.levels + 1 < 2 ^ 64 }
-        ensures { IfOk result (λ r. shown_host r ≡ over_two pair_expr place (shown_host self) (shown_host second)) }
+        ensures shown { IfOk result (λ r. shown_host r ≡ over_two pair_expr place (shown_host self) (shown_host second)) }
+        ensures memory { IfErr result (λ e. e ≡ Stop.Memory) }
     {
         let levels = 1 + self.levels.max(second.levels);
         let places = joined(place, self.places, second.places)?;
@@ -125,4 +143,145 @@ impl Node<Host> {
             ..self
         }
     }
+
+    /// A name alone.
+    pub fn named(alloc: Global, name: &str, place: u64) -> Result<Node<Host>, Stop>
+        ensures shown { IfOk result (λ r. shown_host r ≡ leaf_host (name_expr name.now) place) }
+        ensures memory { IfErr result (λ e. e ≡ Stop.Memory) }
+    {
+        let name = name_text(alloc, name)?;
+        Node::leaf(alloc, Host::Name(name), place)
+    }
+
+    /// What stands at a reference, whose `!` stands here.
+    pub fn content(alloc: Global, name: &str, place: u64) -> Result<Node<Host>, Stop>
+        ensures shown { IfOk result (λ r. shown_host r ≡ leaf_host (read_expr name.now) place) }
+        ensures memory { IfErr result (λ e. e ≡ Stop.Memory) }
+    {
+        let name = name_text(alloc, name)?;
+        Node::leaf(alloc, Host::Read(name), place)
+    }
+
+    /// The empty list of items of this type, whose `nil` stands here.
+    pub fn nil(alloc: Global, item: Measured, place: u64) -> Result<Node<Host>, Stop>
+        requires { item.levels + 1 < 2 ^ 64 }
+        ensures shown { IfOk result (λ r. shown_host r ≡ over_type nil_expr place (measured item)) }
+        ensures memory { IfErr result (λ e. e ≡ Stop.Memory) }
+    {
+        let levels = 1 + item.levels;
+        let mut places = Vec::new(alloc);
+        places.push(place)?;
+        Ok(Node {
+            term: Host::Nil(item.basic),
+            levels,
+            start: place,
+            places,
+        })
+    }
+
+    /// `let`, which stands here, of this value.
+    pub fn bound(
+        self,
+        alloc: Global,
+        place: u64,
+        name: &str,
+        rest: Node<Host>,
+    ) -> Result<Node<Host>, Stop>
+        requires left { self.levels + 1 < 2 ^ 64 }
+        requires right { rest.levels + 1 < 2 ^ 64 }
+        ensures shown { IfOk result (λ r. shown_host r ≡ over_two (let_expr name.now) place (shown_host self) (shown_host rest)) }
+        ensures memory { IfErr result (λ e. e ≡ Stop.Memory) }
+    {
+        let levels = 1 + self.levels.max(rest.levels);
+        let places = joined(place, self.places, rest.places)?;
+        let name = name_text(alloc, name)?;
+        let bound = Box::new(alloc, self.term)?;
+        let rest = Box::new(alloc, rest.term)?;
+        Ok(Node {
+            term: Host::Let { name, bound, rest },
+            levels,
+            start: place,
+            places,
+        })
+    }
+
+    /// `if`, which stands here, of this test.
+    pub fn tested(
+        self,
+        alloc: Global,
+        place: u64,
+        yes: Node<Host>,
+        no: Node<Host>,
+    ) -> Result<Node<Host>, Stop>
+        requires test { self.levels + 1 < 2 ^ 64 }
+        requires left { yes.levels + 1 < 2 ^ 64 }
+        requires right { no.levels + 1 < 2 ^ 64 }
+        ensures shown { IfOk result (λ r. shown_host r ≡ over_three if_expr place (shown_host self) (shown_host yes) (shown_host no)) }
+        ensures memory { IfErr result (λ e. e ≡ Stop.Memory) }
+    {
+        let levels = 1 + self.levels.max(yes.levels.max(no.levels));
+        let places = threefold(place, self.places, yes.places, no.places)?;
+        let test = Box::new(alloc, self.term)?;
+        let yes = Box::new(alloc, yes.term)?;
+        let no = Box::new(alloc, no.term)?;
+        Ok(Node {
+            term: Host::If { test, yes, no },
+            levels,
+            start: place,
+            places,
+        })
+    }
+
+    /// `case`, which stands here, of this list, with the names of its head and tail.
+    pub fn cased(
+        self,
+        alloc: Global,
+        place: u64,
+        empty: Node<Host>,
+        head: &str,
+        tail: &str,
+        more: Node<Host>,
+    ) -> Result<Node<Host>, Stop>
+        requires list { self.levels + 1 < 2 ^ 64 }
+        requires left { empty.levels + 1 < 2 ^ 64 }
+        requires right { more.levels + 1 < 2 ^ 64 }
+        ensures shown { IfOk result (λ r. shown_host r ≡ over_three (λ l a b. case_expr l a head.now tail.now b) place (shown_host self) (shown_host empty) (shown_host more)) }
+        ensures memory { IfErr result (λ e. e ≡ Stop.Memory) }
+    {
+        let levels = 1 + self.levels.max(empty.levels.max(more.levels));
+        let places = threefold(place, self.places, empty.places, more.places)?;
+        let term = case_host(alloc, self.term, empty.term, head, tail, more.term)?;
+        Ok(Node {
+            term,
+            levels,
+            start: place,
+            places,
+        })
+    }
+}
+
+/// `case` of these parts.
+fn case_host(
+    alloc: Global,
+    list: Host,
+    empty: Host,
+    head: &str,
+    tail: &str,
+    more: Host,
+) -> Result<Host, Stop>
+    ensures term { IfOk result (λ r. host_term r ≡ case_expr (host_term list) (host_term empty) head.now tail.now (host_term more)) }
+    ensures memory { IfErr result (λ e. e ≡ Stop.Memory) }
+{
+    let head = name_text(alloc, head)?;
+    let tail = name_text(alloc, tail)?;
+    let list = Box::new(alloc, list)?;
+    let empty = Box::new(alloc, empty)?;
+    let more = Box::new(alloc, more)?;
+    Ok(Host::Case {
+        list,
+        empty,
+        head,
+        tail,
+        more,
+    })
 }

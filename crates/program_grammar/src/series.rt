@@ -17,10 +17,7 @@ pub enum Level {
 }
 
 /// The operator of this level that stands first, if one does, and what stands after it.
-pub fn operator<'t>(
-    level: Level,
-    tokens: &'t [Located<'t>],
-) -> Option<(Op, &'t [Located<'t>])>
+pub fn operator<'t>(level: Level, tokens: &'t [Located<'t>]) -> Option<(Op, &'t [Located<'t>])>
     ensures { MatchOption result (NoOperator (series_of level) (lexemes tokens.now)) (λ r. Operated (series_of level) (lexemes tokens.now) r.0 (lexemes r.1.now)) }
 {
     match level {

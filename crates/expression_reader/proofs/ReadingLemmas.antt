@@ -1,0 +1,78 @@
+-- What holds of each answer of a reader.
+use Rattle.std.proofs.Common.{◌≡◌, ℕ, suc, ◌+◌, ◌-◌, ◌≤◌, ◌<◌, List, [], ◌∷◌, ◌++◌, length, Result, Ok, Err, refl, sym, ap, ◌∙◌, subst, arith}
+use Rattle.std.proofs.lemmas.List.{length-map}
+use Rattle.exact_reading.specs.declared.stop.Kind.{Kind}
+use Rattle.exact_reading.specs.declared.stop.Stop.{Stop}
+use Rattle.exact_reading.specs.declared.stop.Stop.TheVariants.{Fault, Memory}
+use Rattle.exact_reading.specs.declared.stop.Kind.TheVariants.{TooNested}
+use Rattle.task_syntax.specs.declared.symbol.Symbol.{Symbol}
+use Rattle.exact_reading.specs.Reading.{Language, Within, Always, Anything, Begins, Answer, Right}
+use Rattle.exact_reading.proofs.Sequences.{begins_shorter}
+use Rattle.exact_reading.proofs.Productions.{no_memory, refused_deep, at_tokens}
+use Rattle.program_grammar.specs.Lexemes.{Lexeme, sign}
+use Rattle.program_grammar.specs.Grammar.{Form, Parse, tokens, levels}
+use Rattle.program_grammar.specs.Meaning.{Meaning}
+use Rattle.program_grammar.specs.Languages.{Of, Stops, Sign, Reading, Reads}
+use Rattle.program_grammar.specs.Parts.{lexeme, lexemes, Shown, shown, Listed, shown_list}
+use Rattle.program_grammar.specs.declared.lexeme.Located.{Located}
+use Rattle.program_grammar.proofs.GrammarLemmas.{Some, least, least_levels, head, head_first}
+use Rattle.program_grammar.proofs.PassingLemmas.{Passing, pass_stop, pass_found}
+
+-- want of memory says nothing of the tokens
+pub starved : {X Y : Type 0} {A : Language Lexeme X} {F : X → Type 0} {E : List Lexeme → Type 0} {show : X → Y} {ts : List Lexeme} {e : Stop} → e ≡ Memory → Reading A F E show ts (Err e)
+starved {A = A} {F = F} {E = E} {show = show} {ts = ts} same = subst (λ e. Reading A F E show ts (Err e)) (sym same) (record { by = no_memory })
+
+-- the same of the same tokens
+pub at_reading : {X Y : Type 0} {A : Language Lexeme X} {F : X → Type 0} {E : List Lexeme → Type 0} {show : X → Y} {ts ts' : List Lexeme} {r : Result (Y × List Lexeme) Stop} → ts ≡ ts' → Reading A F E show ts' r → Reading A F E show ts r
+at_reading {A = A} {F = F} {E = E} {show = show} {r = r} e right = subst (λ l. Reading A F E show l r) (sym e) right
+
+-- a fault's place, by the tokens of the code
+pub counted_at : {X Y : Type 0} {A : Language Lexeme X} {F : X → Type 0} {E : List Lexeme → Type 0} {show : X → Y} {ts : List Lexeme} {kind : Kind} (tokens : List Located) → Reading A F E show ts (Err (Fault kind (length (lexemes tokens)))) → Reading A F E show ts (Err (Fault kind (length tokens)))
+counted_at {A = A} {F = F} {E = E} {show = show} {ts = ts} {kind = kind} tokens right = subst (λ n. Reading A F E show ts (Err (Fault kind n))) (length-map tokens lexeme) right
+
+-- a sign was seen
+pub sign_read : {s : Symbol} {p : ℕ} {ts rest : List Lexeme} → ts ≡ sign s p ∷ rest → Right (Sign s) Always Anything ts (Ok (p, rest))
+sign_read {s = s} {p = p} {rest = rest} e = at_tokens e (record { by = record { front = sign s p ∷ []; split = refl; found = refl; fits = tt; only = only } })
+  where
+    only : (a : List Lexeme) (q : ℕ) (z : List Lexeme) → Sign s a q → Anything z → Begins (sign s p ∷ []) rest (a ++ z) → (a ≡ sign s p ∷ []) × (q ≡ p)
+    only a q z h _ b =
+        let (w, begun) = begins_shorter [] (sign s p ∷ []) rest (a ++ z) b in
+        let same : sign s q ∷ z ≡ sign s p ∷ w = ap (λ l. l ++ z) (sym h) ∙ begun in
+        let q_is : q ≡ p = cc in
+        (h ∙ ap (λ n. sign s n ∷ []) q_is, q_is)
+
+-- what was read has no more levels than there was room for
+pub levels_within : (f : Form) {room : ℕ} {ts rest : List Lexeme} {s : Shown (Meaning f)} → Reads f shown room ts (Ok (s, rest)) → s.levels ≤ room
+levels_within f h =
+    let (x, shows, right) = h.by in
+    let fits = right.by.fits in
+    let same = right.by.found.1 in
+    let e = ap (λ q. q.levels) shows in
+    omega (arith, fits, same, e)
+
+pub listing_within : (f : Form) {room : ℕ} {ts rest : List Lexeme} {s : Listed (Meaning f)} → Reads f shown_list room ts (Ok (s, rest)) → s.levels ≤ room
+listing_within f h =
+    let (x, shows, right) = h.by in
+    let fits = right.by.fits in
+    let same = right.by.found.1 in
+    let e = ap (λ q. q.levels) shows in
+    omega (arith, fits, same, e)
+
+-- a form that is another one is read as that one is
+pub passed : {f g : Form} {Y : Type 0} {show : Parse f → Y} {show' : Parse g → Y} {room : ℕ} {ts : List Lexeme} (P : Passing f g ts) → ((d : Parse g) → show (P.pass d) ≡ show' d) → (r : Result (Y × List Lexeme) Stop) → Reads g show' room ts r → Reads f show room ts r
+passed P same (Ok r) h = let (x, shows, right) = h.by in record { by = ((P.pass x.0, x.1), same x.0 ∙ shows, pass_found P right) }
+passed P same (Err e) h = record { by = pass_stop P h.by }
+
+-- the first token is that of this parse, and there is no room for any
+pub no_room : {f : Form} (d : Parse f) → Some f → {room : ℕ} {ts rest : List Lexeme} → ts ≡ head d ∷ rest → room < least f → Right (Of f) (Within room) (Stops f) ts (Err (Fault TooNested (length ts)))
+no_room {f} d some e lt =
+    let (w, is) = head_first d some in
+    refused_deep (Of f) e (λ a y z h fits _ _. let few = least_levels y.0 in let same = h.1 in omega (arith, few, same, fits, lt)) (w, (d, levels d), (is, refl), tt)
+
+-- what stands behind a token has fewer
+pub fewer : {t : Lexeme} (more rest : List Located) → lexemes more ≡ t ∷ lexemes rest → length rest < length more
+fewer more rest e =
+    let whole = length-map more lexeme in
+    let behind = length-map rest lexeme in
+    let counts : length (lexemes more) ≡ suc (length (lexemes rest)) = ap length e in
+    omega (arith, whole, behind, counts)
