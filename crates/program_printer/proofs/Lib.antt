@@ -8,6 +8,7 @@ pub mod ListLemmas
 pub mod LongShowing
 pub mod Placing
 pub mod Printable
+pub mod ProgramLines
 pub mod Showing
 pub mod SpelledLiterals
 pub mod TaskPlaces
