@@ -9,6 +9,7 @@ pub mod LongShowing
 pub mod Placing
 pub mod Printable
 pub mod ProgramLines
+pub mod Reprinted
 pub mod Showing
 pub mod SpelledLiterals
 pub mod TaskPlaces

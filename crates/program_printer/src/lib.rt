@@ -3,6 +3,7 @@
 
 mod definitions;
 mod expressions;
+mod laws;
 mod later;
 mod operators;
 mod print;
@@ -10,4 +11,5 @@ mod printer;
 mod tasks;
 mod types;
 
+pub use laws::read_is_written;
 pub use print::print_program;
