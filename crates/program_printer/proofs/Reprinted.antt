@@ -236,13 +236,15 @@ written_again source p places r =
     let shown = printable d spelled bs [] agrees in
     let stands = shown.stands 0 in
     let text : bytes_of (pieces shown.written) ≡ program_text p = shown.bytes ∙ ap program_text r.stands_for in
-    let means = ap program_again stands.means in
-    (_, record {
-      terms = token_terms (placed_from 0 (tokens_in shown.written));
-      has = subst (λ s. HasTokens s (token_terms (placed_from 0 (tokens_in shown.written)))) text (tokens_of_pieces shown.written shown.right);
-      parse = stands.parse;
-      reads = ap token_terms stands.tokens_are;
-      within = (let few = stands.within in let most = r.within in omega (arith, few, most));
-      stands_for = means ∙ r.stands_for;
-      placed = refl;
-    })
+    let means = ap program_again stands.means in (
+      _,
+      record {
+        terms = token_terms (placed_from 0 (tokens_in shown.written));
+        has = subst (λ s. HasTokens s (token_terms (placed_from 0 (tokens_in shown.written)))) text (tokens_of_pieces shown.written shown.right);
+        parse = stands.parse;
+        reads = ap token_terms stands.tokens_are;
+        within = (let few = stands.within in let most = r.within in omega (arith, few, most));
+        stands_for = means ∙ r.stands_for;
+        placed = refl;
+      },
+    )

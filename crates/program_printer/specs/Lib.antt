@@ -1,3 +1,4 @@
+pub mod LaterTexts
 pub mod Lines
 pub mod Printed
 pub mod Written

@@ -3,12 +3,15 @@
 
 mod definitions;
 mod expressions;
-mod laws;
 mod later;
+mod laws;
+mod numbered;
 mod operators;
 mod print;
 mod printer;
 mod tasks;
+#[cfg(test)]
+mod tests;
 mod types;
 
 pub use laws::read_is_written;
