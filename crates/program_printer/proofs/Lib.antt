@@ -6,6 +6,7 @@ pub mod ExpressionProductions
 pub mod LineLemmas
 pub mod ListLemmas
 pub mod LongShowing
+pub mod NeededLemmas
 pub mod Placing
 pub mod Printable
 pub mod ProgramLines

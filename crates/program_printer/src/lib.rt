@@ -14,5 +14,5 @@ mod tasks;
 mod tests;
 mod types;
 
-pub use laws::read_is_written;
+pub use laws::{parentheses_are_needed, read_is_written};
 pub use print::print_program;
