@@ -52,7 +52,7 @@ body_absent first bodies number (inr above) = let n = length-map bodies body_ter
 
 pub body_found : (first : ℕ) (bodies : List Body) (number : ℕ) (d : Body) → first ≤ number → number - first < length bodies
     → body_numbered first (body_texts first (map body_term bodies)) number
-        ≡ body_text (number + 1) (body_texts (number + 1) (map body_term (take (length bodies - (number - first + 1)) (drop (number - first + 1) bodies)))) (body_term (get_or bodies (number - first) d))
+    ≡ body_text (number + 1) (body_texts (number + 1) (map body_term (take (length bodies - (number - first + 1)) (drop (number - first + 1) bodies)))) (body_term (get_or bodies (number - first) d))
 body_found first bodies number d from within =
     let i = number - first in
     let before = take i bodies in

@@ -94,9 +94,9 @@ function_shown x qs b e next bs i j k s p t o =
     (headed (word words.Fun 0) (name x 0) (sign signs.Colon 0) (sign signs.Define 0) (word_spelled words.Fun 0) s (sign_spelled signs.Colon 0) (sign_spelled signs.Define 0)
     (λ n m a r c q d. grammar.function n x m a r c q d) (λ n m a r c q d. refl)
     (λ n m a r c q d f g h.
-        ap {A = List ParamTerm} {B = DefinitionMeaning} (λ z. (make x z (meaning c) (fun_body (meaning d)), 0, [])) f
-        ∙ ap {A = BasicTerm} {B = DefinitionMeaning} (λ z. (make x qs z (fun_body (meaning d)), 0, [])) g
-        ∙ ap {A = HostTerm} {B = DefinitionMeaning} (λ z. (make x qs b (fun_body z), 0, [])) h)
+    ap {A = List ParamTerm} {B = DefinitionMeaning} (λ z. (make x z (meaning c) (fun_body (meaning d)), 0, [])) f
+    ∙ ap {A = BasicTerm} {B = DefinitionMeaning} (λ z. (make x qs z (fun_body (meaning d)), 0, [])) g
+    ∙ ap {A = HostTerm} {B = DefinitionMeaning} (λ z. (make x qs b (fun_body z), 0, [])) h)
     (λ n m a r c q d. refl) p t (at_place 8 e (omega arith) o))
 
 pub task_shown : (x : Text) (qs : List ParamTerm) (b : BasicTerm) (v : TaskMeaning) (next : ℕ) (bs : List BodyText) (i j k : ℕ) → IsSpelled (name x 0) → ShownEnclosed qs i → ShownType b j
@@ -107,7 +107,7 @@ task_shown x qs b v next bs i j k s p t o =
     (headed (word words.Task 0) (name x 0) (sign signs.Colon 0) (sign signs.Define 0) (word_spelled words.Task 0) s (sign_spelled signs.Colon 0) (sign_spelled signs.Define 0)
     (λ n m a r c q d. grammar.task_named n x m a r c q d) (λ n m a r c q d. refl)
     (λ n m a r c q d f g h.
-        ap {A = List ParamTerm} {B = DefinitionMeaning} (λ z. (make x z (meaning c) (task_body (meaning d next)), bodies d, bodies_of d (names_of z) next)) f
-        ∙ ap {A = BasicTerm} {B = DefinitionMeaning} (λ z. (make x qs z (task_body (meaning d next)), bodies d, bodies_of d (names_of qs) next)) g
-        ∙ ap {A = TaskMeaning} {B = DefinitionMeaning} (λ z. (make x qs b (task_body z.0), z.1, z.2)) h)
+    ap {A = List ParamTerm} {B = DefinitionMeaning} (λ z. (make x z (meaning c) (task_body (meaning d next)), bodies d, bodies_of d (names_of z) next)) f
+    ∙ ap {A = BasicTerm} {B = DefinitionMeaning} (λ z. (make x qs z (task_body (meaning d next)), bodies d, bodies_of d (names_of qs) next)) g
+    ∙ ap {A = TaskMeaning} {B = DefinitionMeaning} (λ z. (make x qs b (task_body z.0), z.1, z.2)) h)
     (λ n m a r c q d. refl) p t (task_place 3 (names_of qs) next 0 bs v o))

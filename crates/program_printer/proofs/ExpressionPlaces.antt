@@ -17,34 +17,13 @@ use Rattle.program_grammar.specs.Lexemes.{Lexeme, word, sign, name, number, quot
 use Rattle.program_grammar.specs.Grammar as grammar
 use Rattle.program_grammar.specs.Grammar.{Form, Parse, tokens, levels}
 use Rattle.program_grammar.specs.Meaning.{meaning, relation_of, prefix_of, scalar_of}
+use Rattle.program_printer.specs.Places.{form_at, term_at}
 use Rattle.program_printer.specs.Printed.{basic_tokens, expression_at, expression_rank, expression_tokens, listed_tokens, operator_rank, placed}
 use Rattle.program_printer.proofs.ListLemmas.{listed_more}
 use Rattle.program_printer.proofs.Placing.{IsSpelled, spelling}
 use Rattle.program_printer.proofs.Showing.{Shown, looser, leaf, leaf_two, pass, front, between, enclose, enclose_two, bound, branched, word_spelled, sign_spelled}
 
--- ---- the nonterminals of expressions by their numbers
-abbrev pub form_at : ℕ → Form
-form_at zero = grammar.atom
-form_at (suc zero) = grammar.operand
-form_at (suc (suc zero)) = grammar.series grammar.product
-form_at (suc (suc (suc zero))) = grammar.series grammar.sum
-form_at (suc (suc (suc (suc zero)))) = grammar.listed
-form_at (suc (suc (suc (suc (suc zero))))) = grammar.comparison
-form_at (suc (suc (suc (suc (suc (suc zero)))))) = grammar.series grammar.both
-form_at (suc (suc (suc (suc (suc (suc (suc zero))))))) = grammar.series grammar.either
-form_at (suc (suc (suc (suc (suc (suc (suc (suc p)))))))) = grammar.expression
-
-abbrev pub term_at : (p : ℕ) → Parse (form_at p) → HostTerm
-term_at zero d = meaning d
-term_at (suc zero) d = meaning d
-term_at (suc (suc zero)) d = meaning d
-term_at (suc (suc (suc zero))) d = meaning d
-term_at (suc (suc (suc (suc zero)))) d = meaning d
-term_at (suc (suc (suc (suc (suc zero))))) d = meaning d
-term_at (suc (suc (suc (suc (suc (suc zero)))))) d = meaning d
-term_at (suc (suc (suc (suc (suc (suc (suc zero))))))) d = meaning d
-term_at (suc (suc (suc (suc (suc (suc (suc (suc p)))))))) d = meaning d
-
+-- ---- the nonterminals of expressions
 -- each one reaches the productions of the one before it
 abbrev IsShown : ℕ → HostTerm → ℕ → List Text → Type 0
 IsShown p e k ts = Shown (term_at p) e k ts

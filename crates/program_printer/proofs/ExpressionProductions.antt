@@ -17,12 +17,13 @@ use Rattle.program_grammar.specs.Lexemes.{word, sign, name, number, quote}
 use Rattle.program_grammar.specs.Grammar as grammar
 use Rattle.program_grammar.specs.Grammar.{Parse, tokens, levels}
 use Rattle.program_grammar.specs.Meaning.{meaning, relation_of, prefix_of, scalar_of}
+use Rattle.program_printer.specs.Places.{term_at}
 use Rattle.program_printer.specs.Printed.{basic_tokens, expression_at, expression_tokens, listed_tokens}
 use Rattle.program_printer.proofs.ListLemmas.{listed_more}
 use Rattle.program_printer.proofs.Placing.{IsSpelled}
 use Rattle.program_printer.proofs.Showing.{Shown, looser, leaf, leaf_two, pass, front, between, enclose, enclose_two, bound, branched, word_spelled, sign_spelled}
 use Rattle.program_printer.proofs.LongShowing.{matched}
-use Rattle.program_printer.proofs.ExpressionPlaces.{Own, own_here, at_place, term_at}
+use Rattle.program_printer.proofs.ExpressionPlaces.{Own, own_here, at_place}
 
 -- ---- types
 abbrev pub type_of : Parse grammar.basic → BasicTerm

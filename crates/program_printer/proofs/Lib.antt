@@ -6,8 +6,11 @@ pub mod ExpressionProductions
 pub mod LineLemmas
 pub mod ListLemmas
 pub mod LongShowing
+pub mod NeededLemmas
 pub mod Placing
 pub mod Printable
+pub mod ProgramLines
+pub mod Reprinted
 pub mod Showing
 pub mod SpelledLiterals
 pub mod TaskPlaces

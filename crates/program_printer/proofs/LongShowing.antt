@@ -118,8 +118,8 @@ headed l1 l2 m r s1 s2 sm sr C toks mean same a b c = record {
         parse = C n1 n2 x.parse o y.parse p z.parse;
         tokens_are = toks n1 n2 x.parse o y.parse p z.parse ∙ ap (λ t. put l1 n1 ∷ put l2 n2 ∷ t)
             (joined_placed n3 inner (r ∷ c.written.toks) (tokens x.parse ++ put m o ∷ tokens y.parse) (put r p ∷ tokens z.parse)
-                (joined_placed n3 a.written.toks (m ∷ b.written.toks) (tokens x.parse) (put m o ∷ tokens y.parse) x.tokens_are (ap (λ t. put m o ∷ t) y.tokens_are))
-                (ap (λ t. put r p ∷ t) z.tokens_are));
+            (joined_placed n3 a.written.toks (m ∷ b.written.toks) (tokens x.parse) (put m o ∷ tokens y.parse) x.tokens_are (ap (λ t. put m o ∷ t) y.tokens_are))
+            (ap (λ t. put r p ∷ t) z.tokens_are));
         means = mean n1 n2 x.parse o y.parse p z.parse x.means y.means z.means;
         within = (let w1 = x.within in let w2 = y.within in let w3 = z.within in let e = same n1 n2 x.parse o y.parse p z.parse in omega (arith, w1, w2, w3, e));
       };
@@ -130,18 +130,18 @@ pub matched :
     {T U V W : Type 0} {f g h i : Form} {val : Parse f → V} {first : Parse g → T} {second : Parse h → U} {third : Parse i → W} {v : V} {t : T} {u : U} {w : W} {j k q : ℕ} {ts us vs : List Text}
     (x y : Text) → IsSpelled (name x 0) → IsSpelled (name y 0) → (C : ℕ → Parse g → ℕ → ℕ → ℕ → ℕ → Parse h → ℕ → ℕ → ℕ → ℕ → ℕ → Parse i → Parse f)
     → ((n : ℕ) (a : Parse g) (o1 o2 o3 o4 : ℕ) (b : Parse h) (p1 p2 p3 p4 p5 : ℕ) (c : Parse i) → tokens (C n a o1 o2 o3 o4 b p1 p2 p3 p4 p5 c) ≡
-        word words.Case n ∷ tokens a ++ word words.Of o1 ∷ sign signs.OpenBracket o2 ∷ sign signs.CloseBracket o3 ∷ sign signs.Arrow o4 ∷ tokens b
-        ++ sign signs.Bar p1 ∷ name x p2 ∷ sign signs.Cons p3 ∷ name y p4 ∷ sign signs.Arrow p5 ∷ tokens c)
+    word words.Case n ∷ tokens a ++ word words.Of o1 ∷ sign signs.OpenBracket o2 ∷ sign signs.CloseBracket o3 ∷ sign signs.Arrow o4 ∷ tokens b
+    ++ sign signs.Bar p1 ∷ name x p2 ∷ sign signs.Cons p3 ∷ name y p4 ∷ sign signs.Arrow p5 ∷ tokens c)
     → ((n : ℕ) (a : Parse g) (o1 o2 o3 o4 : ℕ) (b : Parse h) (p1 p2 p3 p4 p5 : ℕ) (c : Parse i) → first a ≡ t → second b ≡ u → third c ≡ w → val (C n a o1 o2 o3 o4 b p1 p2 p3 p4 p5 c) ≡ v)
     → ((n : ℕ) (a : Parse g) (o1 o2 o3 o4 : ℕ) (b : Parse h) (p1 p2 p3 p4 p5 : ℕ) (c : Parse i) → levels (C n a o1 o2 o3 o4 b p1 p2 p3 p4 p5 c) ≡ suc (max (levels a) (max (levels b) (levels c))))
     → Shown first t j ts → Shown second u k us → Shown third w q vs
     → Shown val v (suc (max j (max k q)))
-        (spelling (word words.Case 0) ∷ ts ++ spelling (word words.Of 0) ∷ spelling (sign signs.OpenBracket 0) ∷ spelling (sign signs.CloseBracket 0) ∷ spelling (sign signs.Arrow 0) ∷ us
-        ++ spelling (sign signs.Bar 0) ∷ x ∷ spelling (sign signs.Cons 0) ∷ y ∷ spelling (sign signs.Arrow 0) ∷ vs)
+    (spelling (word words.Case 0) ∷ ts ++ spelling (word words.Of 0) ∷ spelling (sign signs.OpenBracket 0) ∷ spelling (sign signs.CloseBracket 0) ∷ spelling (sign signs.Arrow 0) ∷ us
+    ++ spelling (sign signs.Bar 0) ∷ x ∷ spelling (sign signs.Cons 0) ∷ y ∷ spelling (sign signs.Arrow 0) ∷ vs)
 matched x y sx sy C toks mean same a b c = record {
   written = word_before words.Case
       (joined (joined a.written (word_before words.Of (sign_before signs.OpenBracket (sign_before signs.CloseBracket (sign_before signs.Arrow b.written)))))
-          (sign_before signs.Bar (before (name x 0) sx (sign_before signs.Cons (before (name y 0) sy (sign_before signs.Arrow c.written))))));
+      (sign_before signs.Bar (before (name x 0) sx (sign_before signs.Cons (before (name y 0) sy (sign_before signs.Arrow c.written))))));
   stands = λ n.
       let n1 = behind n (word words.Case 0) in
       let d = a.stands n1 in
@@ -164,8 +164,8 @@ matched x y sx sy C toks mean same a b c = record {
         parse = C n d.parse o1 o2 o3 o4 e.parse p1 p2 p3 p4 p5 z.parse;
         tokens_are = toks n d.parse o1 o2 o3 o4 e.parse p1 p2 p3 p4 p5 z.parse ∙ ap (λ l. word words.Case n ∷ l)
             (joined_placed n1 inner (sign signs.Bar 0 ∷ name x 0 ∷ sign signs.Cons 0 ∷ name y 0 ∷ sign signs.Arrow 0 ∷ c.written.toks) (tokens d.parse ++ head (tokens e.parse)) (tail (tokens z.parse))
-                (joined_placed n1 a.written.toks middle (tokens d.parse) (head (tokens e.parse)) d.tokens_are (ap head e.tokens_are))
-                (ap tail z.tokens_are));
+            (joined_placed n1 a.written.toks middle (tokens d.parse) (head (tokens e.parse)) d.tokens_are (ap head e.tokens_are))
+            (ap tail z.tokens_are));
         means = mean n d.parse o1 o2 o3 o4 e.parse p1 p2 p3 p4 p5 z.parse d.means e.means z.means;
         within = (let w1 = d.within in let w2 = e.within in let w3 = z.within in let s = same n d.parse o1 o2 o3 o4 e.parse p1 p2 p3 p4 p5 z.parse in omega (arith, w1, w2, w3, s));
       };

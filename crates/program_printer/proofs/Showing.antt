@@ -159,7 +159,7 @@ enclose_two l m r sl sm sr C toks mean same a b = record {
         parse = C n x.parse o y.parse p;
         tokens_are = toks n x.parse o y.parse p ∙ ap (λ t. put l n ∷ t)
             (joined_placed n1 inner (r ∷ []) (tokens x.parse ++ put m o ∷ tokens y.parse) (put r p ∷ [])
-                (joined_placed n1 a.written.toks (m ∷ b.written.toks) (tokens x.parse) (put m o ∷ tokens y.parse) x.tokens_are (ap (λ t. put m o ∷ t) y.tokens_are)) refl);
+            (joined_placed n1 a.written.toks (m ∷ b.written.toks) (tokens x.parse) (put m o ∷ tokens y.parse) x.tokens_are (ap (λ t. put m o ∷ t) y.tokens_are)) refl);
         means = mean n x.parse o y.parse p x.means y.means;
         within = (let w = x.within in let z = y.within in let e = same n x.parse o y.parse p in omega (arith, w, z, e));
       };
@@ -213,8 +213,8 @@ branched l m r sl sm sr C toks mean same a b c = record {
         parse = C n x.parse o y.parse p z.parse;
         tokens_are = toks n x.parse o y.parse p z.parse ∙ ap (λ t. put l n ∷ t)
             (joined_placed n1 inner (r ∷ c.written.toks) (tokens x.parse ++ put m o ∷ tokens y.parse) (put r p ∷ tokens z.parse)
-                (joined_placed n1 a.written.toks (m ∷ b.written.toks) (tokens x.parse) (put m o ∷ tokens y.parse) x.tokens_are (ap (λ t. put m o ∷ t) y.tokens_are))
-                (ap (λ t. put r p ∷ t) z.tokens_are));
+            (joined_placed n1 a.written.toks (m ∷ b.written.toks) (tokens x.parse) (put m o ∷ tokens y.parse) x.tokens_are (ap (λ t. put m o ∷ t) y.tokens_are))
+            (ap (λ t. put r p ∷ t) z.tokens_are));
         means = mean n x.parse o y.parse p z.parse x.means y.means z.means;
         within = (let w1 = x.within in let w2 = y.within in let w3 = z.within in let e = same n x.parse o y.parse p z.parse in omega (arith, w1, w2, w3, e));
       };

@@ -9,6 +9,7 @@ use Rattle.program_grammar.specs.Lexemes.{sign}
 use Rattle.program_grammar.specs.Grammar as grammar
 use Rattle.program_grammar.specs.Grammar.{Form, Parse, tokens, levels}
 use Rattle.program_grammar.specs.Meaning.{meaning, bodies, bodies_of}
+use Rattle.program_printer.specs.Places.{task_form}
 use Rattle.program_printer.specs.Printed.{BodyText, body_numbered, body_text, body_texts, task_rank, task_tokens, task_at}
 use Rattle.program_printer.proofs.BodyLemmas.{numbered_there}
 use Rattle.program_printer.proofs.Showing.{Shown, looser, pass, enclose, sign_spelled}
@@ -38,13 +39,7 @@ agrees_head first bs next b rest h = h next (omega arith) ∙ numbered_there nex
 pub agrees_self : (next : ℕ) (rest : List BodyTerm) → Agrees next (body_texts next rest) next rest
 agrees_self next rest = λ i le. refl
 
--- ---- the nonterminals of tasks by their numbers
-abbrev pub task_form : ℕ → Form
-task_form zero = grammar.task_atom
-task_form (suc zero) = grammar.series grammar.chain
-task_form (suc (suc zero)) = grammar.series grammar.choice
-task_form (suc (suc (suc p))) = grammar.task
-
+-- ---- the nonterminals of tasks
 -- a task, how many bodies it has, and those bodies
 abbrev pub TaskMeaning : Type 0
 TaskMeaning = TaskTerm × ℕ × List BodyTerm

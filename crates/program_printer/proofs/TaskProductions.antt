@@ -64,20 +64,20 @@ step_is o scope x next v w t n B u m C e f =
     (ap (λ k. step_of o t (next + k)) (count_is e) ∙ ap (λ z. step_of o z (next + v.1)) (first_is e))
     (ap (λ k. k + suc m) (count_is e) ∙ ap (λ k. v.1 + suc k) (count_is f))
     (ap (λ k. B ++ step_body scope x (u (suc (next + k))) ∷ C (suc (next + k))) (count_is e) ∙ ap (λ z. B ++ step_body scope x z ∷ C (suc (next + v.1))) (first_is f)
-        ∙ ap (λ z. B ++ step_body scope x w.0 ∷ z) (bodies_are f) ∙ ap (λ z. z ++ step_body scope x w.0 ∷ w.2) (bodies_are e))
+    ∙ ap (λ z. B ++ step_body scope x w.0 ∷ z) (bodies_are f) ∙ ap (λ z. z ++ step_body scope x w.0 ∷ w.2) (bodies_are e))
 
 -- of an external choice
 external_is :
     (scope : List Text) (next : ℕ) (v w : TaskMeaning) (t : TaskTerm) (n : ℕ) (B : List BodyTerm) (u : ℕ → TaskTerm) (m : ℕ) (C : ℕ → List BodyTerm)
     → ◌≡◌ {A = TaskMeaning} (t, n, B) v → ◌≡◌ {A = TaskMeaning} (u (suc (suc (next + v.1))), m, C (suc (suc (next + v.1)))) w
     → ◌≡◌ {A = TaskMeaning} (xor_task next (suc (next + n)), suc n + suc m, (body_of scope t ∷ B) ++ body_of scope (u (suc (suc (next + n)))) ∷ C (suc (suc (next + n))))
-        (xor_task next (suc (next + v.1)), suc v.1 + suc w.1, (body_of scope v.0 ∷ v.2) ++ body_of scope w.0 ∷ w.2)
+    (xor_task next (suc (next + v.1)), suc v.1 + suc w.1, (body_of scope v.0 ∷ v.2) ++ body_of scope w.0 ∷ w.2)
 external_is scope next v w t n B u m C e f =
     three_are
     (ap (λ k. xor_task next (suc (next + k))) (count_is e))
     (ap (λ k. suc k + suc m) (count_is e) ∙ ap (λ k. suc v.1 + suc k) (count_is f))
     (ap (λ k. (body_of scope t ∷ B) ++ body_of scope (u (suc (suc (next + k)))) ∷ C (suc (suc (next + k)))) (count_is e) ∙ ap (λ z. (body_of scope t ∷ B) ++ body_of scope z ∷ C (suc (suc (next + v.1)))) (first_is f)
-        ∙ ap (λ z. (body_of scope t ∷ B) ++ body_of scope w.0 ∷ z) (bodies_are f) ∙ ap (λ z. (body_of scope z ∷ B) ++ body_of scope w.0 ∷ w.2) (first_is e) ∙ ap (λ z. (body_of scope v.0 ∷ z) ++ body_of scope w.0 ∷ w.2) (bodies_are e))
+    ∙ ap (λ z. (body_of scope t ∷ B) ++ body_of scope w.0 ∷ z) (bodies_are f) ∙ ap (λ z. (body_of scope z ∷ B) ++ body_of scope w.0 ∷ w.2) (first_is e) ∙ ap (λ z. (body_of scope v.0 ∷ z) ++ body_of scope w.0 ∷ w.2) (bodies_are e))
 
 -- ---- atoms
 module _ (scope : List Text) (next first : ℕ) (bs : List BodyText) where
@@ -130,8 +130,8 @@ module _ (scope : List Text) (next first : ℕ) (bs : List BodyText) where
   own_external v w ls rs j k left right o q =
       let whole = let z : TaskMeaning = (xor_task next (suc (next + v.1)), suc v.1 + suc w.1, (body_of scope v.0 ∷ v.2) ++ body_of scope w.0 ∷ w.2) in z in
       let texts =
-          ap (λ b. body_at 2 b ++ codes "<?>" ∷ task_at 1 (suc (suc (next + v.1))) rs w.0) (sym left)
-          ∙ ap (λ b. body_at 2 (body_numbered first bs next) ++ codes "<?>" ∷ body_at 1 b) (sym right) in
+      ap (λ b. body_at 2 b ++ codes "<?>" ∷ task_at 1 (suc (suc (next + v.1))) rs w.0) (sym left)
+      ∙ ap (λ b. body_at 2 (body_numbered first bs next) ++ codes "<?>" ∷ body_at 1 b) (sym right) in
       task_here 2 scope next first bs whole refl
       (subst (λ ts. Shown (task_in 2 scope next) whole (1 + max j k) ts) texts
       (between 1 (sign signs.ExternalChoice 0) (sign_spelled signs.ExternalChoice 0) (λ x n y. grammar.joined grammar.choice x grammar.external n y) (λ x n y. refl)
@@ -191,7 +191,7 @@ module _ (scope : List Text) (next first : ℕ) (bs : List BodyText) where
       (branched (word words.If 0) (word words.Then 0) (word words.Else 0) (word_spelled words.If 0) (word_spelled words.Then 0) (word_spelled words.Else 0)
       (λ n x m y r z. grammar.task_if n x m y r z) (λ n x m y r z. refl)
       (λ n x m y r z f g h. ap {A = HostTerm} {B = TaskMeaning} (λ c. (if_task c (meaning y next) (meaning z (next + bodies y)), bodies y + bodies z, bodies_of y scope next ++ bodies_of z scope (next + bodies y))) f
-          ∙ two_are (if_task e) next v w (meaning y next) (bodies y) (bodies_of y scope next) (meaning z) (bodies z) (bodies_of z scope) g h) (λ n x m y r z. refl)
+      ∙ two_are (if_task e) next v w (meaning y next) (bodies y) (bodies_of y scope next) (meaning z) (bodies z) (bodies_of z scope) g h) (λ n x m y r z. refl)
       (at_place 8 e (omega arith) p) (task_place 3 scope next first bs v o) (task_place 3 scope (next + v.1) first bs w q))
 
   pub own_task_case :
@@ -201,6 +201,6 @@ module _ (scope : List Text) (next first : ℕ) (bs : List BodyText) where
       task_here 3 scope next first bs (case_task e v.0 x y w.0, v.1 + w.1, v.2 ++ w.2) refl
       (matched x y sx sy (λ n d o1 o2 o3 o4 a p1 p2 p3 p4 p5 z. grammar.task_case n d o1 o2 o3 o4 a p1 x p2 p3 y p4 p5 z) (λ n d o1 o2 o3 o4 a p1 p2 p3 p4 p5 z. refl)
       (λ n d o1 o2 o3 o4 a p1 p2 p3 p4 p5 z f g h.
-          ap {A = HostTerm} {B = TaskMeaning} (λ c. (case_task c (meaning a next) x y (meaning z (next + bodies a)), bodies a + bodies z, bodies_of a scope next ++ bodies_of z (scope ++ x ∷ y ∷ []) (next + bodies a))) f
-          ∙ two_are (λ s t. case_task e s x y t) next v w (meaning a next) (bodies a) (bodies_of a scope next) (meaning z) (bodies z) (bodies_of z (scope ++ x ∷ y ∷ [])) g h)
+      ap {A = HostTerm} {B = TaskMeaning} (λ c. (case_task c (meaning a next) x y (meaning z (next + bodies a)), bodies a + bodies z, bodies_of a scope next ++ bodies_of z (scope ++ x ∷ y ∷ []) (next + bodies a))) f
+      ∙ two_are (λ s t. case_task e s x y t) next v w (meaning a next) (bodies a) (bodies_of a scope next) (meaning z) (bodies z) (bodies_of z (scope ++ x ∷ y ∷ [])) g h)
       (λ n d o1 o2 o3 o4 a p1 p2 p3 p4 p5 z. refl) (at_place 8 e (omega arith) p) (task_place 3 scope next first bs v o) (task_place 3 (scope ++ x ∷ y ∷ []) (next + v.1) first bs w q))

@@ -83,7 +83,11 @@ fn write_definition(out: &mut Printer, bodies: &[Body], d: &Def) -> Result<(), O
     out.put("\n")
 }
 
-pub(crate) fn write_definitions(out: &mut Printer, bodies: &[Body], defs: &[Def]) -> Result<(), OutOfMemory>
+pub(crate) fn write_definitions(
+    out: &mut Printer,
+    bodies: &[Body],
+    defs: &[Def],
+) -> Result<(), OutOfMemory>
     ensures { OnOk result (out.new ≡ out.old ++ definitions_text (body_texts 0 (map body_term bodies.now)) (map def_term defs.now)) }
 {
     for d in defs {

@@ -15,7 +15,9 @@ use task_model::{Host, Op, OutOfMemory, TaskText, Value, copy_text};
 
 // Of the nonterminals of expressions, from the tightest, each one reaches the productions of those before it.
 pub(crate) const ATOM: u8 = 0;
+
 const OPERAND: u8 = 1;
+
 pub(crate) const EXPRESSION: u8 = 8;
 
 /// The nonterminal of an expression's own production.

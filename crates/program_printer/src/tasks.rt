@@ -1,21 +1,26 @@
-ghost use Rattle.std.specs.Prelude.{◌≡◌, ◌∷◌, ◌++◌, [], OnOk, codes, map};
+ghost use Rattle.std.specs.Prelude.{◌≡◌, ◌∷◌, ◌++◌, [], OnOk, codes};
 ghost use Rattle.task_model.specs.Host.{host_term};
-ghost use Rattle.task_model.specs.Task.{task_term, body_term, and_task, or_task, xor_task, if_task, case_task};
-ghost use Rattle.program_printer.specs.Printed.{expression_at, binder_text, body_numbered, body_at, body_texts, step_tokens, task_rank, task_tokens, task_at};
+ghost use Rattle.task_model.specs.Task.{task_term, and_task, or_task, xor_task, if_task, case_task};
+ghost use Rattle.program_printer.specs.Printed.{expression_at, binder_text, body_numbered, body_at, step_tokens, task_rank, task_tokens, task_at};
+ghost use Rattle.program_printer.specs.LaterTexts.{later_texts};
 ghost use Rattle.program_printer.specs.Lines.{with_tokens};
 
 use crate::expressions::{
     ATOM as HOST_ATOM, EXPRESSION, write_call, write_elements, write_expression, write_no_elements,
 };
-use crate::later::{Later, Numbered};
+use crate::later::Later;
+use crate::numbered::Numbered;
 use crate::printer::Printer;
 use crate::types::write_typed;
 use task_model::{Body, Host, OutOfMemory, Task};
 
 // Of the nonterminals of tasks, from the tightest, each one reaches the productions of those before it.
 const ATOM: u8 = 0;
+
 const CHAIN: u8 = 1;
+
 const CHOICE: u8 = 2;
+
 pub(crate) const TASK: u8 = 3;
 
 /// The nonterminal of a task's own production.
@@ -87,9 +92,13 @@ fn write_test(out: &mut Printer, test: &Host) -> Result<(), OutOfMemory>
 
 /// The tokens of a task at a place, in parentheses where that can't reach its production.
 #[cycle(task)]
-pub(crate) fn write_task(out: &mut Printer, place: u8, later: &Later, t: &Task) -> Result<(), OutOfMemory>
-    ensures { OnOk result (out.new ≡ with_tokens out.old
-        (task_at place later.now.first (body_texts later.now.first (map body_term later.now.bodies.now)) (task_term t.now))) }
+pub(crate) fn write_task(
+    out: &mut Printer,
+    place: u8,
+    later: &Later,
+    t: &Task,
+) -> Result<(), OutOfMemory>
+    ensures { OnOk result (out.new ≡ with_tokens out.old (task_at place later.now.first (later_texts later.now) (task_term t.now))) }
 {
     if place < rank(t) {
         out.token("(")?;
@@ -102,8 +111,7 @@ pub(crate) fn write_task(out: &mut Printer, place: u8, later: &Later, t: &Task) 
 
 #[cycle(task)]
 fn write_production(out: &mut Printer, later: &Later, t: &Task) -> Result<(), OutOfMemory>
-    ensures { OnOk result (out.new ≡ with_tokens out.old
-        (task_tokens later.now.first (body_texts later.now.first (map body_term later.now.bodies.now)) (task_term t.now))) }
+    ensures { OnOk result (out.new ≡ with_tokens out.old (task_tokens later.now.first (later_texts later.now) (task_term t.now))) }
 {
     match t {
         Task::Edit(e) => write_edit(out, e),
@@ -140,10 +148,16 @@ fn write_production(out: &mut Printer, later: &Later, t: &Task) -> Result<(), Ou
 }
 
 #[cycle(task)]
-fn write_step(out: &mut Printer, later: &Later, left: &Task, sign: &str, number: u32) -> Result<(), OutOfMemory>
+fn write_step(
+    out: &mut Printer,
+    later: &Later,
+    left: &Task,
+    sign: &str,
+    number: u32,
+) -> Result<(), OutOfMemory>
     ensures { OnOk result (out.new ≡ with_tokens out.old
-        (task_at 2 later.now.first (body_texts later.now.first (map body_term later.now.bodies.now)) (task_term left.now)
-        ++ sign.now ∷ step_tokens (body_numbered later.now.first (body_texts later.now.first (map body_term later.now.bodies.now)) number))) }
+        (task_at 2 later.now.first (later_texts later.now) (task_term left.now)
+        ++ sign.now ∷ step_tokens (body_numbered later.now.first (later_texts later.now) number))) }
 {
     write_task(out, CHOICE, later, left)?;
     out.token(sign)?;
@@ -158,8 +172,7 @@ fn write_step(out: &mut Printer, later: &Later, left: &Task, sign: &str, number:
 
 #[cycle(task)]
 fn write_and(out: &mut Printer, later: &Later, left: &Task, right: &Task) -> Result<(), OutOfMemory>
-    ensures { OnOk result (out.new ≡ with_tokens out.old
-        (task_tokens later.now.first (body_texts later.now.first (map body_term later.now.bodies.now)) (and_task (task_term left.now) (task_term right.now)))) }
+    ensures { OnOk result (out.new ≡ with_tokens out.old (task_tokens later.now.first (later_texts later.now) (and_task (task_term left.now) (task_term right.now)))) }
 {
     write_task(out, CHAIN, later, left)?;
     out.token("<&>")?;
@@ -168,8 +181,7 @@ fn write_and(out: &mut Printer, later: &Later, left: &Task, right: &Task) -> Res
 
 #[cycle(task)]
 fn write_or(out: &mut Printer, later: &Later, left: &Task, right: &Task) -> Result<(), OutOfMemory>
-    ensures { OnOk result (out.new ≡ with_tokens out.old
-        (task_tokens later.now.first (body_texts later.now.first (map body_term later.now.bodies.now)) (or_task (task_term left.now) (task_term right.now)))) }
+    ensures { OnOk result (out.new ≡ with_tokens out.old (task_tokens later.now.first (later_texts later.now) (or_task (task_term left.now) (task_term right.now)))) }
 {
     write_task(out, CHOICE, later, left)?;
     out.token("<|>")?;
@@ -178,8 +190,7 @@ fn write_or(out: &mut Printer, later: &Later, left: &Task, right: &Task) -> Resu
 
 #[cycle(task)]
 fn write_xor(out: &mut Printer, later: &Later, left: u32, right: u32) -> Result<(), OutOfMemory>
-    ensures { OnOk result (out.new ≡ with_tokens out.old
-        (task_tokens later.now.first (body_texts later.now.first (map body_term later.now.bodies.now)) (xor_task left right))) }
+    ensures { OnOk result (out.new ≡ with_tokens out.old (task_tokens later.now.first (later_texts later.now) (xor_task left right))) }
 {
     write_body(out, CHOICE, later, left)?;
     out.token("<?>")?;
@@ -189,8 +200,7 @@ fn write_xor(out: &mut Printer, later: &Later, left: u32, right: u32) -> Result<
 /// A body's task at a place, or nothing where there is no such body.
 #[cycle(task)]
 fn write_body(out: &mut Printer, place: u8, later: &Later, number: u32) -> Result<(), OutOfMemory>
-    ensures { OnOk result (out.new ≡ with_tokens out.old
-        (body_at place (body_numbered later.now.first (body_texts later.now.first (map body_term later.now.bodies.now)) number))) }
+    ensures { OnOk result (out.new ≡ with_tokens out.old (body_at place (body_numbered later.now.first (later_texts later.now) number))) }
 {
     match later.numbered(number) {
         Some(Numbered { body, later }) => write_task(out, place, &later, &body.task),
@@ -199,9 +209,14 @@ fn write_body(out: &mut Printer, place: u8, later: &Later, number: u32) -> Resul
 }
 
 #[cycle(task)]
-fn write_if(out: &mut Printer, later: &Later, test: &Host, yes: &Task, no: &Task) -> Result<(), OutOfMemory>
-    ensures { OnOk result (out.new ≡ with_tokens out.old
-        (task_tokens later.now.first (body_texts later.now.first (map body_term later.now.bodies.now)) (if_task (host_term test.now) (task_term yes.now) (task_term no.now)))) }
+fn write_if(
+    out: &mut Printer,
+    later: &Later,
+    test: &Host,
+    yes: &Task,
+    no: &Task,
+) -> Result<(), OutOfMemory>
+    ensures { OnOk result (out.new ≡ with_tokens out.old (task_tokens later.now.first (later_texts later.now) (if_task (host_term test.now) (task_term yes.now) (task_term no.now)))) }
 {
     write_test(out, test)?;
     write_task(out, TASK, later, yes)?;
@@ -219,9 +234,8 @@ fn write_case(
     tail: &str,
     more: &Task,
 ) -> Result<(), OutOfMemory>
-    ensures { OnOk result (out.new ≡ with_tokens out.old
-        (task_tokens later.now.first (body_texts later.now.first (map body_term later.now.bodies.now))
-            (case_task (host_term list.now) (task_term empty.now) head.now tail.now (task_term more.now)))) }
+    ensures { OnOk result (out.new ≡ with_tokens out.old (task_tokens later.now.first (later_texts later.now)
+        (case_task (host_term list.now) (task_term empty.now) head.now tail.now (task_term more.now)))) }
 {
     out.token("case")?;
     write_expression(out, EXPRESSION, list)?;
