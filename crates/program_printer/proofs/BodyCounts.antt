@@ -1,8 +1,8 @@
 -- A parse has as many bodies as it says.
-use Rattle.std.proofs.Common.{◌≡◌, ℕ, suc, ◌+◌, List, [], ◌∷◌, ◌++◌, length, refl, sym, ap, ◌∙◌, arith, length-append}
+use Rattle.std.proofs.Common.{◌≡◌, ℕ, suc, ◌+◌, List, [], ◌∷◌, ◌++◌, length, refl, ap, arith, length-append}
 use Rattle.task_model.specs.Text.{Text}
 use Rattle.task_model.specs.Task.{BodyTerm}
-use Rattle.program_grammar.specs.Grammar.{Series, list, choice, chain, either, both, sum, product, internal, external, Form, Parse, more_definitions, task_named, task_let, task_if, task_case, task_new, task_put, task_plain, task_step, task_group, single, joined}
+use Rattle.program_grammar.specs.Grammar.{choice, chain, internal, external, Form, Parse, more_definitions, task_named, task_let, task_if, task_case, task_new, task_put, task_plain, task_step, task_group, single, joined}
 use Rattle.program_grammar.specs.Meaning.{meaning, bodies, bodies_of}
 use Rattle.program_printer.proofs.TaskProductions.{body_of, step_body}
 

@@ -1,10 +1,10 @@
 -- Parameters and definitions, as they are printed from their parts.
-use Rattle.std.proofs.Common.{◌≡◌, ℕ, zero, suc, ◌+◌, ◌≤◌, max, List, [], ◌∷◌, ◌++◌, map, refl, sym, ap, ◌∙◌, subst, arith, append_assoc}
+use Rattle.std.proofs.Common.{◌≡◌, ℕ, ◌+◌, max, List, [], ◌∷◌, ◌++◌, map, refl, sym, ap, ◌∙◌, subst, arith, append_assoc}
 use Rattle.std.specs.Prelude.{codes}
 use Rattle.task_model.specs.Text.{Text}
 use Rattle.task_model.specs.Basic.{BasicTerm}
 use Rattle.task_model.specs.Host.{HostTerm}
-use Rattle.task_model.specs.Task.{TaskTerm, BodyTerm}
+use Rattle.task_model.specs.Task.{BodyTerm}
 use Rattle.task_model.specs.Program.{ParamTerm, plain_kind, ref_kind, DefTerm, DefBodyTerm, fun_body, task_body}
 use Rattle.task_syntax.specs.declared.keyword.Keyword.TheVariants as words
 use Rattle.task_syntax.specs.declared.symbol.Symbol.TheVariants as signs
@@ -18,7 +18,7 @@ use Rattle.program_printer.proofs.Showing.{Shown, looser, leaf_two, pass, betwee
 use Rattle.program_printer.proofs.LongShowing.{front_two, front_three, headed}
 use Rattle.program_printer.proofs.ExpressionPlaces.{Own, at_place}
 use Rattle.program_printer.proofs.ExpressionProductions.{ShownType}
-use Rattle.program_printer.proofs.TaskPlaces.{TaskMeaning, OwnTask, task_in, task_place}
+use Rattle.program_printer.proofs.TaskPlaces.{TaskMeaning, OwnTask, task_place}
 
 -- ---- parameters
 abbrev pub parameter_of : Parse grammar.parameter → ParamTerm

@@ -1,27 +1,18 @@
 -- Expressions as they are printed, with no more levels than they were read with.
-use Rattle.std.proofs.Common.{◌≡◌, ℕ, zero, suc, ◌+◌, ◌-◌, ◌<◌, ◌≤◌, max, Bool, true, false, List, [], ◌∷◌, ◌++◌, map, refl, sym, ap, ◌∙◌, subst, arith, append-nil, append_assoc}
-use Rattle.std.specs.Prelude.{codes, pos, nat_lt, if◌then◌else◌}
-use Rattle.std.specs.Fmt.{decimal}
+use Rattle.std.proofs.Common.{◌≡◌, ℕ, zero, suc, ◌+◌, ◌-◌, ◌≤◌, Bool, true, false, List, [], ◌∷◌, ◌++◌, refl, subst, arith}
+use Rattle.std.specs.Prelude.{codes, nat_lt, if◌then◌else◌}
 use Rattle.std.proofs.lemmas.Bool.Decides.{nat_tests}
 use Rattle.task_model.specs.Text.{Text}
-use Rattle.task_model.specs.Basic.{BasicTerm}
-use Rattle.task_model.specs.Basic as types
-use Rattle.task_model.specs.Value.{text_value}
-use Rattle.task_model.specs.Literal.{value_text}
-use Rattle.task_model.specs.Host.{HostTerm, unit_expr, bool_expr, int_expr, text_expr, name_expr, read_expr, call_expr, pair_expr, list_expr, nil_expr, neg_expr, not_expr, fst_expr, snd_expr, len_expr, op_expr, let_expr, if_expr, case_expr, as_exprs}
+use Rattle.task_model.specs.Host.{HostTerm, unit_expr, bool_expr, int_expr, text_expr, name_expr, read_expr, call_expr, pair_expr, list_expr, nil_expr, neg_expr, not_expr, fst_expr, snd_expr, len_expr, op_expr, let_expr, if_expr, case_expr}
 use Rattle.task_model.specs.declared.host.Op.{Op}
 use Rattle.task_model.specs.declared.host.Op.TheVariants as ops
-use Rattle.task_syntax.specs.declared.keyword.Keyword.TheVariants as words
 use Rattle.task_syntax.specs.declared.symbol.Symbol.TheVariants as signs
-use Rattle.program_grammar.specs.Lexemes.{Lexeme, word, sign, name, number, quote}
+use Rattle.program_grammar.specs.Lexemes.{sign}
 use Rattle.program_grammar.specs.Grammar as grammar
 use Rattle.program_grammar.specs.Grammar.{Form, Parse, tokens, levels}
-use Rattle.program_grammar.specs.Meaning.{meaning, relation_of, prefix_of, scalar_of}
-use Rattle.program_printer.specs.Places.{form_at, term_at}
-use Rattle.program_printer.specs.Printed.{basic_tokens, expression_at, expression_rank, expression_tokens, listed_tokens, operator_rank, placed}
-use Rattle.program_printer.proofs.ListLemmas.{listed_more}
-use Rattle.program_printer.proofs.Placing.{IsSpelled, spelling}
-use Rattle.program_printer.proofs.Showing.{Shown, looser, leaf, leaf_two, pass, front, between, enclose, enclose_two, bound, branched, word_spelled, sign_spelled}
+use Rattle.program_printer.specs.Places.{term_at}
+use Rattle.program_printer.specs.Printed.{expression_at, expression_rank, expression_tokens, operator_rank}
+use Rattle.program_printer.proofs.Showing.{Shown, looser, pass, enclose, sign_spelled}
 
 -- ---- the nonterminals of expressions
 -- each one reaches the productions of the one before it

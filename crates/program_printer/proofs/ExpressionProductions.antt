@@ -1,13 +1,13 @@
 -- Each production of types and expressions, as it is printed from its parts.
-use Rattle.std.proofs.Common.{◌≡◌, ℕ, zero, suc, ◌+◌, ◌<◌, ◌≤◌, max, Bool, true, false, List, [], ◌∷◌, ◌++◌, refl, sym, ap, ◌∙◌, subst, arith}
-use Rattle.std.specs.Prelude.{codes, pos, nat_lt}
+use Rattle.std.proofs.Common.{◌≡◌, ℕ, suc, ◌+◌, max, Bool, true, false, List, [], ◌∷◌, ◌++◌, refl, sym, ap, ◌∙◌, subst, arith}
+use Rattle.std.specs.Prelude.{codes, pos}
 use Rattle.std.specs.Fmt.{decimal}
 use Rattle.task_model.specs.Text.{Text}
-use Rattle.task_model.specs.Token.{number_from, IsText}
+use Rattle.task_model.specs.Token.{number_from}
 use Rattle.task_model.specs.Basic.{BasicTerm}
 use Rattle.task_model.specs.Basic as types
 use Rattle.task_model.specs.Value.{text_value}
-use Rattle.task_model.specs.Literal.{value_text, bool_text}
+use Rattle.task_model.specs.Literal.{value_text}
 use Rattle.task_model.specs.Host.{HostTerm, unit_expr, bool_expr, int_expr, text_expr, name_expr, read_expr, call_expr, pair_expr, list_expr, nil_expr, neg_expr, not_expr, fst_expr, snd_expr, len_expr, op_expr, let_expr, if_expr, case_expr, as_exprs}
 use Rattle.task_model.specs.declared.host.Op.TheVariants as ops
 use Rattle.task_syntax.specs.declared.keyword.Keyword.TheVariants as words
@@ -18,7 +18,7 @@ use Rattle.program_grammar.specs.Grammar as grammar
 use Rattle.program_grammar.specs.Grammar.{Parse, tokens, levels}
 use Rattle.program_grammar.specs.Meaning.{meaning, relation_of, prefix_of, scalar_of}
 use Rattle.program_printer.specs.Places.{term_at}
-use Rattle.program_printer.specs.Printed.{basic_tokens, expression_at, expression_tokens, listed_tokens}
+use Rattle.program_printer.specs.Printed.{basic_tokens, expression_at, listed_tokens}
 use Rattle.program_printer.proofs.ListLemmas.{listed_more}
 use Rattle.program_printer.proofs.Placing.{IsSpelled}
 use Rattle.program_printer.proofs.Showing.{Shown, looser, leaf, leaf_two, pass, front, between, enclose, enclose_two, bound, branched, word_spelled, sign_spelled}

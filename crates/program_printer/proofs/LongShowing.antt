@@ -1,12 +1,12 @@
 -- Longer productions: parses that stand at given tokens, from those of their parts.
-use Rattle.std.proofs.Common.{◌≡◌, ℕ, suc, ◌+◌, ◌≤◌, max, List, [], ◌∷◌, ◌++◌, refl, ap, ◌∙◌, arith}
+use Rattle.std.proofs.Common.{◌≡◌, ℕ, suc, max, List, ◌∷◌, ◌++◌, ap, ◌∙◌, arith}
 use Rattle.task_model.specs.Text.{Text}
 use Rattle.task_syntax.specs.declared.keyword.Keyword.TheVariants as words
 use Rattle.task_syntax.specs.declared.symbol.Symbol.TheVariants as signs
 use Rattle.program_grammar.specs.Lexemes.{Lexeme, word, sign, name}
 use Rattle.program_grammar.specs.Grammar.{Form, Parse, tokens, levels}
-use Rattle.program_printer.proofs.Placing.{put, spelling, IsSpelled, behind, behind_all, placed_from, joined_placed}
-use Rattle.program_printer.proofs.Showing.{Shown, Written, before, joined, word_before, sign_before}
+use Rattle.program_printer.proofs.Placing.{put, spelling, IsSpelled, behind, behind_all, joined_placed}
+use Rattle.program_printer.proofs.Showing.{Shown, before, joined, word_before, sign_before}
 
 -- two tokens and a part
 pub front_two :

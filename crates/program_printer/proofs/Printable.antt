@@ -1,17 +1,17 @@
 -- What was read can be printed: each production of tasks, for what its parts stand for where their bodies have their numbers.
-use Rattle.std.proofs.Common.{◌≡◌, ℕ, zero, suc, ◌+◌, ◌≤◌, max, List, [], ◌∷◌, ◌++◌, length, refl, sym, ap, ◌∙◌, subst, arith}
+use Rattle.std.proofs.Common.{◌≡◌, ℕ, suc, ◌+◌, List, [], ◌∷◌, ◌++◌, ap, subst, arith}
 use Rattle.task_model.specs.Text.{Text}
-use Rattle.task_model.specs.Task.{TaskTerm, BodyTerm}
+use Rattle.task_model.specs.Task.{BodyTerm}
 use Rattle.program_grammar.specs.Lexemes.{name}
 use Rattle.program_grammar.specs.Grammar as grammar
 use Rattle.program_grammar.specs.Grammar.{Parse, tokens, levels}
-use Rattle.program_grammar.specs.Meaning.{meaning, bodies, bodies_of}
+use Rattle.program_grammar.specs.Meaning.{meaning, bodies}
 use Rattle.program_printer.specs.Places.{task_form}
 use Rattle.program_printer.specs.Printed.{BodyText, body_numbered, body_text, body_texts}
 use Rattle.program_printer.proofs.Placing.{IsSpelled}
 use Rattle.program_printer.proofs.ExpressionPlaces.{Own}
 use Rattle.program_printer.proofs.BodyCounts.{bodies-count}
-use Rattle.program_printer.proofs.TaskPlaces.{Agrees, agrees_left, agrees_right, agrees_head, agrees_self, TaskMeaning, task_in, OwnTask, wider_task}
+use Rattle.program_printer.proofs.TaskPlaces.{Agrees, agrees_left, agrees_right, agrees_head, agrees_self, task_in, OwnTask}
 use Rattle.program_printer.proofs.TaskProductions.{own_together, own_internal, own_external, own_step, own_task_let, own_task_new, own_put, own_task_if, own_task_case, body_of, step_body}
 
 -- a parse at a place can be printed there, whatever is in scope, if the bodies that are written from its first number on begin with its own

@@ -1,11 +1,11 @@
 -- Programs line by line: a definition's tokens with spaces between them and a line feed behind the last.
-use Rattle.std.proofs.Common.{◌≡◌, ℕ, zero, suc, ◌+◌, ◌≤◌, max, Bool, true, false, List, [], ◌∷◌, ◌++◌, map, refl, sym, ap, ◌∙◌, subst, arith, append_assoc, append-nil, zero-add}
+use Rattle.std.proofs.Common.{◌≡◌, ℕ, ◌+◌, max, true, false, List, [], ◌∷◌, ◌++◌, refl, sym, ap, ◌∙◌, subst, arith, append_assoc, append-nil, zero-add}
 use Rattle.std.specs.Prelude.{codes}
 use Rattle.std.proofs.lemmas.List.{map-append}
 use Rattle.task_model.specs.Text.{Text}
 use Rattle.task_model.specs.Task.{BodyTerm}
 use Rattle.task_model.specs.Program.{DefTerm}
-use Rattle.task_model.specs.Token.{Piece, piece_bytes, bytes_of}
+use Rattle.task_model.specs.Token.{bytes_of}
 use Rattle.program_grammar.specs.Lexemes.{Lexeme}
 use Rattle.program_grammar.specs.Grammar as grammar
 use Rattle.program_grammar.specs.Grammar.{Parse, tokens, levels}

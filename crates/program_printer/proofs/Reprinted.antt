@@ -1,5 +1,5 @@
 -- What was read was written: each parse can be printed, within its levels.
-use Rattle.std.proofs.Common.{◌≡◌, ℕ, zero, suc, ◌+◌, ◌≤◌, max, List, [], ◌∷◌, ◌++◌, length, refl, sym, ap, ◌∙◌, subst, arith, append-nil, zero-add, one-add}
+use Rattle.std.proofs.Common.{◌≡◌, ℕ, suc, ◌+◌, max, List, [], ◌∷◌, ◌++◌, length, refl, sym, ap, ◌∙◌, subst, arith, append-nil, zero-add, one-add}
 use Rattle.task_model.specs.Text.{Text}
 use Rattle.task_model.specs.Host.{HostTerm}
 use Rattle.task_model.specs.Task.{BodyTerm}
@@ -8,11 +8,10 @@ use Rattle.task_model.specs.Token.{TokenTerm, Spells, IsWithinLimits, Piece, bla
 use Rattle.task_model.specs.Token as model
 use Rattle.task_syntax.specs.declared.keyword.Keyword.TheVariants as words
 use Rattle.task_syntax.specs.declared.symbol.Symbol.TheVariants as signs
-use Rattle.program_grammar.specs.Lexemes.{Lexeme, word, sign, name, number, quote, token_term, token_terms}
+use Rattle.program_grammar.specs.Lexemes.{Lexeme, word, sign, name, number, token_terms}
 use Rattle.program_grammar.specs.Grammar as grammar
 use Rattle.program_grammar.specs.Grammar.{Form, Parse, tokens, levels, operator, relation, prefix, step, scalar, truth}
-use Rattle.program_grammar.specs.Meaning.{meaning, bodies, bodies_of, program_of}
-use Rattle.program_grammar.specs.Nodes as nodes
+use Rattle.program_grammar.specs.Meaning.{meaning, bodies, bodies_of}
 use Rattle.program_grammar.specs.ProgramText.{HasReading}
 use Rattle.program_printer.specs.Printed.{BodyText, body_numbered, body_texts, definition_tokens, program_text}
 use Rattle.program_printer.specs.Written.{IsWritten}
@@ -22,9 +21,9 @@ use Rattle.program_printer.proofs.Showing.{Shown}
 use Rattle.program_printer.proofs.SpelledLiterals.{number_again, text_again}
 use Rattle.program_printer.proofs.ExpressionPlaces.{Own, wider, own_group}
 use Rattle.program_printer.proofs.ExpressionProductions.{ShownType, ShownList, ShownArguments, scalar_shown, pair_type_shown, list_type_shown, one_shown, more_shown, no_arguments, some_arguments, own_number, own_text, own_bool, own_unit, own_name, own_read, own_call, own_pair, own_list, own_nil, own_prefixed, own_times, own_quot, own_rem, own_plus, own_minus, own_join, own_cons, own_compared, own_and, own_or, own_let, own_if, own_case}
-use Rattle.program_printer.proofs.TaskPlaces.{Agrees, agrees_left, agrees_right, task_in, OwnTask, wider_task, task_grouped}
+use Rattle.program_printer.proofs.TaskPlaces.{Agrees, agrees_left, agrees_right, task_in, wider_task, task_grouped}
 use Rattle.program_printer.proofs.TaskProductions.{own_edit, own_enter, own_fail, own_share, own_task_call}
-use Rattle.program_printer.proofs.DefinitionProductions.{ShownParameter, ShownParameters, ShownEnclosed, value_shown, reference_shown, one_parameter, more_parameters, no_parameters, some_parameters, DefinitionMeaning, definition_in, names_of, function_shown, task_shown}
+use Rattle.program_printer.proofs.DefinitionProductions.{ShownParameter, ShownParameters, ShownEnclosed, value_shown, reference_shown, one_parameter, more_parameters, no_parameters, some_parameters, definition_in, names_of, function_shown, task_shown}
 use Rattle.program_printer.proofs.BodyCounts.{bodies-count}
 use Rattle.program_printer.proofs.Printable.{PrintableTask, print_together, print_internal, print_external, print_step, print_let, print_new, print_put, print_if, print_case}
 use Rattle.program_printer.proofs.ProgramLines.{ProgramMeaning, ShownProgram, program_in, no_definitions_shown, more_definitions_shown}

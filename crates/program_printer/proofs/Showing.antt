@@ -1,11 +1,11 @@
 -- Parses that stand at given tokens, from those of their parts.
-use Rattle.std.proofs.Common.{◌≡◌, ℕ, suc, ◌+◌, ◌≤◌, max, List, [], ◌∷◌, ◌++◌, map, refl, sym, ap, ◌∙◌, arith}
+use Rattle.std.proofs.Common.{◌≡◌, ℕ, suc, ◌+◌, ◌≤◌, max, List, [], ◌∷◌, ◌++◌, refl, ap, ◌∙◌, arith}
 use Rattle.std.proofs.lemmas.List.{map-append}
 use Rattle.task_model.specs.Text.{Text}
 use Rattle.task_syntax.specs.declared.keyword.Keyword.{Keyword}
 use Rattle.task_syntax.specs.declared.symbol.Symbol.{Symbol}
 use Rattle.task_syntax.proofs.Words.{is_keyword-spelling, is_symbol-spelling}
-use Rattle.program_grammar.specs.Lexemes.{Lexeme, word, sign, name, number, quote}
+use Rattle.program_grammar.specs.Lexemes.{Lexeme, word, sign}
 use Rattle.program_grammar.specs.Grammar.{Form, Parse, tokens, levels}
 use Rattle.program_printer.proofs.Placing.{put, spelling, spellings, IsSpelled, AreSpelled, spelled_append, behind, behind_all, placed_from, joined_placed}
 

@@ -1,5 +1,5 @@
 -- Each production of tasks, as it is printed from its parts.
-use Rattle.std.proofs.Common.{◌≡◌, ℕ, zero, suc, ◌+◌, ◌≤◌, max, Some, None, List, [], ◌∷◌, ◌++◌, refl, sym, ap, ◌∙◌, subst, arith}
+use Rattle.std.proofs.Common.{◌≡◌, ℕ, suc, ◌+◌, max, Some, None, List, [], ◌∷◌, ◌++◌, refl, sym, ap, ◌∙◌, subst, arith}
 use Rattle.std.specs.Prelude.{codes}
 use Rattle.task_model.specs.Text.{Text}
 use Rattle.task_model.specs.Basic.{BasicTerm}
@@ -11,9 +11,9 @@ use Rattle.program_grammar.specs.Lexemes.{word, sign, name}
 use Rattle.program_grammar.specs.Grammar as grammar
 use Rattle.program_grammar.specs.Grammar.{Parse, tokens, levels}
 use Rattle.program_grammar.specs.Meaning.{meaning, bodies, bodies_of, step_of}
-use Rattle.program_printer.specs.Printed.{BodyText, body_numbered, body_text, body_at, step_tokens, task_tokens, task_at}
+use Rattle.program_printer.specs.Printed.{BodyText, body_numbered, body_text, body_at, step_tokens, task_at}
 use Rattle.program_printer.proofs.Placing.{IsSpelled}
-use Rattle.program_printer.proofs.Showing.{Shown, looser, leaf_two, front, between, bound, branched, word_spelled, sign_spelled}
+use Rattle.program_printer.proofs.Showing.{Shown, leaf_two, front, between, bound, branched, word_spelled, sign_spelled}
 use Rattle.program_printer.proofs.LongShowing.{changed, stepped, matched}
 use Rattle.program_printer.proofs.ExpressionPlaces.{Own, at_place}
 use Rattle.program_printer.proofs.ExpressionProductions.{ShownType, ShownArguments}

@@ -1,6 +1,6 @@
 -- Tokens that are written with a space or a line feed behind each are the tokens of that text.
-use Rattle.std.proofs.Common.{◌≡◌, ◌≢◌, ℕ, ◌+◌, ◌<◌, ◌≤◌, Bool, true, false, List, [], ◌∷◌, ◌++◌, length, map, refl, sym, ap, ◌∙◌, subst, arith, append_assoc, inl, inr}
-use Rattle.std.specs.Prelude.{encode_utf8, codes, ◌||◌, ◌&&◌, ◌==◌, nat_lt}
+use Rattle.std.proofs.Common.{◌≡◌, ℕ, ◌<◌, ◌≤◌, Bool, true, false, List, [], ◌∷◌, ◌++◌, length, map, refl, sym, ap, ◌∙◌, subst, arith, inl, inr}
+use Rattle.std.specs.Prelude.{◌||◌, ◌&&◌, ◌==◌, nat_lt}
 use Rattle.std.specs.List.{list_any, list_all}
 use Rattle.std.specs.Char.{is_ascii_digit}
 use Rattle.std.specs.Str.{IsUtf8}
@@ -11,13 +11,12 @@ use Rattle.unicode_ident.specs.Ident.{is_xid_continue}
 use Rattle.unicode_ident.proofs.IdentLemmas.{is_xid_continue-ascii}
 use Rattle.literal_text.proofs.CharacterLemmas.{only_scalar}
 use Rattle.task_model.specs.Text.{Text}
-use Rattle.task_model.specs.Token.{TokenKindTerm, name_token, keyword_token, number_token, text_token, symbol_token, TokenTerm, IsWord, Spells, IsWithinLimits, IsLongest, IsBlank, Piece, blank, lexeme, bytes_of, AreRight, tokens_from, HasTokens, TextPart, raw, letter, hex, PartIs, PartsAre, spelled, part_spelling, AreDigits, IsHex, Escapes, quote, backslash, line_feed, tab, carriage_return, symbols}
+use Rattle.task_model.specs.Token.{IsWord, IsLongest, IsBlank, Piece, blank, lexeme, bytes_of, AreRight, tokens_from, HasTokens, TextPart, raw, letter, hex, PartIs, PartsAre, spelled, part_spelling, AreDigits, IsHex, Escapes, quote, backslash, line_feed, tab, carriage_return, symbols}
 use Rattle.task_syntax.specs.declared.symbol.Symbol.{Symbol}
 use Rattle.task_syntax.specs.declared.symbol.Symbol.TheVariants as signs
 use Rattle.task_syntax.specs.Spelling.{symbol_spelling}
-use Rattle.task_syntax.specs.Runs.{Begins}
 use Rattle.task_syntax.proofs.Bytes.{begins_byte}
-use Rattle.task_syntax.proofs.Words.{keyword_word, symbol_of, any_same}
+use Rattle.task_syntax.proofs.Words.{keyword_word, any_same}
 use Rattle.task_syntax.proofs.Longest.{word_longest, digits_longest, text_longest, symbol_longest}
 use Rattle.program_grammar.specs.Lexemes.{Lexeme, word, sign, name, number, token_term, token_terms}
 use Rattle.program_grammar.specs.Lexemes as lexemes
