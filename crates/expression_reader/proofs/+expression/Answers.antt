@@ -26,59 +26,59 @@ use Rattle.expression_reader.proofs.+expression.Goals as goal
 
 -- ---- expression
 
-pub expression-returns-then-room-lt2 : goal.expression-returns-then-room-lt2
-expression-returns-then-room-lt2 t c =
+pub expressions::expression-returns-then-room-lt2 : goal.expressions::expression-returns-then-room-lt2
+expressions::expression-returns-then-room-lt2 t c =
     rw c.too_nested.ensures (record { by = counted _ (too_deep (rules.let_rule _) c.in-Some.ensures (omega arith)) })
 
-pub expression-returns-in-Some : goal.expression-returns-in-Some
-expression-returns-in-Some t c =
+pub expressions::expression-returns-in-Some : goal.expressions::expression-returns-in-Some
+expressions::expression-returns-in-Some t c =
     at_reading c.in-Some.ensures c.bound.ensures
 
-pub expression-returns-then-room-lt2-2 : goal.expression-returns-then-room-lt2-2
-expression-returns-then-room-lt2-2 t c =
+pub expressions::expression-returns-then-room-lt2-2 : goal.expressions::expression-returns-then-room-lt2-2
+expressions::expression-returns-then-room-lt2-2 t c =
     rw c.too_nested-then-room-lt2-2.ensures (record { by = counted _ (too_deep (rules.if_rule _) c.in-Some-strip_word.ensures (omega arith)) })
 
-pub expression-returns-in-Some-strip_word : goal.expression-returns-in-Some-strip_word
-expression-returns-in-Some-strip_word t c =
+pub expressions::expression-returns-in-Some-strip_word : goal.expressions::expression-returns-in-Some-strip_word
+expressions::expression-returns-in-Some-strip_word t c =
     at_reading c.in-Some-strip_word.ensures c.tested.ensures
 
-pub expression-returns-then-room-lt2-3 : goal.expression-returns-then-room-lt2-3
-expression-returns-then-room-lt2-3 t c =
+pub expressions::expression-returns-then-room-lt2-3 : goal.expressions::expression-returns-then-room-lt2-3
+expressions::expression-returns-then-room-lt2-3 t c =
     rw c.too_nested-then-room-lt2-3.ensures (record { by = counted _ (too_deep (rules.case_rule _) c.in-Some-strip_word-2.ensures (omega arith)) })
 
-pub expression-returns-in-Some-strip_word-2 : goal.expression-returns-in-Some-strip_word-2
-expression-returns-in-Some-strip_word-2 t c =
+pub expressions::expression-returns-in-Some-strip_word-2 : goal.expressions::expression-returns-in-Some-strip_word-2
+expressions::expression-returns-in-Some-strip_word-2 t c =
     at_reading c.in-Some-strip_word-2.ensures c.cased.ensures
 
-pub expression-returns : goal.expression-returns
-expression-returns t c =
+pub expressions::expression-returns : goal.expressions::expression-returns
+expressions::expression-returns t c =
     passed (as_series _ c.in_default.ensures c.in_default-strip_word.ensures c.in_default-strip_word-2.ensures) shown shown (λ d. refl) _ c.operators.ensures
 
 -- ---- bound
 
-pub bound-returns-in_err-name : goal.bound-returns-in_err-name
-bound-returns-in_err-name t c =
+pub expressions::bound-returns-in_err-name : goal.expressions::bound-returns-in_err-name
+expressions::bound-returns-in_err-name t c =
     let p = err_from_is_err_and c.from_residual.result c.from_residual.ensures.1 in
     let le : 2 ≤ c.args.room = c.requires in
     let up : 1 + (c.args.room - 1) ≡ c.args.room = omega (arith, le) in
     rw (p.1, p.2) (record { by = by_rule (rules.let_rule c.args.place) refl le (seq_one_stop grammar 1 (omega (arith, le)) c.in_err-name.ensures) })
 
-pub bound-returns-in_err-rest : goal.bound-returns-in_err-rest
-bound-returns-in_err-rest t c =
+pub expressions::bound-returns-in_err-rest : goal.expressions::bound-returns-in_err-rest
+expressions::bound-returns-in_err-rest t c =
     let p = err_from_is_err_and c.from_residual-in_err-rest.result c.from_residual-in_err-rest.ensures.1 in
     let le : 2 ≤ c.args.room = c.requires in
     let up : 1 + (c.args.room - 1) ≡ c.args.room = omega (arith, le) in
     rw (p.1, p.2) (record { by = by_rule (rules.let_rule c.args.place) refl le (seq_one grammar 1 (omega (arith, le)) c.in_ok-name.ensures (seq_one_stop grammar 1 (omega (arith, le)) c.in_err-rest.ensures)) })
 
-pub bound-returns-in_err-value : goal.bound-returns-in_err-value
-bound-returns-in_err-value t c =
+pub expressions::bound-returns-in_err-value : goal.expressions::bound-returns-in_err-value
+expressions::bound-returns-in_err-value t c =
     let p = err_from_is_err_and c.from_residual-in_err-value.result c.from_residual-in_err-value.ensures.1 in
     let le : 2 ≤ c.args.room = c.requires in
     let up : 1 + (c.args.room - 1) ≡ c.args.room = omega (arith, le) in
     rw (p.1, p.2) (record { by = by_rule (rules.let_rule c.args.place) refl le (seq_one grammar 1 (omega (arith, le)) c.in_ok-name.ensures (seq_one grammar 1 (omega (arith, le)) c.in_ok-rest.ensures (seq_part_stop grammar 1 (λ p z. refl) (omega (arith, le)) up c.in_err-value.ensures.by))) })
 
-pub bound-returns-in_err-rest-2 : goal.bound-returns-in_err-rest-2
-bound-returns-in_err-rest-2 t c =
+pub expressions::bound-returns-in_err-rest-2 : goal.expressions::bound-returns-in_err-rest-2
+expressions::bound-returns-in_err-rest-2 t c =
     let p = err_from_is_err_and c.from_residual-in_err-rest-2.result c.from_residual-in_err-rest-2.ensures.1 in
     let le : 2 ≤ c.args.room = c.requires in
     let up : 1 + (c.args.room - 1) ≡ c.args.room = omega (arith, le) in
@@ -86,8 +86,8 @@ bound-returns-in_err-rest-2 t c =
     let fits1 = f1.by.fits in
     rw (p.1, p.2) (record { by = by_rule (rules.let_rule c.args.place) refl le (seq_one grammar 1 (omega (arith, le)) c.in_ok-name.ensures (seq_one grammar 1 (omega (arith, le)) c.in_ok-rest.ensures (seq_part grammar 1 (λ p z. refl) (omega (arith, le)) up f1 (seq_one_stop grammar 1 (omega (arith, le, fits1)) c.in_err-rest-2.ensures)))) })
 
-pub bound-returns-in_err-body : goal.bound-returns-in_err-body
-bound-returns-in_err-body t c =
+pub expressions::bound-returns-in_err-body : goal.expressions::bound-returns-in_err-body
+expressions::bound-returns-in_err-body t c =
     let p = err_from_is_err_and c.from_residual-in_err-body.result c.from_residual-in_err-body.ensures.1 in
     let le : 2 ≤ c.args.room = c.requires in
     let up : 1 + (c.args.room - 1) ≡ c.args.room = omega (arith, le) in
@@ -95,8 +95,8 @@ bound-returns-in_err-body t c =
     let fits1 = f1.by.fits in
     rw (p.1, p.2) (record { by = by_rule (rules.let_rule c.args.place) refl le (seq_one grammar 1 (omega (arith, le)) c.in_ok-name.ensures (seq_one grammar 1 (omega (arith, le)) c.in_ok-rest.ensures (seq_part grammar 1 (λ p z. refl) (omega (arith, le)) up f1 (seq_one grammar 1 (omega (arith, le, fits1)) c.in_ok-rest-2.ensures (seq_part_stop grammar 1 (λ z h. h) (omega (arith, le, fits1)) up c.in_err-body.ensures.by))))) })
 
-pub bound-returns : goal.bound-returns
-bound-returns t c =
+pub expressions::bound-returns : goal.expressions::bound-returns
+expressions::bound-returns t c =
     let le : 2 ≤ c.args.room = c.requires in
     let up : 1 + (c.args.room - 1) ≡ c.args.room = omega (arith, le) in
     let (x1, s1, f1) = c.in_ok-value.ensures.by in
@@ -107,15 +107,15 @@ bound-returns t c =
 
 -- ---- tested
 
-pub tested-returns-in_err-test : goal.tested-returns-in_err-test
-tested-returns-in_err-test t c =
+pub expressions::tested-returns-in_err-test : goal.expressions::tested-returns-in_err-test
+expressions::tested-returns-in_err-test t c =
     let p = err_from_is_err_and c.from_residual.result c.from_residual.ensures.1 in
     let le : 2 ≤ c.args.room = c.requires in
     let up : 1 + (c.args.room - 1) ≡ c.args.room = omega (arith, le) in
     rw (p.1, p.2) (record { by = by_rule (rules.if_rule c.args.place) refl le (seq_part_stop grammar 1 (λ p z. refl) (omega (arith, le)) up c.in_err-test.ensures.by) })
 
-pub tested-returns-in_err-rest : goal.tested-returns-in_err-rest
-tested-returns-in_err-rest t c =
+pub expressions::tested-returns-in_err-rest : goal.expressions::tested-returns-in_err-rest
+expressions::tested-returns-in_err-rest t c =
     let p = err_from_is_err_and c.from_residual-in_err-rest.result c.from_residual-in_err-rest.ensures.1 in
     let le : 2 ≤ c.args.room = c.requires in
     let up : 1 + (c.args.room - 1) ≡ c.args.room = omega (arith, le) in
@@ -123,8 +123,8 @@ tested-returns-in_err-rest t c =
     let fits1 = f1.by.fits in
     rw (p.1, p.2) (record { by = by_rule (rules.if_rule c.args.place) refl le (seq_part grammar 1 (λ p z. refl) (omega (arith, le)) up f1 (seq_one_stop grammar 1 (omega (arith, le, fits1)) c.in_err-rest.ensures)) })
 
-pub tested-returns-in_err-yes : goal.tested-returns-in_err-yes
-tested-returns-in_err-yes t c =
+pub expressions::tested-returns-in_err-yes : goal.expressions::tested-returns-in_err-yes
+expressions::tested-returns-in_err-yes t c =
     let p = err_from_is_err_and c.from_residual-in_err-yes.result c.from_residual-in_err-yes.ensures.1 in
     let le : 2 ≤ c.args.room = c.requires in
     let up : 1 + (c.args.room - 1) ≡ c.args.room = omega (arith, le) in
@@ -132,8 +132,8 @@ tested-returns-in_err-yes t c =
     let fits1 = f1.by.fits in
     rw (p.1, p.2) (record { by = by_rule (rules.if_rule c.args.place) refl le (seq_part grammar 1 (λ p z. refl) (omega (arith, le)) up f1 (seq_one grammar 1 (omega (arith, le, fits1)) c.in_ok-rest.ensures (seq_part_stop grammar 1 (λ p z. refl) (omega (arith, le, fits1)) up c.in_err-yes.ensures.by))) })
 
-pub tested-returns-in_err-rest-2 : goal.tested-returns-in_err-rest-2
-tested-returns-in_err-rest-2 t c =
+pub expressions::tested-returns-in_err-rest-2 : goal.expressions::tested-returns-in_err-rest-2
+expressions::tested-returns-in_err-rest-2 t c =
     let p = err_from_is_err_and c.from_residual-in_err-rest-2.result c.from_residual-in_err-rest-2.ensures.1 in
     let le : 2 ≤ c.args.room = c.requires in
     let up : 1 + (c.args.room - 1) ≡ c.args.room = omega (arith, le) in
@@ -143,8 +143,8 @@ tested-returns-in_err-rest-2 t c =
     let fits2 = f2.by.fits in
     rw (p.1, p.2) (record { by = by_rule (rules.if_rule c.args.place) refl le (seq_part grammar 1 (λ p z. refl) (omega (arith, le)) up f1 (seq_one grammar 1 (omega (arith, le, fits1)) c.in_ok-rest.ensures (seq_part grammar 1 (λ p z. refl) (omega (arith, le, fits1)) up f2 (seq_one_stop grammar 1 (omega (arith, le, fits1, fits2)) c.in_err-rest-2.ensures)))) })
 
-pub tested-returns-in_err-no : goal.tested-returns-in_err-no
-tested-returns-in_err-no t c =
+pub expressions::tested-returns-in_err-no : goal.expressions::tested-returns-in_err-no
+expressions::tested-returns-in_err-no t c =
     let p = err_from_is_err_and c.from_residual-in_err-no.result c.from_residual-in_err-no.ensures.1 in
     let le : 2 ≤ c.args.room = c.requires in
     let up : 1 + (c.args.room - 1) ≡ c.args.room = omega (arith, le) in
@@ -154,8 +154,8 @@ tested-returns-in_err-no t c =
     let fits2 = f2.by.fits in
     rw (p.1, p.2) (record { by = by_rule (rules.if_rule c.args.place) refl le (seq_part grammar 1 (λ p z. refl) (omega (arith, le)) up f1 (seq_one grammar 1 (omega (arith, le, fits1)) c.in_ok-rest.ensures (seq_part grammar 1 (λ p z. refl) (omega (arith, le, fits1)) up f2 (seq_one grammar 1 (omega (arith, le, fits1, fits2)) c.in_ok-rest-2.ensures (seq_part_stop grammar 1 (λ z h. h) (omega (arith, le, fits1, fits2)) up c.in_err-no.ensures.by))))) })
 
-pub tested-returns : goal.tested-returns
-tested-returns t c =
+pub expressions::tested-returns : goal.expressions::tested-returns
+expressions::tested-returns t c =
     let le : 2 ≤ c.args.room = c.requires in
     let up : 1 + (c.args.room - 1) ≡ c.args.room = omega (arith, le) in
     let (x1, s1, f1) = c.in_ok-test.ensures.by in
@@ -168,15 +168,15 @@ tested-returns t c =
 
 -- ---- cased
 
-pub cased-returns-in_err-list : goal.cased-returns-in_err-list
-cased-returns-in_err-list t c =
+pub expressions::cased-returns-in_err-list : goal.expressions::cased-returns-in_err-list
+expressions::cased-returns-in_err-list t c =
     let p = err_from_is_err_and c.from_residual.result c.from_residual.ensures.1 in
     let le : 2 ≤ c.args.room = c.requires in
     let up : 1 + (c.args.room - 1) ≡ c.args.room = omega (arith, le) in
     rw (p.1, p.2) (record { by = by_rule (rules.case_rule c.args.place) refl le (seq_part_stop grammar 1 (λ p z. refl) (omega (arith, le)) up c.in_err-list.ensures.by) })
 
-pub cased-returns-in_err-rest : goal.cased-returns-in_err-rest
-cased-returns-in_err-rest t c =
+pub expressions::cased-returns-in_err-rest : goal.expressions::cased-returns-in_err-rest
+expressions::cased-returns-in_err-rest t c =
     let p = err_from_is_err_and c.from_residual-in_err-rest.result c.from_residual-in_err-rest.ensures.1 in
     let le : 2 ≤ c.args.room = c.requires in
     let up : 1 + (c.args.room - 1) ≡ c.args.room = omega (arith, le) in
@@ -184,8 +184,8 @@ cased-returns-in_err-rest t c =
     let fits1 = f1.by.fits in
     rw (p.1, p.2) (record { by = by_rule (rules.case_rule c.args.place) refl le (seq_part grammar 1 (λ p z. refl) (omega (arith, le)) up f1 (seq_one_stop grammar 1 (omega (arith, le, fits1)) c.in_err-rest.ensures)) })
 
-pub cased-returns-in_err-rest-2 : goal.cased-returns-in_err-rest-2
-cased-returns-in_err-rest-2 t c =
+pub expressions::cased-returns-in_err-rest-2 : goal.expressions::cased-returns-in_err-rest-2
+expressions::cased-returns-in_err-rest-2 t c =
     let p = err_from_is_err_and c.from_residual-in_err-rest-2.result c.from_residual-in_err-rest-2.ensures.1 in
     let le : 2 ≤ c.args.room = c.requires in
     let up : 1 + (c.args.room - 1) ≡ c.args.room = omega (arith, le) in
@@ -193,8 +193,8 @@ cased-returns-in_err-rest-2 t c =
     let fits1 = f1.by.fits in
     rw (p.1, p.2) (record { by = by_rule (rules.case_rule c.args.place) refl le (seq_part grammar 1 (λ p z. refl) (omega (arith, le)) up f1 (seq_one grammar 1 (omega (arith, le, fits1)) c.in_ok-rest.ensures (seq_one_stop grammar 1 (omega (arith, le, fits1)) c.in_err-rest-2.ensures))) })
 
-pub cased-returns-in_err-rest-3 : goal.cased-returns-in_err-rest-3
-cased-returns-in_err-rest-3 t c =
+pub expressions::cased-returns-in_err-rest-3 : goal.expressions::cased-returns-in_err-rest-3
+expressions::cased-returns-in_err-rest-3 t c =
     let p = err_from_is_err_and c.from_residual-in_err-rest-3.result c.from_residual-in_err-rest-3.ensures.1 in
     let le : 2 ≤ c.args.room = c.requires in
     let up : 1 + (c.args.room - 1) ≡ c.args.room = omega (arith, le) in
@@ -202,8 +202,8 @@ cased-returns-in_err-rest-3 t c =
     let fits1 = f1.by.fits in
     rw (p.1, p.2) (record { by = by_rule (rules.case_rule c.args.place) refl le (seq_part grammar 1 (λ p z. refl) (omega (arith, le)) up f1 (seq_one grammar 1 (omega (arith, le, fits1)) c.in_ok-rest.ensures (seq_one grammar 1 (omega (arith, le, fits1)) c.in_ok-rest-2.ensures (seq_one_stop grammar 1 (omega (arith, le, fits1)) c.in_err-rest-3.ensures)))) })
 
-pub cased-returns-in_err-rest-4 : goal.cased-returns-in_err-rest-4
-cased-returns-in_err-rest-4 t c =
+pub expressions::cased-returns-in_err-rest-4 : goal.expressions::cased-returns-in_err-rest-4
+expressions::cased-returns-in_err-rest-4 t c =
     let p = err_from_is_err_and c.from_residual-in_err-rest-4.result c.from_residual-in_err-rest-4.ensures.1 in
     let le : 2 ≤ c.args.room = c.requires in
     let up : 1 + (c.args.room - 1) ≡ c.args.room = omega (arith, le) in
@@ -211,8 +211,8 @@ cased-returns-in_err-rest-4 t c =
     let fits1 = f1.by.fits in
     rw (p.1, p.2) (record { by = by_rule (rules.case_rule c.args.place) refl le (seq_part grammar 1 (λ p z. refl) (omega (arith, le)) up f1 (seq_one grammar 1 (omega (arith, le, fits1)) c.in_ok-rest.ensures (seq_one grammar 1 (omega (arith, le, fits1)) c.in_ok-rest-2.ensures (seq_one grammar 1 (omega (arith, le, fits1)) c.in_ok-rest-3.ensures (seq_one_stop grammar 1 (omega (arith, le, fits1)) c.in_err-rest-4.ensures))))) })
 
-pub cased-returns-in_err-empty : goal.cased-returns-in_err-empty
-cased-returns-in_err-empty t c =
+pub expressions::cased-returns-in_err-empty : goal.expressions::cased-returns-in_err-empty
+expressions::cased-returns-in_err-empty t c =
     let p = err_from_is_err_and c.from_residual-in_err-empty.result c.from_residual-in_err-empty.ensures.1 in
     let le : 2 ≤ c.args.room = c.requires in
     let up : 1 + (c.args.room - 1) ≡ c.args.room = omega (arith, le) in
@@ -220,8 +220,8 @@ cased-returns-in_err-empty t c =
     let fits1 = f1.by.fits in
     rw (p.1, p.2) (record { by = by_rule (rules.case_rule c.args.place) refl le (seq_part grammar 1 (λ p z. refl) (omega (arith, le)) up f1 (seq_one grammar 1 (omega (arith, le, fits1)) c.in_ok-rest.ensures (seq_one grammar 1 (omega (arith, le, fits1)) c.in_ok-rest-2.ensures (seq_one grammar 1 (omega (arith, le, fits1)) c.in_ok-rest-3.ensures (seq_one grammar 1 (omega (arith, le, fits1)) c.in_ok-rest-4.ensures (seq_part_stop grammar 1 (λ p z. refl) (omega (arith, le, fits1)) up c.in_err-empty.ensures.by)))))) })
 
-pub cased-returns-in_err-rest-5 : goal.cased-returns-in_err-rest-5
-cased-returns-in_err-rest-5 t c =
+pub expressions::cased-returns-in_err-rest-5 : goal.expressions::cased-returns-in_err-rest-5
+expressions::cased-returns-in_err-rest-5 t c =
     let p = err_from_is_err_and c.from_residual-in_err-rest-5.result c.from_residual-in_err-rest-5.ensures.1 in
     let le : 2 ≤ c.args.room = c.requires in
     let up : 1 + (c.args.room - 1) ≡ c.args.room = omega (arith, le) in
@@ -231,8 +231,8 @@ cased-returns-in_err-rest-5 t c =
     let fits2 = f2.by.fits in
     rw (p.1, p.2) (record { by = by_rule (rules.case_rule c.args.place) refl le (seq_part grammar 1 (λ p z. refl) (omega (arith, le)) up f1 (seq_one grammar 1 (omega (arith, le, fits1)) c.in_ok-rest.ensures (seq_one grammar 1 (omega (arith, le, fits1)) c.in_ok-rest-2.ensures (seq_one grammar 1 (omega (arith, le, fits1)) c.in_ok-rest-3.ensures (seq_one grammar 1 (omega (arith, le, fits1)) c.in_ok-rest-4.ensures (seq_part grammar 1 (λ p z. refl) (omega (arith, le, fits1)) up f2 (seq_one_stop grammar 1 (omega (arith, le, fits1, fits2)) c.in_err-rest-5.ensures))))))) })
 
-pub cased-returns-in_err-head : goal.cased-returns-in_err-head
-cased-returns-in_err-head t c =
+pub expressions::cased-returns-in_err-head : goal.expressions::cased-returns-in_err-head
+expressions::cased-returns-in_err-head t c =
     let p = err_from_is_err_and c.from_residual-in_err-head.result c.from_residual-in_err-head.ensures.1 in
     let le : 2 ≤ c.args.room = c.requires in
     let up : 1 + (c.args.room - 1) ≡ c.args.room = omega (arith, le) in
@@ -242,8 +242,8 @@ cased-returns-in_err-head t c =
     let fits2 = f2.by.fits in
     rw (p.1, p.2) (record { by = by_rule (rules.case_rule c.args.place) refl le (seq_part grammar 1 (λ p z. refl) (omega (arith, le)) up f1 (seq_one grammar 1 (omega (arith, le, fits1)) c.in_ok-rest.ensures (seq_one grammar 1 (omega (arith, le, fits1)) c.in_ok-rest-2.ensures (seq_one grammar 1 (omega (arith, le, fits1)) c.in_ok-rest-3.ensures (seq_one grammar 1 (omega (arith, le, fits1)) c.in_ok-rest-4.ensures (seq_part grammar 1 (λ p z. refl) (omega (arith, le, fits1)) up f2 (seq_one grammar 1 (omega (arith, le, fits1, fits2)) c.in_ok-rest-5.ensures (seq_one_stop grammar 1 (omega (arith, le, fits1, fits2)) c.in_err-head.ensures)))))))) })
 
-pub cased-returns-in_err-rest-6 : goal.cased-returns-in_err-rest-6
-cased-returns-in_err-rest-6 t c =
+pub expressions::cased-returns-in_err-rest-6 : goal.expressions::cased-returns-in_err-rest-6
+expressions::cased-returns-in_err-rest-6 t c =
     let p = err_from_is_err_and c.from_residual-in_err-rest-6.result c.from_residual-in_err-rest-6.ensures.1 in
     let le : 2 ≤ c.args.room = c.requires in
     let up : 1 + (c.args.room - 1) ≡ c.args.room = omega (arith, le) in
@@ -253,8 +253,8 @@ cased-returns-in_err-rest-6 t c =
     let fits2 = f2.by.fits in
     rw (p.1, p.2) (record { by = by_rule (rules.case_rule c.args.place) refl le (seq_part grammar 1 (λ p z. refl) (omega (arith, le)) up f1 (seq_one grammar 1 (omega (arith, le, fits1)) c.in_ok-rest.ensures (seq_one grammar 1 (omega (arith, le, fits1)) c.in_ok-rest-2.ensures (seq_one grammar 1 (omega (arith, le, fits1)) c.in_ok-rest-3.ensures (seq_one grammar 1 (omega (arith, le, fits1)) c.in_ok-rest-4.ensures (seq_part grammar 1 (λ p z. refl) (omega (arith, le, fits1)) up f2 (seq_one grammar 1 (omega (arith, le, fits1, fits2)) c.in_ok-rest-5.ensures (seq_one grammar 1 (omega (arith, le, fits1, fits2)) c.in_ok-head.ensures (seq_one_stop grammar 1 (omega (arith, le, fits1, fits2)) c.in_err-rest-6.ensures))))))))) })
 
-pub cased-returns-in_err-tail : goal.cased-returns-in_err-tail
-cased-returns-in_err-tail t c =
+pub expressions::cased-returns-in_err-tail : goal.expressions::cased-returns-in_err-tail
+expressions::cased-returns-in_err-tail t c =
     let p = err_from_is_err_and c.from_residual-in_err-tail.result c.from_residual-in_err-tail.ensures.1 in
     let le : 2 ≤ c.args.room = c.requires in
     let up : 1 + (c.args.room - 1) ≡ c.args.room = omega (arith, le) in
@@ -264,8 +264,8 @@ cased-returns-in_err-tail t c =
     let fits2 = f2.by.fits in
     rw (p.1, p.2) (record { by = by_rule (rules.case_rule c.args.place) refl le (seq_part grammar 1 (λ p z. refl) (omega (arith, le)) up f1 (seq_one grammar 1 (omega (arith, le, fits1)) c.in_ok-rest.ensures (seq_one grammar 1 (omega (arith, le, fits1)) c.in_ok-rest-2.ensures (seq_one grammar 1 (omega (arith, le, fits1)) c.in_ok-rest-3.ensures (seq_one grammar 1 (omega (arith, le, fits1)) c.in_ok-rest-4.ensures (seq_part grammar 1 (λ p z. refl) (omega (arith, le, fits1)) up f2 (seq_one grammar 1 (omega (arith, le, fits1, fits2)) c.in_ok-rest-5.ensures (seq_one grammar 1 (omega (arith, le, fits1, fits2)) c.in_ok-head.ensures (seq_one grammar 1 (omega (arith, le, fits1, fits2)) c.in_ok-rest-6.ensures (seq_one_stop grammar 1 (omega (arith, le, fits1, fits2)) c.in_err-tail.ensures)))))))))) })
 
-pub cased-returns-in_err-rest-7 : goal.cased-returns-in_err-rest-7
-cased-returns-in_err-rest-7 t c =
+pub expressions::cased-returns-in_err-rest-7 : goal.expressions::cased-returns-in_err-rest-7
+expressions::cased-returns-in_err-rest-7 t c =
     let p = err_from_is_err_and c.from_residual-in_err-rest-7.result c.from_residual-in_err-rest-7.ensures.1 in
     let le : 2 ≤ c.args.room = c.requires in
     let up : 1 + (c.args.room - 1) ≡ c.args.room = omega (arith, le) in
@@ -275,8 +275,8 @@ cased-returns-in_err-rest-7 t c =
     let fits2 = f2.by.fits in
     rw (p.1, p.2) (record { by = by_rule (rules.case_rule c.args.place) refl le (seq_part grammar 1 (λ p z. refl) (omega (arith, le)) up f1 (seq_one grammar 1 (omega (arith, le, fits1)) c.in_ok-rest.ensures (seq_one grammar 1 (omega (arith, le, fits1)) c.in_ok-rest-2.ensures (seq_one grammar 1 (omega (arith, le, fits1)) c.in_ok-rest-3.ensures (seq_one grammar 1 (omega (arith, le, fits1)) c.in_ok-rest-4.ensures (seq_part grammar 1 (λ p z. refl) (omega (arith, le, fits1)) up f2 (seq_one grammar 1 (omega (arith, le, fits1, fits2)) c.in_ok-rest-5.ensures (seq_one grammar 1 (omega (arith, le, fits1, fits2)) c.in_ok-head.ensures (seq_one grammar 1 (omega (arith, le, fits1, fits2)) c.in_ok-rest-6.ensures (seq_one grammar 1 (omega (arith, le, fits1, fits2)) c.in_ok-tail.ensures (seq_one_stop grammar 1 (omega (arith, le, fits1, fits2)) c.in_err-rest-7.ensures))))))))))) })
 
-pub cased-returns-in_err-more : goal.cased-returns-in_err-more
-cased-returns-in_err-more t c =
+pub expressions::cased-returns-in_err-more : goal.expressions::cased-returns-in_err-more
+expressions::cased-returns-in_err-more t c =
     let p = err_from_is_err_and c.from_residual-in_err-more.result c.from_residual-in_err-more.ensures.1 in
     let le : 2 ≤ c.args.room = c.requires in
     let up : 1 + (c.args.room - 1) ≡ c.args.room = omega (arith, le) in
@@ -286,8 +286,8 @@ cased-returns-in_err-more t c =
     let fits2 = f2.by.fits in
     rw (p.1, p.2) (record { by = by_rule (rules.case_rule c.args.place) refl le (seq_part grammar 1 (λ p z. refl) (omega (arith, le)) up f1 (seq_one grammar 1 (omega (arith, le, fits1)) c.in_ok-rest.ensures (seq_one grammar 1 (omega (arith, le, fits1)) c.in_ok-rest-2.ensures (seq_one grammar 1 (omega (arith, le, fits1)) c.in_ok-rest-3.ensures (seq_one grammar 1 (omega (arith, le, fits1)) c.in_ok-rest-4.ensures (seq_part grammar 1 (λ p z. refl) (omega (arith, le, fits1)) up f2 (seq_one grammar 1 (omega (arith, le, fits1, fits2)) c.in_ok-rest-5.ensures (seq_one grammar 1 (omega (arith, le, fits1, fits2)) c.in_ok-head.ensures (seq_one grammar 1 (omega (arith, le, fits1, fits2)) c.in_ok-rest-6.ensures (seq_one grammar 1 (omega (arith, le, fits1, fits2)) c.in_ok-tail.ensures (seq_one grammar 1 (omega (arith, le, fits1, fits2)) c.in_ok-rest-7.ensures (seq_part_stop grammar 1 (λ z h. h) (omega (arith, le, fits1, fits2)) up c.in_err-more.ensures.by)))))))))))) })
 
-pub cased-returns : goal.cased-returns
-cased-returns t c =
+pub expressions::cased-returns : goal.expressions::cased-returns
+expressions::cased-returns t c =
     let le : 2 ≤ c.args.room = c.requires in
     let up : 1 + (c.args.room - 1) ≡ c.args.room = omega (arith, le) in
     let (x1, s1, f1) = c.in_ok-list.ensures.by in
@@ -300,66 +300,66 @@ cased-returns t c =
 
 -- ---- operators
 
-pub operators-returns-in_err-left : goal.operators-returns-in_err-left
-operators-returns-in_err-left t c =
+pub operators::operators-returns-in_err-left : goal.operators::operators-returns-in_err-left
+operators::operators-returns-in_err-left t c =
     let p = err_from_is_err_and c.from_residual.result c.from_residual.ensures.1 in
     rw (p.1, p.2) (operators.begin_stop c.args.level c.in_err-left.ensures)
 
-pub operators-loop-op-init : goal.operators-loop-op-init
-operators-loop-op-init t c =
+pub operators::operators-loop-op-init : goal.operators::operators-loop-op-init
+operators::operators-loop-op-init t c =
     operators.begin c.args.level c.in_ok-left.ensures
 
-pub operators-returns-then-left-room : goal.operators-returns-then-left-room
-operators-returns-then-left-room t c =
+pub operators::operators-returns-then-left-room : goal.operators::operators-returns-then-left-room
+operators::operators-returns-then-left-room t c =
     let (o, q, e, is) = c.in-Some.ensures in
     rw c.too_nested.ensures (counted_at _ (operators.no_room c.args.level c.loop-op.invariant o q e (omega arith)))
 
-pub operators-returns-in_err-right : goal.operators-returns-in_err-right
-operators-returns-in_err-right t c =
+pub operators::operators-returns-in_err-right : goal.operators::operators-returns-in_err-right
+operators::operators-returns-in_err-right t c =
     let p = err_from_is_err_and c.from_residual-in_err-right.result c.from_residual-in_err-right.ensures.1 in
     let (o, q, e, is) = c.in-Some.ensures in
     rw (p.1, p.2) (operators.next_stop c.args.level c.loop-op.invariant o q e (omega arith) c.in_err-right.ensures)
 
-pub operators-loop-op-preserved : goal.operators-loop-op-preserved
-operators-loop-op-preserved t c =
+pub operators::operators-loop-op-preserved : goal.operators::operators-loop-op-preserved
+operators::operators-loop-op-preserved t c =
     let (o, q, e, is) = c.in-Some.ensures in
     operators.next c.args.level c.loop-op.invariant o q e (omega arith) is c.in_ok-right.ensures (sym c.in_ok-left-2.ensures.shown)
 
-pub operators-operated-requires-clause-right : goal.operators-operated-requires-clause-right
-operators-operated-requires-clause-right t c =
+pub operators::operators-operated-requires-clause-right : goal.operators::operators-operated-requires-clause-right
+operators::operators-operated-requires-clause-right t c =
     let few = part_within c.args.level c.in_ok-right.ensures in
     omega (arith, few)
 
-pub operators-returns : goal.operators-returns
-operators-returns t c =
+pub operators::operators-returns : goal.operators::operators-returns
+operators::operators-returns t c =
     operators.finish c.args.level c.loop-op.invariant c.in_default.ensures
 
-pub part-returns-in-Either : goal.part-returns-in-Either
-part-returns-in-Either t c = at_level c.in-Either.is c.operators.ensures
+pub operators::part-returns-in-Either : goal.operators::part-returns-in-Either
+operators::part-returns-in-Either t c = at_level c.in-Either.is c.operators.ensures
 
-pub part-returns-in-Both : goal.part-returns-in-Both
-part-returns-in-Both t c = at_level c.in-Both.is c.comparison.ensures
+pub operators::part-returns-in-Both : goal.operators::part-returns-in-Both
+operators::part-returns-in-Both t c = at_level c.in-Both.is c.comparison.ensures
 
-pub part-returns-in-Sum : goal.part-returns-in-Sum
-part-returns-in-Sum t c = at_level c.in-Sum.is c.operators-in-Sum.ensures
+pub operators::part-returns-in-Sum : goal.operators::part-returns-in-Sum
+operators::part-returns-in-Sum t c = at_level c.in-Sum.is c.operators-in-Sum.ensures
 
-pub part-returns-in-Product : goal.part-returns-in-Product
-part-returns-in-Product t c = at_level c.in-Product.is c.operand.ensures
+pub operators::part-returns-in-Product : goal.operators::part-returns-in-Product
+operators::part-returns-in-Product t c = at_level c.in-Product.is c.operand.ensures
 
 -- ---- comparison
 
-pub comparison-returns-in_err-left : goal.comparison-returns-in_err-left
-comparison-returns-in_err-left t c =
+pub operators::comparison-returns-in_err-left : goal.operators::comparison-returns-in_err-left
+operators::comparison-returns-in_err-left t c =
     let p = err_from_is_err_and c.from_residual.result c.from_residual.ensures.1 in
     rw (p.1, p.2) (record { by = first_stop comparisons c.in_err-left.ensures.by })
 
-pub comparison-returns-in_default : goal.comparison-returns-in_default
-comparison-returns-in_default t c =
+pub operators::comparison-returns-in_default : goal.operators::comparison-returns-in_default
+operators::comparison-returns-in_default t c =
     let (x, sx, fx) = c.in_ok-left.ensures.by in
     record { by = ((uncompared x.0, x.1), sx, first_found comparisons fx (bare_found comparisons (λ l s e. c.in_default.ensures l.0 l.1 s e) fx.by.fits)) }
 
-pub comparison-returns-then-left-room : goal.comparison-returns-then-left-room
-comparison-returns-then-left-room t c =
+pub operators::comparison-returns-then-left-room : goal.operators::comparison-returns-then-left-room
+operators::comparison-returns-then-left-room t c =
     let (x, sx, fx) = c.in_ok-left.ensures.by in
     let fits = fx.by.fits in
     let same = fx.by.found.1 in
@@ -368,8 +368,8 @@ comparison-returns-then-left-room t c =
     let (o, q, e, is) = c.in-Some.ensures in
     rw c.too_nested.ensures (record { by = first_found comparisons fx (counted _ (led_too_deep comparisons (o, q) e (omega (arith, same, few, count)))) })
 
-pub comparison-returns-in_err-right : goal.comparison-returns-in_err-right
-comparison-returns-in_err-right t c =
+pub operators::comparison-returns-in_err-right : goal.operators::comparison-returns-in_err-right
+operators::comparison-returns-in_err-right t c =
     let p = err_from_is_err_and c.from_residual-in_err-right.result c.from_residual-in_err-right.ensures.1 in
     let (x, sx, fx) = c.in_ok-left.ensures.by in
     let fits = fx.by.fits in
@@ -381,8 +381,8 @@ comparison-returns-in_err-right t c =
     let up : 1 + (c.args.room - 1) ≡ c.args.room = omega (arith, le) in
     rw (p.1, p.2) (record { by = first_found comparisons fx (led comparisons (o, q) e le (seq_part_stop grammar 1 (λ z h. stops_within listed comparison (omega arith) z h) (omega (arith, le)) up c.in_err-right.ensures.by)) })
 
-pub comparison-returns : goal.comparison-returns
-comparison-returns t c =
+pub operators::comparison-returns : goal.operators::comparison-returns
+operators::comparison-returns t c =
     let (x, sx, fx) = c.in_ok-left.ensures.by in
     let fits = fx.by.fits in
     let same = fx.by.found.1 in
@@ -397,18 +397,18 @@ comparison-returns t c =
 
 -- ---- listed
 
-pub listed-returns-in_err-left : goal.listed-returns-in_err-left
-listed-returns-in_err-left t c =
+pub operators::listed-returns-in_err-left : goal.operators::listed-returns-in_err-left
+operators::listed-returns-in_err-left t c =
     let p = err_from_is_err_and c.from_residual.result c.from_residual.ensures.1 in
     rw (p.1, p.2) (record { by = first_stop listings c.in_err-left.ensures.by })
 
-pub listed-returns-in_default : goal.listed-returns-in_default
-listed-returns-in_default t c =
+pub operators::listed-returns-in_default : goal.operators::listed-returns-in_default
+operators::listed-returns-in_default t c =
     let (x, sx, fx) = c.in_ok-left.ensures.by in
     record { by = ((unlisted x.0, x.1), sx, first_found listings fx (bare_found listings c.in_default.ensures fx.by.fits)) }
 
-pub listed-returns-then-left-room : goal.listed-returns-then-left-room
-listed-returns-then-left-room t c =
+pub operators::listed-returns-then-left-room : goal.operators::listed-returns-then-left-room
+operators::listed-returns-then-left-room t c =
     let (x, sx, fx) = c.in_ok-left.ensures.by in
     let fits = fx.by.fits in
     let same = fx.by.found.1 in
@@ -416,8 +416,8 @@ listed-returns-then-left-room t c =
     let count = ap (λ q. q.levels) sx in
     rw c.too_nested.ensures (record { by = first_found listings fx (counted _ (led_too_deep listings _ c.in-Some.ensures (omega (arith, same, few, count)))) })
 
-pub listed-returns-in_err-right : goal.listed-returns-in_err-right
-listed-returns-in_err-right t c =
+pub operators::listed-returns-in_err-right : goal.operators::listed-returns-in_err-right
+operators::listed-returns-in_err-right t c =
     let p = err_from_is_err_and c.from_residual-in_err-right.result c.from_residual-in_err-right.ensures.1 in
     let (x, sx, fx) = c.in_ok-left.ensures.by in
     let fits = fx.by.fits in
@@ -428,8 +428,8 @@ listed-returns-in_err-right t c =
     let up : 1 + (c.args.room - 1) ≡ c.args.room = omega (arith, le) in
     rw (p.1, p.2) (record { by = first_found listings fx (led listings _ c.in-Some.ensures le (seq_part_stop grammar 1 (λ z h. h) (omega (arith, le)) up c.in_err-right.ensures.by)) })
 
-pub listed-returns : goal.listed-returns
-listed-returns t c =
+pub operators::listed-returns : goal.operators::listed-returns
+operators::listed-returns t c =
     let (x, sx, fx) = c.in_ok-left.ensures.by in
     let fits = fx.by.fits in
     let same = fx.by.found.1 in
@@ -443,23 +443,23 @@ listed-returns t c =
 
 -- ---- operand
 
-pub operand-returns-in_default : goal.operand-returns-in_default
-operand-returns-in_default t c =
+pub operators::operand-returns-in_default : goal.operators::operand-returns-in_default
+operators::operand-returns-in_default t c =
     passed (as_atom _ c.in_default.ensures) shown shown (λ d. refl) _ c.atom.ensures
 
-pub operand-returns-then-room-lt2 : goal.operand-returns-then-room-lt2
-operand-returns-then-room-lt2 t c =
+pub operators::operand-returns-then-room-lt2 : goal.operators::operand-returns-then-room-lt2
+operators::operand-returns-then-room-lt2 t c =
     rw c.too_nested.ensures (record { by = counted _ (too_deep (prefix_rule _ _) c.in-Some.ensures (omega arith)) })
 
-pub operand-returns-in_err-inner : goal.operand-returns-in_err-inner
-operand-returns-in_err-inner t c =
+pub operators::operand-returns-in_err-inner : goal.operators::operand-returns-in_err-inner
+operators::operand-returns-in_err-inner t c =
     let p = err_from_is_err_and c.from_residual.result c.from_residual.ensures.1 in
     let le : 2 ≤ c.args.room = omega arith in
     let up : 1 + (c.args.room - 1) ≡ c.args.room = omega (arith, le) in
     rw (p.1, p.2) (record { by = by_rule (prefix_rule _ _) c.in-Some.ensures le (seq_part_stop grammar 1 (λ z h. h) (omega (arith, le)) up c.in_err-inner.ensures.by) })
 
-pub operand-returns : goal.operand-returns
-operand-returns t c =
+pub operators::operand-returns : goal.operators::operand-returns
+operators::operand-returns t c =
     let le : 2 ≤ c.args.room = omega arith in
     let up : 1 + (c.args.room - 1) ≡ c.args.room = omega (arith, le) in
     let (x, sx, fx) = c.in_ok-inner.ensures.by in
@@ -468,55 +468,56 @@ operand-returns t c =
 
 -- ---- atom
 
-pub atom-returns-in_err-found : goal.atom-returns-in_err-found
-atom-returns-in_err-found t c =
+pub atoms::atom-returns-in_err-found : goal.atoms::atom-returns-in_err-found
+atoms::atom-returns-in_err-found t c =
     let p = err_from_is_err_and c.from_residual.result c.from_residual.ensures.1 in
     rw (p.1, p.2) (c.in_err-found.ensures)
 
-pub atom-returns-then-room-lt1 : goal.atom-returns-then-room-lt1
-atom-returns-then-room-lt1 t c =
+pub atoms::atom-returns-then-room-lt1 : goal.atoms::atom-returns-then-room-lt1
+atoms::atom-returns-then-room-lt1 t c =
     rw c.too_nested.ensures (record { by = counted _ (no_room (named _ _) tt c.in-Some-strip_name.ensures (omega arith)) })
 
-pub atom-returns-in-Some-strip_name : goal.atom-returns-in-Some-strip_name
-atom-returns-in-Some-strip_name t c =
+pub atoms::atom-returns-in-Some-strip_name : goal.atoms::atom-returns-in-Some-strip_name
+atoms::atom-returns-in-Some-strip_name t c =
     at_reading c.in-Some-strip_name.ensures c.named.ensures
 
-pub atom-returns-then-room-lt1-2 : goal.atom-returns-then-room-lt1-2
-atom-returns-then-room-lt1-2 t c =
+pub atoms::atom-returns-then-room-lt1-2 : goal.atoms::atom-returns-then-room-lt1-2
+atoms::atom-returns-then-room-lt1-2 t c =
     rw c.too_nested-then-room-lt1-2.ensures (record { by = counted _ (no_room (nothing _ 0) tt c.in-Some-strip_sign.ensures (omega arith)) })
 
-pub atom-returns-in-Some-strip_sign : goal.atom-returns-in-Some-strip_sign
-atom-returns-in-Some-strip_sign t c =
+pub atoms::atom-returns-in-Some-strip_sign : goal.atoms::atom-returns-in-Some-strip_sign
+atoms::atom-returns-in-Some-strip_sign t c =
     at_reading c.in-Some-strip_sign.ensures c.opened.ensures
 
-pub atom-returns-then-room-lt2 : goal.atom-returns-then-room-lt2
-atom-returns-then-room-lt2 t c =
+pub atoms::atom-returns-then-room-lt2 : goal.atoms::atom-returns-then-room-lt2
+atoms::atom-returns-then-room-lt2 t c =
     rw c.too_nested-then-room-lt2.ensures (record { by = counted _ (too_deep (rules.elements_rule _) c.in-Some-strip_sign-2.ensures (omega arith)) })
 
-pub atom-returns-in-Some-strip_sign-2 : goal.atom-returns-in-Some-strip_sign-2
-atom-returns-in-Some-strip_sign-2 t c =
+pub atoms::atom-returns-in-Some-strip_sign-2 : goal.atoms::atom-returns-in-Some-strip_sign-2
+atoms::atom-returns-in-Some-strip_sign-2 t c =
     at_reading c.in-Some-strip_sign-2.ensures c.elements.ensures
 
-pub atom-returns : goal.atom-returns
-atom-returns t c =
+pub atoms::atom-returns : goal.atoms::atom-returns
+atoms::atom-returns t c =
     rw c.unexpected.ensures (record { by = counted _ (no_atom _ (subst (λ o. ReadsSimple c.args.room (lexemes c.args.tokens.now) (seen_simple (λ r. (shown_host r.0, lexemes r.1.now)) (Ok o))) c.in_default.is c.in_ok-found.ensures) c.in_default-strip_name.ensures c.in_default-strip_sign.ensures c.in_default-strip_sign-2.ensures) })
 
 -- ---- named
 
-pub named-returns-in_default : goal.named-returns-in_default
-named-returns-in_default t c =
-    record { by = (_, sym c.in_ok-named.ensures.shown, atoms.alone _ _ c.in_default.ensures c.requires) }
+pub atoms::named-returns-in_default : goal.atoms::named-returns-in_default
+atoms::named-returns-in_default t c =
+    let le : 1 ≤ c.args.room = omega arith in
+    record { by = (_, sym c.in_ok-named.ensures.shown, atoms.alone _ _ c.in_default.ensures le) }
 
-pub named-returns-in_err-items : goal.named-returns-in_err-items
-named-returns-in_err-items t c =
+pub atoms::named-returns-in_err-items : goal.atoms::named-returns-in_err-items
+atoms::named-returns-in_err-items t c =
     let p = err_from_is_err_and c.from_residual-in_err-items.result c.from_residual-in_err-items.ensures.1 in
-    let le : 1 ≤ c.args.room = c.requires in
+    let le : 1 ≤ c.args.room = omega arith in
     let up : 1 + (c.args.room - 1) ≡ c.args.room = omega (arith, le) in
     rw (p.1, p.2) (record { by = atoms.called _ _ c.in-Some.ensures le (seq_part_stop grammar 1 (λ z h. stops_within (enclosed arguments) atom (omega arith) z h) (omega (arith, le)) up c.in_err-items.ensures.by) })
 
-pub named-returns : goal.named-returns
-named-returns t c =
-    let le : 1 ≤ c.args.room = c.requires in
+pub atoms::named-returns : goal.atoms::named-returns
+atoms::named-returns t c =
+    let le : 1 ≤ c.args.room = omega arith in
     let up : 1 + (c.args.room - 1) ≡ c.args.room = omega (arith, le) in
     let (x, sx, fx) = c.in_ok-items.ensures.by in
     let fits = fx.by.fits in
@@ -524,25 +525,25 @@ named-returns t c =
 
 -- ---- opened
 
-pub opened-returns-in-Some : goal.opened-returns-in-Some
-opened-returns-in-Some t c =
+pub atoms::opened-returns-in-Some : goal.atoms::opened-returns-in-Some
+atoms::opened-returns-in-Some t c =
     record { by = (_, sym c.in_ok-leaf.ensures.shown, atoms.closed _ c.in-Some.ensures c.requires) }
 
-pub opened-returns-in_err-first : goal.opened-returns-in_err-first
-opened-returns-in_err-first t c =
+pub atoms::opened-returns-in_err-first : goal.atoms::opened-returns-in_err-first
+atoms::opened-returns-in_err-first t c =
     let p = err_from_is_err_and c.from_residual-in_err-first.result c.from_residual-in_err-first.ensures.1 in
     rw (p.1, p.2) (record { by = atoms.inside _ c.in_default.ensures c.requires (atoms.inside_stop _ c.requires c.in_err-first.ensures.by) })
 
-pub opened-returns-in-Some-strip_sign : goal.opened-returns-in-Some-strip_sign
-opened-returns-in-Some-strip_sign t c =
+pub atoms::opened-returns-in-Some-strip_sign : goal.atoms::opened-returns-in-Some-strip_sign
+atoms::opened-returns-in-Some-strip_sign t c =
     let le : 1 ≤ c.args.room = c.requires in
     let up : 1 + (c.args.room - 1) ≡ c.args.room = omega (arith, le) in
     let (x, sx, fx) = c.in_ok-first.ensures.by in
     let fits = fx.by.fits in
     record { by = (_, grouped_is sx c.group.ensures, atoms.inside _ c.in_default.ensures le (atoms.inside_found _ le fx (atoms.group_right _ c.in-Some-strip_sign.ensures (seq_one grammar 1 (omega (arith, le, fits)) (sign_read c.in-Some-strip_sign.ensures) (seq_done grammar 1 (omega (arith, le, fits))))))) }
 
-pub opened-returns-in_err-rest : goal.opened-returns-in_err-rest
-opened-returns-in_err-rest t c =
+pub atoms::opened-returns-in_err-rest : goal.atoms::opened-returns-in_err-rest
+atoms::opened-returns-in_err-rest t c =
     let p = err_from_is_err_and c.from_residual-in_err-rest.result c.from_residual-in_err-rest.ensures.1 in
     let le : 1 ≤ c.args.room = c.requires in
     let up : 1 + (c.args.room - 1) ≡ c.args.room = omega (arith, le) in
@@ -552,8 +553,8 @@ opened-returns-in_err-rest t c =
     let same = fx.by.found.1 in
     rw (p.1, p.2) (record { by = atoms.inside _ c.in_default.ensures le (atoms.inside_found _ le fx (atoms.pair_right _ c.in_default-strip_sign.ensures (seq_one_stop grammar 1 (omega (arith, le, fits, few, same)) c.in_err-rest.ensures))) })
 
-pub opened-returns-in_err-second : goal.opened-returns-in_err-second
-opened-returns-in_err-second t c =
+pub atoms::opened-returns-in_err-second : goal.atoms::opened-returns-in_err-second
+atoms::opened-returns-in_err-second t c =
     let p = err_from_is_err_and c.from_residual-in_err-second.result c.from_residual-in_err-second.ensures.1 in
     let le : 1 ≤ c.args.room = c.requires in
     let up : 1 + (c.args.room - 1) ≡ c.args.room = omega (arith, le) in
@@ -563,8 +564,8 @@ opened-returns-in_err-second t c =
     let same = fx.by.found.1 in
     rw (p.1, p.2) (record { by = atoms.inside _ c.in_default.ensures le (atoms.inside_found _ le fx (atoms.pair_right _ c.in_default-strip_sign.ensures (seq_one grammar 1 (omega (arith, le, fits, few, same)) c.in_ok-rest.ensures (seq_part_stop grammar 1 (λ p z. refl) (omega (arith, le, fits, few, same)) up c.in_err-second.ensures.by)))) })
 
-pub opened-returns-in_err-rest-2 : goal.opened-returns-in_err-rest-2
-opened-returns-in_err-rest-2 t c =
+pub atoms::opened-returns-in_err-rest-2 : goal.atoms::opened-returns-in_err-rest-2
+atoms::opened-returns-in_err-rest-2 t c =
     let p = err_from_is_err_and c.from_residual-in_err-rest-2.result c.from_residual-in_err-rest-2.ensures.1 in
     let le : 1 ≤ c.args.room = c.requires in
     let up : 1 + (c.args.room - 1) ≡ c.args.room = omega (arith, le) in
@@ -576,8 +577,8 @@ opened-returns-in_err-rest-2 t c =
     let fits' = fy.by.fits in
     rw (p.1, p.2) (record { by = atoms.inside _ c.in_default.ensures le (atoms.inside_found _ le fx (atoms.pair_right _ c.in_default-strip_sign.ensures (seq_one grammar 1 (omega (arith, le, fits, few, same)) c.in_ok-rest.ensures (seq_part grammar 1 (λ p z. refl) (omega (arith, le, fits, few, same)) up fy (seq_one_stop grammar 1 (omega (arith, le, fits, few, same, fits')) c.in_err-rest-2.ensures))))) })
 
-pub opened-returns : goal.opened-returns
-opened-returns t c =
+pub atoms::opened-returns : goal.atoms::opened-returns
+atoms::opened-returns t c =
     let le : 1 ≤ c.args.room = c.requires in
     let up : 1 + (c.args.room - 1) ≡ c.args.room = omega (arith, le) in
     let (x, sx, fx) = c.in_ok-first.ensures.by in
@@ -590,15 +591,15 @@ opened-returns t c =
 
 -- ---- elements
 
-pub elements-returns-in_err-items : goal.elements-returns-in_err-items
-elements-returns-in_err-items t c =
+pub atoms::elements-returns-in_err-items : goal.atoms::elements-returns-in_err-items
+atoms::elements-returns-in_err-items t c =
     let p = err_from_is_err_and c.from_residual.result c.from_residual.ensures.1 in
     let le : 2 ≤ c.args.room = c.requires in
     let up : 1 + (c.args.room - 1) ≡ c.args.room = omega (arith, le) in
     rw (p.1, p.2) (record { by = by_rule (rules.elements_rule c.args.place) refl le (seq_part_stop grammar 1 (λ p z. refl) (omega (arith, le)) up c.in_err-items.ensures.by) })
 
-pub elements-returns-in_err-rest : goal.elements-returns-in_err-rest
-elements-returns-in_err-rest t c =
+pub atoms::elements-returns-in_err-rest : goal.atoms::elements-returns-in_err-rest
+atoms::elements-returns-in_err-rest t c =
     let p = err_from_is_err_and c.from_residual-in_err-rest.result c.from_residual-in_err-rest.ensures.1 in
     let le : 2 ≤ c.args.room = c.requires in
     let up : 1 + (c.args.room - 1) ≡ c.args.room = omega (arith, le) in
@@ -606,8 +607,8 @@ elements-returns-in_err-rest t c =
     let fits1 = f1.by.fits in
     rw (p.1, p.2) (record { by = by_rule (rules.elements_rule c.args.place) refl le (seq_part grammar 1 (λ p z. refl) (omega (arith, le)) up f1 (seq_one_stop grammar 1 (omega (arith, le, fits1)) c.in_err-rest.ensures)) })
 
-pub elements-returns : goal.elements-returns
-elements-returns t c =
+pub atoms::elements-returns : goal.atoms::elements-returns
+atoms::elements-returns t c =
     let le : 2 ≤ c.args.room = c.requires in
     let up : 1 + (c.args.room - 1) ≡ c.args.room = omega (arith, le) in
     let (x1, s1, f1) = c.in_ok-items.ensures.by in
@@ -616,51 +617,51 @@ elements-returns t c =
 
 -- ---- arguments
 
-pub arguments-returns-in_err-first : goal.arguments-returns-in_err-first
-arguments-returns-in_err-first t c =
+pub listings::arguments-returns-in_err-first : goal.listings::arguments-returns-in_err-first
+listings::arguments-returns-in_err-first t c =
     let p = err_from_is_err_and c.from_residual.result c.from_residual.ensures.1 in
     rw (p.1, p.2) (gathering.begin_stop c.in_err-first.ensures)
 
-pub arguments-loop-after-init : goal.arguments-loop-after-init
-arguments-loop-after-init t c =
+pub listings::arguments-loop-after-init : goal.listings::arguments-loop-after-init
+listings::arguments-loop-after-init t c =
     gathering.begin c.in_ok-first.ensures c.in_ok-items.ensures.shown
 
-pub arguments-returns-in_err-next : goal.arguments-returns-in_err-next
-arguments-returns-in_err-next t c =
+pub listings::arguments-returns-in_err-next : goal.listings::arguments-returns-in_err-next
+listings::arguments-returns-in_err-next t c =
     let p = err_from_is_err_and c.from_residual-in_err-next.result c.from_residual-in_err-next.ensures.1 in
     rw (p.1, p.2) (gathering.next_stop c.loop-after.invariant _ c.in-Some.ensures c.in_err-next.ensures)
 
-pub arguments-loop-after-preserved : goal.arguments-loop-after-preserved
-arguments-loop-after-preserved t c =
+pub listings::arguments-loop-after-preserved : goal.listings::arguments-loop-after-preserved
+listings::arguments-loop-after-preserved t c =
     gathering.next c.loop-after.invariant _ c.in-Some.ensures c.in_ok-next.ensures c.in_ok-items-2.ensures.shown
 
-pub arguments-loop-after-smaller : goal.arguments-loop-after-smaller
-arguments-loop-after-smaller t c =
+pub listings::arguments-loop-after-smaller : goal.listings::arguments-loop-after-smaller
+listings::arguments-loop-after-smaller t c =
     let one = fewer _ _ c.in-Some.ensures in
     let rest = no_more _ _ c.in_ok-next.ensures in
     omega (arith, one, rest)
 
-pub arguments-returns : goal.arguments-returns
-arguments-returns t c =
+pub listings::arguments-returns : goal.listings::arguments-returns
+listings::arguments-returns t c =
     gathering.finish c.loop-after.invariant c.in_default.ensures
 
 -- ---- enclosed
 
-pub enclosed-returns-in_default : goal.enclosed-returns-in_default
-enclosed-returns-in_default t c =
+pub listings::enclosed-returns-in_default : goal.listings::enclosed-returns-in_default
+listings::enclosed-returns-in_default t c =
     rw c.unexpected.ensures (record { by = counted _ (gathering.no_enclosed _ c.in_default.ensures) })
 
-pub enclosed-returns-in-Some-strip_sign : goal.enclosed-returns-in-Some-strip_sign
-enclosed-returns-in-Some-strip_sign t c =
+pub listings::enclosed-returns-in-Some-strip_sign : goal.listings::enclosed-returns-in-Some-strip_sign
+listings::enclosed-returns-in-Some-strip_sign t c =
     record { by = (_, sym c.none.ensures, at_tokens c.in-Some.ensures (enclosing.closed arguments _ c.in-Some-strip_sign.ensures)) }
 
-pub enclosed-returns-in_err-items : goal.enclosed-returns-in_err-items
-enclosed-returns-in_err-items t c =
+pub listings::enclosed-returns-in_err-items : goal.listings::enclosed-returns-in_err-items
+listings::enclosed-returns-in_err-items t c =
     let p = err_from_is_err_and c.from_residual.result c.from_residual.ensures.1 in
     rw (p.1, p.2) (record { by = at_tokens c.in-Some.ensures (enclosing.inside arguments _ c.in_default-strip_sign.ensures (gathering.full_stop c.in_err-items.ensures.by)) })
 
-pub enclosed-returns-in_err-rest : goal.enclosed-returns-in_err-rest
-enclosed-returns-in_err-rest t c =
+pub listings::enclosed-returns-in_err-rest : goal.listings::enclosed-returns-in_err-rest
+listings::enclosed-returns-in_err-rest t c =
     let p = err_from_is_err_and c.from_residual-in_err-rest.result c.from_residual-in_err-rest.ensures.1 in
     let (x, sx, fx) = c.in_ok-items.ensures.by in
     let fits = fx.by.fits in
@@ -670,8 +671,8 @@ enclosed-returns-in_err-rest t c =
     let up : 0 + c.args.room ≡ c.args.room = omega arith in
     rw (p.1, p.2) (record { by = at_tokens c.in-Some.ensures (enclosing.inside arguments _ c.in_default-strip_sign.ensures (seq_part grammar 0 (λ p z. refl) (omega (arith, le)) up fx (seq_one_stop grammar 0 (omega (arith, fits)) c.in_err-rest.ensures))) })
 
-pub enclosed-returns : goal.enclosed-returns
-enclosed-returns t c =
+pub listings::enclosed-returns : goal.listings::enclosed-returns
+listings::enclosed-returns t c =
     let (x, sx, fx) = c.in_ok-items.ensures.by in
     let fits = fx.by.fits in
     let few = least_levels x.0 in
