@@ -1,5 +1,5 @@
 -- Arguments and elements, as the loop over their commas goes on, and what stands between their parentheses.
-use Rattle.std.proofs.Common.{◌≡◌, ℕ, zero, suc, ◌+◌, ◌-◌, ◌≤◌, ◌<◌, max, List, [], ◌∷◌, ◌++◌, length, Ok, Err, refl, sym, ap, ◌∙◌, subst, arith}
+use Rattle.std.proofs.Common.{◌≡◌, ℕ, ◌+◌, ◌≤◌, max, List, [], ◌∷◌, ◌++◌, length, Ok, Err, refl, sym, ap, ◌∙◌, subst, arith}
 use Rattle.task_model.specs.Host.{HostTerm}
 use Rattle.task_syntax.specs.declared.symbol.Symbol.TheVariants as signs
 use Rattle.exact_reading.specs.declared.stop.Stop.{Stop}
@@ -9,7 +9,7 @@ use Rattle.exact_reading.specs.Reading.{Language, Within, Answer, Right}
 use Rattle.exact_reading.proofs.Productions.{Least, refused_first, bind_stop, by_production, least_alive, least_ever}
 use Rattle.exact_reading.proofs.Symbols.{part, one, Seq, Sequence, least_seq}
 use Rattle.program_grammar.specs.Lexemes.{Lexeme, sign}
-use Rattle.program_grammar.specs.Grammar.{Listing, list, arguments, expression, series, enclosed, Operator, comma, operator, Parse, empty, full, single, joined, tokens, levels}
+use Rattle.program_grammar.specs.Grammar.{Listing, list, arguments, expression, series, enclosed, Operator, comma, operator, Parse, empty, full, single, joined, levels}
 use Rattle.program_grammar.specs.Meaning.{meaning}
 use Rattle.program_grammar.specs.Nodes.{places}
 use Rattle.program_grammar.specs.Languages.{Of, Stops, Reads}

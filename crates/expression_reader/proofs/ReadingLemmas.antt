@@ -1,12 +1,12 @@
 -- What holds of each answer of a reader.
-use Rattle.std.proofs.Common.{◌≡◌, ℕ, suc, ◌+◌, ◌-◌, ◌≤◌, ◌<◌, List, [], ◌∷◌, ◌++◌, length, Result, Ok, Err, refl, sym, ap, ◌∙◌, subst, arith}
+use Rattle.std.proofs.Common.{◌≡◌, ℕ, suc, ◌+◌, ◌≤◌, ◌<◌, List, [], ◌∷◌, ◌++◌, length, Result, Ok, Err, refl, sym, ap, ◌∙◌, subst, arith}
 use Rattle.std.proofs.lemmas.List.{length-map, length-append}
 use Rattle.exact_reading.specs.declared.stop.Kind.{Kind}
 use Rattle.exact_reading.specs.declared.stop.Stop.{Stop}
 use Rattle.exact_reading.specs.declared.stop.Stop.TheVariants.{Fault, Memory}
 use Rattle.exact_reading.specs.declared.stop.Kind.TheVariants.{TooNested}
 use Rattle.task_syntax.specs.declared.symbol.Symbol.{Symbol}
-use Rattle.exact_reading.specs.Reading.{Language, Within, Always, Anything, Begins, Answer, Right}
+use Rattle.exact_reading.specs.Reading.{Language, Within, Always, Anything, Begins, Right}
 use Rattle.exact_reading.proofs.Sequences.{begins_shorter}
 use Rattle.exact_reading.proofs.Productions.{no_memory, refused_deep, at_tokens}
 use Rattle.program_grammar.specs.Lexemes.{Lexeme, sign}
@@ -22,10 +22,6 @@ use Rattle.program_grammar.specs.declared.lexeme.Located.{Located}
 use Rattle.program_grammar.proofs.GrammarLemmas.{least, least_levels, head, head_first}
 use Rattle.program_grammar.proofs.GrammarLemmas as lemmas
 use Rattle.program_grammar.proofs.PassingLemmas.{Passing, pass_stop, pass_found}
-
--- want of memory says nothing of the tokens
-pub starved : {X Y : Type 0} {A : Language Lexeme X} {F : X → Type 0} {E : List Lexeme → Type 0} {show : X → Y} {ts : List Lexeme} {e : Stop} → e ≡ Memory → Reading A F E show ts (Err e)
-starved {A = A} {F = F} {E = E} {show = show} {ts = ts} same = subst (λ e. Reading A F E show ts (Err e)) (sym same) (record { by = no_memory })
 
 -- the same of the same tokens
 pub at_reading : {X Y : Type 0} {A : Language Lexeme X} {F : X → Type 0} {E : List Lexeme → Type 0} {show : X → Y} {ts ts' : List Lexeme} {r : Result (Y × List Lexeme) Stop} → ts ≡ ts' → Reading A F E show ts' r → Reading A F E show ts r
@@ -55,14 +51,6 @@ levels_within f h =
     let e = ap (λ q. q.levels) shows in
     omega (arith, fits, same, e)
 
-pub listing_within : (f : Form) {room : ℕ} {ts rest : List Lexeme} {s : Listed (Meaning f)} → Reads f shown_list room ts (Ok (s, rest)) → s.levels ≤ room
-listing_within f h =
-    let (x, shows, right) = h.by in
-    let fits = right.by.fits in
-    let same = right.by.found.1 in
-    let e = ap (λ q. q.levels) shows in
-    omega (arith, fits, same, e)
-
 -- a form that is another one is read as that one is
 pub passed : {f g : Form} {room : ℕ} {ts : List Lexeme} (P : Passing f g ts) {Y : Type 0} (show : Parse f → Y) (show' : Parse g → Y) → ((d : Parse g) → show (P.pass d) ≡ show' d) → (r : Result (Y × List Lexeme) Stop) → Reads g show' room ts r → Reads f show room ts r
 passed P show show' same (Ok r) h = let (x, shows, right) = h.by in record { by = ((P.pass x.0, x.1), same x.0 ∙ shows, pass_found P right) }
@@ -81,14 +69,6 @@ fewer more rest e =
     let behind = length-map rest lexeme in
     let counts : length (lexemes more) ≡ suc (length (lexemes rest)) = ap length e in
     omega (arith, whole, behind, counts)
-
-pub type_within : {room : ℕ} {ts rest : List Lexeme} {s : BasicTerm × ℕ} → Reads basic shown_type room ts (Ok (s, rest)) → s.1 ≤ room
-type_within h =
-    let (x, shows, right) = h.by in
-    let fits = right.by.fits in
-    let same = right.by.found.1 in
-    let e = ap (λ q. q.1) shows in
-    omega (arith, fits, same, e)
 
 -- the part of a level that is known
 pub at_level : {level known : Level} {room : ℕ} {ts : List Lexeme} {r : Result (Shown HostTerm × List Lexeme) Stop} → level ≡ known → Reads (part_of (series_of known)) (shown_part known) room ts r → Reads (part_of (series_of level)) (shown_part level) room ts r

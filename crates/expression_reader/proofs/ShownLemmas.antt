@@ -1,5 +1,5 @@
 -- What nodes show, by what their parts show.
-use Rattle.std.proofs.Common.{◌≡◌, ℕ, suc, ◌+◌, max, List, [], ◌∷◌, ◌++◌, refl, sym, ap, ◌∙◌, arith}
+use Rattle.std.proofs.Common.{◌≡◌, ℕ, suc, ◌+◌, max, List, [], ◌∷◌, ◌++◌, sym, ap, ◌∙◌, arith}
 use Rattle.task_model.specs.Host.{HostTerm, op_expr}
 use Rattle.task_model.specs.declared.host.Op.{Op}
 use Rattle.task_model.specs.Basic.{BasicTerm}

@@ -1,8 +1,8 @@
-use Rattle.std.proofs.Common.{◌≡◌, ℕ, ◌+◌, ◌-◌, ◌≤◌, ◌<◌, max, refl, sym, ap, ◌∙◌, subst, arith}
+use Rattle.std.proofs.Common.{◌≡◌, ◌+◌, ◌-◌, ◌≤◌, max, refl, sym, ap, subst, arith}
 use Rattle.std.proofs.lemmas.Result.{err_from_is_err_and}
 use Rattle.exact_reading.proofs.Symbols.{seq_one, seq_one_stop, seq_part, seq_part_stop, seq_done}
 use Rattle.exact_reading.proofs.Productions.{at_tokens}
-use Rattle.program_grammar.specs.Grammar.{arguments, expression, comparison, listed, operand, atom, series, sum, list, enclosed, uncompared, unlisted, nothing, named}
+use Rattle.program_grammar.specs.Grammar.{arguments, comparison, listed, atom, enclosed, uncompared, unlisted, nothing, named}
 use Rattle.task_model.specs.Host.{let_expr, if_expr, case_expr, list_expr, call_expr, pair_expr, as_exprs}
 use Rattle.program_grammar.specs.Meaning.{prefix_of}
 use Rattle.program_grammar.specs.Prefixes.{prefix_term}
@@ -16,10 +16,10 @@ use Rattle.program_grammar.proofs.OptionalLemmas.{first_stop, first_found, led, 
 use Rattle.program_grammar.proofs.OperatorLemmas as operators
 use Rattle.program_grammar.proofs.AtomRules as atoms
 use Rattle.program_grammar.proofs.EnclosedRules as enclosing
-use Rattle.expression_reader.proofs.ReadingLemmas.{starved, at_reading, counted_at, sign_read, levels_within, listing_within, part_within, at_level, passed, no_room, fewer, no_more}
-use Rattle.expression_reader.proofs.ShownLemmas.{over_type_is, over_list_is, over_one_is, over_two_is, over_three_is, operated_is, grouped_is}
+use Rattle.expression_reader.proofs.ReadingLemmas.{at_reading, counted_at, sign_read, part_within, at_level, passed, no_room, fewer, no_more}
+use Rattle.expression_reader.proofs.ShownLemmas.{over_list_is, over_one_is, over_two_is, over_three_is, operated_is, grouped_is}
 use Rattle.expression_reader.proofs.ListingLemmas as gathering
-use Rattle.expression_reader.proofs.AtomLemmas.{no_atom, literal_read, literal_deep}
+use Rattle.expression_reader.proofs.AtomLemmas.{no_atom}
 use Rattle.std.specs.Prelude.{Ok}
 use Rattle.expression_reader.specs.Literals.{ReadsSimple, seen_simple}
 use Rattle.expression_reader.proofs.+expression.Goals as goal

@@ -1,4 +1,4 @@
-use Rattle.std.proofs.Common.{rules, pos, ◌≡◌, true, false, refl, sym, ap, ◌∙◌}
+use Rattle.std.proofs.Common.{rules, pos, ◌≡◌, true, false, sym, ap, ◌∙◌}
 use Rattle.task_model.specs.Host.{int_expr, text_expr}
 use Rattle.program_grammar.specs.Parts.{leaf_host, shown_host}
 use Rattle.task_model.specs.Token.{number_from}
