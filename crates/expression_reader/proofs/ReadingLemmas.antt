@@ -3,21 +3,20 @@ use Rattle.std.proofs.Common.{◌≡◌, ℕ, suc, ◌+◌, ◌≤◌, ◌<◌, 
 use Rattle.std.proofs.lemmas.List.{length-map, length-append}
 use Rattle.exact_reading.specs.declared.stop.Kind.{Kind}
 use Rattle.exact_reading.specs.declared.stop.Stop.{Stop}
-use Rattle.exact_reading.specs.declared.stop.Stop.TheVariants.{Fault, Memory}
+use Rattle.exact_reading.specs.declared.stop.Stop.TheVariants.{Fault}
 use Rattle.exact_reading.specs.declared.stop.Kind.TheVariants.{TooNested}
 use Rattle.task_syntax.specs.declared.symbol.Symbol.{Symbol}
 use Rattle.exact_reading.specs.Reading.{Language, Within, Always, Anything, Begins, Right}
 use Rattle.exact_reading.proofs.Sequences.{begins_shorter}
-use Rattle.exact_reading.proofs.Productions.{no_memory, refused_deep, at_tokens}
+use Rattle.exact_reading.proofs.Productions.{refused_deep, at_tokens}
 use Rattle.program_grammar.specs.Lexemes.{Lexeme, sign}
-use Rattle.program_grammar.specs.Grammar.{Form, basic, comparison, operand, series, both, product, part_of, Parse, tokens, levels}
-use Rattle.task_model.specs.Basic.{BasicTerm}
+use Rattle.program_grammar.specs.Grammar.{Form, comparison, operand, series, both, product, part_of, Parse, tokens, levels}
 use Rattle.task_model.specs.Host.{HostTerm}
 use Rattle.program_grammar.specs.declared.series.Level.{Level}
 use Rattle.program_grammar.specs.declared.series.Level.TheVariants.{Either, Both, Sum, Product}
 use Rattle.program_grammar.specs.Meaning.{Meaning}
 use Rattle.program_grammar.specs.Languages.{Of, Stops, Sign, Reading, Reads}
-use Rattle.program_grammar.specs.Parts.{lexeme, lexemes, shown_type, series_of, shown_part, Shown, shown, Listed, shown_list}
+use Rattle.program_grammar.specs.Parts.{lexeme, lexemes, series_of, shown_part, Shown, shown}
 use Rattle.program_grammar.specs.declared.lexeme.Located.{Located}
 use Rattle.program_grammar.proofs.GrammarLemmas.{least, least_levels, head, head_first}
 use Rattle.program_grammar.proofs.GrammarLemmas as lemmas
