@@ -1,5 +1,5 @@
 -- Arguments and elements, as the loop over their commas goes on, and what stands between their parentheses.
-use Rattle.std.proofs.Common.{◌≡◌, ℕ, zero, suc, ◌+◌, ◌-◌, ◌≤◌, ◌<◌, max, List, [], ◌∷◌, ◌++◌, length, Ok, Err, refl, sym, ap, ◌∙◌, subst, arith}
+use Rattle.std.proofs.Common.{◌≡◌, ℕ, ◌+◌, ◌≤◌, max, List, [], ◌∷◌, ◌++◌, length, Ok, Err, refl, sym, ap, ◌∙◌, subst, arith}
 use Rattle.task_model.specs.Host.{HostTerm}
 use Rattle.task_syntax.specs.declared.symbol.Symbol.TheVariants as signs
 use Rattle.exact_reading.specs.declared.stop.Stop.{Stop}
@@ -9,7 +9,9 @@ use Rattle.exact_reading.specs.Reading.{Language, Within, Answer, Right}
 use Rattle.exact_reading.proofs.Productions.{Least, refused_first, bind_stop, by_production, least_alive, least_ever}
 use Rattle.exact_reading.proofs.Symbols.{part, one, Seq, Sequence, least_seq}
 use Rattle.program_grammar.specs.Lexemes.{Lexeme, sign}
-use Rattle.program_grammar.specs.Grammar.{Listing, list, arguments, expression, series, enclosed, Operator, comma, operator, Parse, empty, full, single, joined, tokens, levels}
+use Rattle.program_grammar.specs.Grammar.{Listing, list, arguments, expression, series, enclosed, Operator, comma, operator, Parse, empty, full, single, joined, levels}
+use Rattle.program_grammar.specs.Meaning.{meaning}
+use Rattle.program_grammar.specs.Nodes.{places}
 use Rattle.program_grammar.specs.Languages.{Of, Stops, Reads}
 use Rattle.program_grammar.specs.Parts.{Shown, shown, Listed, shown_list, one_item, more_items}
 use Rattle.program_grammar.proofs.GrammarLemmas.{grammar, least_levels, head, begins_head, a_sign}
@@ -17,6 +19,14 @@ use Rattle.program_grammar.proofs.RuleLemmas.{built}
 use Rattle.program_grammar.proofs.SeriesLemmas.{Tail}
 use Rattle.program_grammar.proofs.SeriesLemmas as chains
 use Rattle.program_grammar.proofs.ExpressionRules.{operators_apart}
+
+abbrev listed_at : List HostTerm → ℕ → List ℕ → Listed (List HostTerm)
+listed_at l n ps = record { list = l; levels = n; places = ps }
+
+joined_items : (d : Parse (series (list arguments))) (p : ℕ) (e : Parse expression) → shown_list (joined (list arguments) d (comma arguments) p e) ≡ more_items (shown_list d) (shown e)
+joined_items d p e =
+    let same : 0 + max (levels d) (levels e) ≡ max (levels d) (levels e) = omega arith in
+    ap (λ n. listed_at (meaning d ++ (meaning e ∷ [])) n (places d ++ places e)) same
 
 -- some items were read, and the rest goes on
 pub record Gathering (room : ℕ) (ts : List Lexeme) (items : Listed (List HostTerm)) (rest : List Lexeme) : Type 0 where
@@ -44,24 +54,27 @@ module _ {room : ℕ} {ts : List Lexeme} where
       }
 
   module _ {items : Listed (List HostTerm)} {rest after : List Lexeme} (g : Gathering room ts items rest) (p : ℕ) (e : rest ≡ sign signs.Comma p ∷ after) where
+    up : 0 + room ≡ room
+    up = omega arith
+
     enough : 0 + g.parse.1 ≤ room
     enough = let fits = g.fits in omega (arith, fits)
 
     pub next_stop : {s : Stop} → Reads expression shown room after (Err s) → Reads (series (list arguments)) shown_list room ts (Err s)
-    next_stop h = record { by = g.goes_on _ (chains.more (list arguments) (operators_apart (list arguments)) (comma arguments) p e g.some enough (chains.next_stop (list arguments) g.parse (comma arguments) p refl enough h.by)) }
+    next_stop h = record { by = g.goes_on _ (chains.more (list arguments) (operators_apart (list arguments)) (comma arguments) p e g.some enough (chains.next_stop (list arguments) g.parse (comma arguments) p up enough h.by)) }
 
     pub next : {new : Listed (List HostTerm)} {second : Shown HostTerm} {behind : List Lexeme} → Reads expression shown room after (Ok (second, behind)) → new ≡ more_items items second → Gathering room ts new behind
-    next {items} {second = second} h is =
+    next h is =
         let (y, shows, found) = h.by in
         let fits = found.by.fits in
         let some = g.some in
         let few = g.fits in
         record {
           parse = (joined (list arguments) g.parse.0 (comma arguments) p y.0, 0 + max g.parse.1 y.1);
-          shows = ap (λ q. more_items q (shown y.0)) g.shows ∙ ap (more_items _) shows ∙ sym is;
+          shows = joined_items g.parse.0 p y.0 ∙ ap (λ q. more_items q (shown y.0)) g.shows ∙ ap (λ q. more_items items q) shows ∙ sym is;
           some = omega (arith, some);
           fits = omega (arith, few, fits);
-          goes_on = λ r tail. g.goes_on r (chains.more (list arguments) (operators_apart (list arguments)) (comma arguments) p e g.some enough (chains.next_found (list arguments) g.parse (comma arguments) p refl enough found tail));
+          goes_on = λ r tail. g.goes_on r (chains.more (list arguments) (operators_apart (list arguments)) (comma arguments) p e g.some enough (chains.next_found (list arguments) g.parse (comma arguments) p up enough found tail));
         }
 
   pub finish : {items : Listed (List HostTerm)} {rest : List Lexeme} → Gathering room ts items rest → ((p : ℕ) (s : List Lexeme) → rest ≡ sign signs.Comma p ∷ s → ⊥) → Reads (series (list arguments)) shown_list room ts (Ok (items, rest))
@@ -79,18 +92,19 @@ no_enclosed {l} ts none = refused_first (Of (enclosed l)) ts (λ a y z h _ b. le
     go (empty m p q) s e = none p s e
     go (full m p es q) s e = none p s e
 
+-- what stands behind the items
+abbrev Behind : (l : Listing) → ℕ → Parse (series (list l)) × ℕ → Language Lexeme (Parse (enclosed l) × ℕ)
+Behind l p x = Seq grammar 0 (one (a_sign signs.Close) ∷ []) (λ vs. full l p x.0 vs.0) (max 0 x.1)
+
+least_behind : (l : Listing) (p : ℕ) (x : Parse (series (list l)) × ℕ) → Least (0 + max 0 x.1) (Behind l p x)
+least_behind l p x = least_seq grammar 0 (one (a_sign signs.Close) ∷ []) (λ vs. full l p x.0 vs.0) (max 0 x.1)
+
 -- the first item was refused, or one behind it was; where there is no room, none fits
 pub full_stop : {l : Listing} {p room : ℕ} {ts : List Lexeme} {e : Stop} → Right (Of (series (list l))) (Within room) (Stops (series (list l))) ts (Err e) → Right (Sequence grammar 0 (part (series (list l)) ∷ one (a_sign signs.Close) ∷ []) (λ vs. full l p vs.0 vs.1.0) 0) (Within room) (Stops (enclosed l)) ts (Err e)
 full_stop {l} {p} {room} right =
     by_production (Seq grammar 0 (part (series (list l)) ∷ one (a_sign signs.Close) ∷ []) (λ vs. full l p vs.0 vs.1.0) 0) (Sequence grammar 0 (part (series (list l)) ∷ one (a_sign signs.Close) ∷ []) (λ vs. full l p vs.0 vs.1.0) 0)
     (λ a y h. record { by = h }) (λ a y z h _ _. h.by)
-    (bind_stop {B = Behind} (λ x b y z h hz. subst (λ t. Stops (series (list l)) (t ++ z)) (sym (built 0 (one (a_sign signs.Close) ∷ []) (λ vs. full l p x.0 vs.0) (max 0 x.1) b y h).are) refl)
-    (λ x b y h fits. let n = (least_behind x).above b y h in omega (arith, n, fits))
-    (λ a x h fits. least_alive (max 0 x.1) room (Behind x) (omega (arith, fits)) (least_behind x))
-    (λ a x h. least_ever (max 0 x.1) (Behind x) (least_behind x)) right)
-  where
-    abbrev Behind : Parse (series (list l)) × ℕ → Language Lexeme (Parse (enclosed l) × ℕ)
-    Behind x = Seq grammar 0 (one (a_sign signs.Close) ∷ []) (λ vs. full l p x.0 vs.0) (max 0 x.1)
-
-    least_behind : (x : Parse (series (list l)) × ℕ) → Least (max 0 x.1) (Behind x)
-    least_behind x = least_seq grammar 0 (one (a_sign signs.Close) ∷ []) (λ vs. full l p x.0 vs.0) (max 0 x.1)
+    (bind_stop {B = Behind l p} (λ x b y z h hz. subst (λ t. Stops (series (list l)) (t ++ z)) (sym (built 0 (one (a_sign signs.Close) ∷ []) (λ vs. full l p x.0 vs.0) (max 0 x.1) b y h).are) refl)
+    (λ x b y h fits. let n = (least_behind l p x).above b y h in omega (arith, n, fits))
+    (λ a x h fits. least_alive (0 + max 0 x.1) room (Behind l p x) (omega (arith, fits)) (least_behind l p x))
+    (λ a x h. least_ever (0 + max 0 x.1) (Behind l p x) (least_behind l p x)) right)

@@ -7,7 +7,6 @@ use Rattle.task_syntax.specs.declared.symbol.Symbol.TheVariants as signs
 use Rattle.exact_reading.specs.declared.stop.Stop.{Stop}
 use Rattle.program_grammar.specs.Lexemes.{Lexeme, word, sign, number, quote}
 use Rattle.program_grammar.specs.Grammar.{atom, Parse, truth, digits, quoted, constant}
-use Rattle.program_grammar.specs.Meaning.{meaning}
 use Rattle.program_grammar.specs.Languages.{Reads}
 use Rattle.program_grammar.specs.Parts.{Shown, shown}
 
@@ -27,12 +26,12 @@ literal_atom (a_number t) p = digits t p
 literal_atom (a_text t v) p = quoted t v p
 literal_atom (a_truth b) p = constant b p
 
--- none of them stands first; or one does, with this value at this place, and the rest follows it
+-- none of them stands first; or one does, which shows this, and the rest follows it
 abbrev pub NoLiteral : List Lexeme → Type 0
 NoLiteral ts = (l : Literal) (p : ℕ) (rest : List Lexeme) → ts ≡ literal_token l p ∷ rest → ⊥
 
-abbrev pub IsLiteral : List Lexeme → HostTerm → ℕ → List Lexeme → Type 0
-IsLiteral ts value p rest = (l : Literal) × (ts ≡ literal_token l p ∷ rest) × (meaning (literal_atom l p) ≡ value)
+abbrev pub IsLiteral : List Lexeme → Shown HostTerm → List Lexeme → Type 0
+IsLiteral ts node rest = (l : Literal) × (p : ℕ) × (ts ≡ literal_token l p ∷ rest) × (shown (literal_atom l p) ≡ node)
 
 -- none of the atoms without an expression inside that don't begin as others do: literals, what stands at a reference, `nil`
 pub record NoSimple (ts : List Lexeme) : Type 0 where

@@ -60,9 +60,9 @@ fn named<'t>(
     requires { 1 ≤ room }
     ensures { Reads grammar.atom shown room (terms.name name.now place ∷ lexemes tokens.now) (seen (λ r. (shown_host r.0, lexemes r.1.now)) result) }
 {
-    if strip_sign(tokens, Symbol::Open).is_none() {
+    let Some(_) = strip_sign(tokens, Symbol::Open) else {
         return Ok((Node::named(alloc, name, place)?, tokens));
-    }
+    };
     let (items, rest) = enclosed(alloc, room - 1, tokens)?;
     Ok((items.call(alloc, name, place)?, rest))
 }
@@ -104,5 +104,5 @@ fn elements<'t>(
 {
     let (items, rest) = arguments(alloc, room - 1, tokens)?;
     let (_, rest) = expect_sign(rest, Symbol::CloseBracket)?;
-    Ok((items.elements(place)?, rest))
+    Ok((items.elements(alloc, place)?, rest))
 }

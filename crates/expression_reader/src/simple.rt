@@ -1,4 +1,3 @@
-ghost use Rattle.std.specs.Prelude.{map};
 ghost use Rattle.program_grammar.specs.Parts.{lexemes, shown_host};
 ghost use Rattle.expression_reader.specs.Literals.{ReadsSimple, seen_simple};
 
@@ -17,11 +16,11 @@ pub fn simple<'t>(
 ) -> Result<Option<(Node<Host>, &'t [Located<'t>])>, Stop>
     ensures { ReadsSimple room (lexemes tokens.now) (seen_simple (λ r. (shown_host r.0, lexemes r.1.now)) result) }
 {
-    if let Some((value, place, rest)) = literal(alloc, tokens)? {
+    if let Some((node, rest)) = literal(alloc, tokens)? {
         if room < 1 {
             return Err(too_nested(tokens));
         }
-        return Ok(Some((Node::leaf(alloc, value, place)?, rest)));
+        return Ok(Some((node, rest)));
     }
     if let Some((place, rest)) = strip_sign(tokens, Symbol::Bang) {
         if room < 1 {

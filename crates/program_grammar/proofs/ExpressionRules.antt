@@ -112,12 +112,12 @@ abbrev pub prefix_rule : (o : Prefix) (p : ℕ) → Rule operand 1 (prefix o p)
 prefix_rule o p = record { some = tt; symbols = prefix_symbols; build = λ vs. prefixed o p vs.0; tokens_are = λ vs. refl; levels_are = λ vs. omega arith; back = prefix_back o p }
 
 -- an operand that begins with none of them
-pub as_atom : (ts : List Lexeme) → ((o : Prefix) (p : ℕ) (s : List Lexeme) → ts ≡ prefix o p ∷ s → ⊥) → Passing operand atom ts
-as_atom ts none = record { some = tt; pass = unprefixed; tokens_are = λ d. refl; levels_are = λ d. refl; within = omega arith; back = back }
-  where
-    back : (d : Parse operand) (s : List Lexeme) → ts ≡ head d ∷ s → (e : Parse atom) × (unprefixed e ≡ d)
-    back (prefixed o p a) s e = absurd (none o p s e)
-    back (unprefixed a) s e = (a, refl)
+pub atom_back : (ts : List Lexeme) → ((o : Prefix) (p : ℕ) (s : List Lexeme) → ts ≡ prefix o p ∷ s → ⊥) → (d : Parse operand) (s : List Lexeme) → ts ≡ head d ∷ s → (e : Parse atom) × (unprefixed e ≡ d)
+atom_back ts none (prefixed o p a) s e = absurd (none o p s e)
+atom_back ts none (unprefixed a) s e = (a, refl)
+
+abbrev pub as_atom : (ts : List Lexeme) → ((o : Prefix) (p : ℕ) (s : List Lexeme) → ts ≡ prefix o p ∷ s → ⊥) → Passing operand atom ts
+as_atom ts none = record { some = tt; pass = unprefixed; tokens_are = λ d. refl; levels_are = λ d. refl; within = omega arith; back = atom_back ts none }
 
 -- ---- comparisons
 told_relation : Symbol → Relation
@@ -143,13 +143,13 @@ Related = Relation × ℕ
 abbrev pub related : Related → Lexeme
 related l = sign (relation l.0) l.1
 
-related_apart : (l m : Related) → related l ≡ related m → l ≡ m
+pub related_apart : (l m : Related) → related l ≡ related m → l ≡ m
 related_apart l m e =
     let same : relation l.0 ≡ relation m.0 = cc in
     let place_is : l.1 ≡ m.1 = cc in
     ap (λ o. (o, l.1)) (sym (relation_told l.0) ∙ ap told_relation same ∙ relation_told m.0) ∙ ap (λ p. (m.0, p)) place_is
 
-related_past : (l : Related) → stops_at 4 (rank (related l)) ≡ true
+pub related_past : (l : Related) → stops_at 4 (rank (related l)) ≡ true
 related_past (equal, p) = refl
 related_past (unequal, p) = refl
 related_past (less, p) = refl
@@ -157,7 +157,7 @@ related_past (less_equal, p) = refl
 related_past (greater, p) = refl
 related_past (greater_equal, p) = refl
 
-related_goes_on : (l : Related) → stops_at 5 (rank (related l)) ≡ false
+pub related_goes_on : (l : Related) → stops_at 5 (rank (related l)) ≡ false
 related_goes_on (equal, p) = refl
 related_goes_on (unequal, p) = refl
 related_goes_on (less, p) = refl
@@ -168,11 +168,11 @@ related_goes_on (greater_equal, p) = refl
 abbrev pub listed_symbols : List (Sym grammar)
 listed_symbols = part listed ∷ []
 
-comparison_cases : (d : Parse comparison) → ((e : Parse listed) × (uncompared e ≡ d)) ⊎ ((e : Parse listed) × (l : Related) × (vs : Values grammar listed_symbols) × (compared e l.0 l.1 vs.0 ≡ d))
+pub comparison_cases : (d : Parse comparison) → ((e : Parse listed) × (uncompared e ≡ d)) ⊎ ((e : Parse listed) × (l : Related) × (vs : Values grammar listed_symbols) × (compared e l.0 l.1 vs.0 ≡ d))
 comparison_cases (uncompared a) = inl (a, refl)
 comparison_cases (compared a o p b) = inr (a, (o, p), (b, tt), refl)
 
-pub comparisons : Optional comparison listed
+abbrev pub comparisons : Optional comparison listed
 comparisons = record {
   bare = uncompared;
   bare_tokens = λ d. refl;
@@ -191,11 +191,11 @@ comparisons = record {
 }
 
 -- ---- one more element in front of a list
-listed_cases : (d : Parse listed) → ((e : Parse (series sum)) × (unlisted e ≡ d)) ⊎ ((e : Parse (series sum)) × (p : ℕ) × (vs : Values grammar listed_symbols) × (cons e p vs.0 ≡ d))
+pub listed_cases : (d : Parse listed) → ((e : Parse (series sum)) × (unlisted e ≡ d)) ⊎ ((e : Parse (series sum)) × (p : ℕ) × (vs : Values grammar listed_symbols) × (cons e p vs.0 ≡ d))
 listed_cases (unlisted a) = inl (a, refl)
 listed_cases (cons a p b) = inr (a, p, (b, tt), refl)
 
-pub listings : Optional listed (series sum)
+abbrev pub listings : Optional listed (series sum)
 listings = record {
   bare = unlisted;
   bare_tokens = λ d. refl;
@@ -268,13 +268,13 @@ case_rule p = record { some = tt; symbols = case_symbols; build = case_build p; 
 
 -- an expression that begins with none of these words
 module _ (ts : List Lexeme) (no_let : (p : ℕ) (s : List Lexeme) → ts ≡ word words.Let p ∷ s → ⊥) (no_if : (p : ℕ) (s : List Lexeme) → ts ≡ word words.If p ∷ s → ⊥) (no_case : (p : ℕ) (s : List Lexeme) → ts ≡ word words.Case p ∷ s → ⊥) where
-  plain_back : (d : Parse expression) (s : List Lexeme) → ts ≡ head d ∷ s → (e : Parse (series either)) × (plain e ≡ d)
+  pub plain_back : (d : Parse expression) (s : List Lexeme) → ts ≡ head d ∷ s → (e : Parse (series either)) × (plain e ≡ d)
   plain_back (let_in q x r i e t d) s h = absurd (no_let q s h)
   plain_back (if_then q e r a i b) s h = absurd (no_if q s h)
   plain_back (case_of o e q r i a d b x l j y k c u) s h = absurd (no_case o s h)
   plain_back (plain e) s h = (e, refl)
 
-  pub as_series : Passing expression (series either) ts
+  abbrev pub as_series : Passing expression (series either) ts
   as_series = record { some = tt; pass = plain; tokens_are = λ d. refl; levels_are = λ d. refl; within = omega arith; back = plain_back }
 
 -- ---- atoms of one or more tokens that differ in the first

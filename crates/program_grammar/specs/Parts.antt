@@ -51,7 +51,7 @@ abbrev pub shown : {f : Form} → Parse f → Shown (Meaning f)
 shown d = record { term = meaning d; levels = levels d; start = start d; places = places d }
 
 abbrev pub shown_host : Node host.Host → Shown HostTerm
-shown_host n = record { term = host_term n.term; levels = n.levels; start = n.start; places = n.places.items }
+shown_host n = record { term = host_term n.term.value; levels = n.levels; start = n.start; places = n.places.items }
 
 -- ---- listings
 -- what a reader hands on of arguments or elements: a listing is no node, and starts nowhere

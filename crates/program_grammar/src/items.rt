@@ -34,7 +34,7 @@ impl Items {
         ensures memory { IfErr result (λ e. e ≡ Stop.Memory) }
     {
         let mut list = Row::new(alloc);
-        if list.push(first.term).is_err() {
+        if list.push(Box::into_inner(first.term)).is_err() {
             return Err(Stop::Memory);
         }
         Ok(Items {
@@ -54,7 +54,7 @@ impl Items {
         let mut others = next.places;
         places.append(&mut others)?;
         let mut list = self.list;
-        if list.push(next.term).is_err() {
+        if list.push(Box::into_inner(next.term)).is_err() {
             return Err(Stop::Memory);
         }
         Ok(Items {
@@ -66,7 +66,7 @@ impl Items {
 
     /// The list of these elements, whose bracket stands here.
     #[tactic(auto, using(crate::proofs::RowTerms::list_term))]
-    pub fn elements(self, place: u64) -> Result<Node<Host>, Stop>
+    pub fn elements(self, alloc: Global, place: u64) -> Result<Node<Host>, Stop>
         requires { self.levels + 1 < 2 ^ 64 }
         ensures shown { IfOk result (λ r. shown_host r ≡ over_list (λ l. list_expr (as_exprs l)) place (shown_items self)) }
         ensures memory { IfErr result (λ e. e ≡ Stop.Memory) }
@@ -75,7 +75,7 @@ impl Items {
         let mut places = self.places;
         places.insert(0, place)?;
         Ok(Node {
-            term: Host::List(self.list),
+            term: Box::new(alloc, Host::List(self.list))?,
             levels,
             start: place,
             places,
@@ -92,11 +92,12 @@ impl Items {
         let mut places = self.places;
         places.insert(0, place)?;
         let name = name_text(alloc, name)?;
+        let host = Host::Call {
+            name,
+            args: self.list,
+        };
         Ok(Node {
-            term: Host::Call {
-                name,
-                args: self.list,
-            },
+            term: Box::new(alloc, host)?,
             levels,
             start: place,
             places,

@@ -9,10 +9,10 @@ use exact_reading::Stop;
 use std::alloc::Global;
 use task_model::{Host, Op, TaskText};
 
-/// What was read, its levels, the place of its first token, and the places of its nodes in pre-order.
+/// What was read, in a box, so that it is cheap to move and to let go, its levels, the place of its first token, and the places of its nodes in pre-order.
 #[derive(Drop)]
 pub struct Node<T: Drop> {
-    pub term: T,
+    pub term: Box<T>,
     pub levels: usize,
     pub start: u64,
     pub places: Vec<u64>,
@@ -65,6 +65,7 @@ impl Node<Host> {
         ensures shown { IfOk result (λ r. shown_host r ≡ leaf_host (host_term term) place) }
         ensures memory { IfErr result (λ e. e ≡ Stop.Memory) }
     {
+        let term = Box::new(alloc, term)?;
         let mut places = Vec::new(alloc);
         places.push(place)?;
         Ok(Node {
@@ -84,9 +85,9 @@ impl Node<Host> {
         let levels = 1 + self.levels;
         let mut places = self.places;
         places.insert(0, place)?;
-        let operand = Box::new(alloc, self.term)?;
+        let term = Box::new(alloc, prefix.applied(self.term))?;
         Ok(Node {
-            term: prefix.applied(operand),
+            term,
             levels,
             start: place,
             places,
@@ -103,10 +104,13 @@ impl Node<Host> {
         let levels = 1 + self.levels.max(right.levels);
         let start = self.start;
         let places = joined(start, self.places, right.places)?;
-        let left = Box::new(alloc, self.term)?;
-        let right = Box::new(alloc, right.term)?;
+        let host = Host::Op {
+            op,
+            left: self.term,
+            right: right.term,
+        };
         Ok(Node {
-            term: Host::Op { op, left, right },
+            term: Box::new(alloc, host)?,
             levels,
             start,
             places,
@@ -122,10 +126,8 @@ impl Node<Host> {
     {
         let levels = 1 + self.levels.max(second.levels);
         let places = joined(place, self.places, second.places)?;
-        let left = Box::new(alloc, self.term)?;
-        let right = Box::new(alloc, second.term)?;
         Ok(Node {
-            term: Host::Pair(left, right),
+            term: Box::new(alloc, Host::Pair(self.term, second.term))?,
             levels,
             start: place,
             places,
@@ -169,14 +171,8 @@ impl Node<Host> {
         ensures memory { IfErr result (λ e. e ≡ Stop.Memory) }
     {
         let levels = 1 + item.levels;
-        let mut places = Vec::new(alloc);
-        places.push(place)?;
-        Ok(Node {
-            term: Host::Nil(item.basic),
-            levels,
-            start: place,
-            places,
-        })
+        let node = Node::leaf(alloc, Host::Nil(item.basic), place)?;
+        Ok(Node { levels, ..node })
     }
 
     /// `let`, which stands here, of this value.
@@ -195,10 +191,13 @@ impl Node<Host> {
         let levels = 1 + self.levels.max(rest.levels);
         let places = joined(place, self.places, rest.places)?;
         let name = name_text(alloc, name)?;
-        let bound = Box::new(alloc, self.term)?;
-        let rest = Box::new(alloc, rest.term)?;
+        let host = Host::Let {
+            name,
+            bound: self.term,
+            rest: rest.term,
+        };
         Ok(Node {
-            term: Host::Let { name, bound, rest },
+            term: Box::new(alloc, host)?,
             levels,
             start: place,
             places,
@@ -221,11 +220,13 @@ impl Node<Host> {
     {
         let levels = 1 + self.levels.max(yes.levels.max(no.levels));
         let places = threefold(place, self.places, yes.places, no.places)?;
-        let test = Box::new(alloc, self.term)?;
-        let yes = Box::new(alloc, yes.term)?;
-        let no = Box::new(alloc, no.term)?;
+        let host = Host::If {
+            test: self.term,
+            yes: yes.term,
+            no: no.term,
+        };
         Ok(Node {
-            term: Host::If { test, yes, no },
+            term: Box::new(alloc, host)?,
             levels,
             start: place,
             places,
@@ -250,38 +251,20 @@ impl Node<Host> {
     {
         let levels = 1 + self.levels.max(empty.levels.max(more.levels));
         let places = threefold(place, self.places, empty.places, more.places)?;
-        let term = case_host(alloc, self.term, empty.term, head, tail, more.term)?;
+        let head = name_text(alloc, head)?;
+        let tail = name_text(alloc, tail)?;
+        let host = Host::Case {
+            list: self.term,
+            empty: empty.term,
+            head,
+            tail,
+            more: more.term,
+        };
         Ok(Node {
-            term,
+            term: Box::new(alloc, host)?,
             levels,
             start: place,
             places,
         })
     }
-}
-
-/// `case` of these parts.
-fn case_host(
-    alloc: Global,
-    list: Host,
-    empty: Host,
-    head: &str,
-    tail: &str,
-    more: Host,
-) -> Result<Host, Stop>
-    ensures term { IfOk result (λ r. host_term r ≡ case_expr (host_term list) (host_term empty) head.now tail.now (host_term more)) }
-    ensures memory { IfErr result (λ e. e ≡ Stop.Memory) }
-{
-    let head = name_text(alloc, head)?;
-    let tail = name_text(alloc, tail)?;
-    let list = Box::new(alloc, list)?;
-    let empty = Box::new(alloc, empty)?;
-    let more = Box::new(alloc, more)?;
-    Ok(Host::Case {
-        list,
-        empty,
-        head,
-        tail,
-        more,
-    })
 }
