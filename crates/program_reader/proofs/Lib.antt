@@ -1,0 +1,4 @@
+pub mod TaskRules
+pub mod TailLemmas
+pub mod StepRules
+pub mod NumberLemmas
