@@ -91,6 +91,8 @@ bodies_next (single chain t) scope next = bodies_next t scope next
 bodies_next (joined choice t internal p u) scope next = ap (λ n. bodies_of t scope (suc next) ++ bodies_of u scope n) (later next (bodies t)) ∙ both _ _ _ _ (bodies_next t scope next) (bodies_next u scope (next + bodies t))
 bodies_next (joined choice t external p u) scope next =
     ap (λ n. (record { scope = scope; binder = None; task = meaning t (suc (suc next)) } ∷ bodies_of t scope (suc (suc next))) ++ (record { scope = scope; binder = None; task = meaning u (suc (suc n)) } ∷ bodies_of u scope (suc (suc n)))) (later next (bodies t))
-    ∙ both _ _ _ _ (behind _ _ _ _ _ _ (term_next t (suc next)) (bodies_next t scope (suc next))) (behind _ _ _ _ _ _ (term_next u (suc (suc (next + bodies t)))) (bodies_next u scope (suc (suc (next + bodies t)))))
+    ∙ both (record { scope = scope; binder = None; task = meaning t (suc (suc next)) } ∷ bodies_of t scope (suc (suc next))) (record { scope = scope; binder = None; task = meaning u (suc (suc (suc (next + bodies t)))) } ∷ bodies_of u scope (suc (suc (suc (next + bodies t)))))
+    (record { scope = scope; binder = None; task = meaning t (suc next) } ∷ bodies_of t scope (suc next)) (record { scope = scope; binder = None; task = meaning u (suc (suc (next + bodies t))) } ∷ bodies_of u scope (suc (suc (next + bodies t))))
+    (behind _ _ _ _ _ _ (term_next t (suc next)) (bodies_next t scope (suc next))) (behind _ _ _ _ _ _ (term_next u (suc (suc (next + bodies t)))) (bodies_next u scope (suc (suc (next + bodies t)))))
 bodies_next (joined chain t o p u) scope next = ap (λ n. bodies_of t scope (suc next) ++ bodies_of u scope n) (later next (bodies t)) ∙ both _ _ _ _ (bodies_next t scope next) (bodies_next u scope (next + bodies t))
 bodies_next d scope next = refl

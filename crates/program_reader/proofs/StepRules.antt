@@ -18,7 +18,7 @@ use Rattle.program_grammar.specs.Languages.{Of, Stops, stops_at, rank}
 use Rattle.program_grammar.proofs.GrammarLemmas.{grammar, head, head_first, known_head, begins_head, least_levels, smallest, a_word, a_sign, a_name}
 use Rattle.program_grammar.proofs.RuleLemmas.{tokens_of, built, build_up}
 use Rattle.program_reader.proofs.TailLemmas.{Optional, Those}
-use Rattle.program_reader.specs.Works.{IsStepping}
+use Rattle.program_reader.specs.Works.{IsStepping, Stepping}
 
 -- ---- a choice, and then perhaps a step
 abbrev pub Stepped : Type 0
@@ -81,9 +81,6 @@ steps = record {
   goes_on = stepped_goes_on;
   apart = stepped_apart;
 }
-
-abbrev pub Stepping : Language Lexeme (Parse task × ℕ)
-Stepping ts x = Of task ts x × IsStepping x.0
 
 -- ---- the tokens begin with none of the words of tasks, and with no name
 module _ (ts : List Lexeme) (no_let : (p : ℕ) (s : List Lexeme) → ts ≡ word words.Let p ∷ s → ⊥) (no_if : (p : ℕ) (s : List Lexeme) → ts ≡ word words.If p ∷ s → ⊥) (no_case : (p : ℕ) (s : List Lexeme) → ts ≡ word words.Case p ∷ s → ⊥) (no_new : (p : ℕ) (s : List Lexeme) → ts ≡ word words.New p ∷ s → ⊥) (no_name : (x : Text) (p : ℕ) (s : List Lexeme) → ts ≡ name x p ∷ s → ⊥) where

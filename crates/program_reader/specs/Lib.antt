@@ -1,2 +1,4 @@
 pub mod Numbers
+pub mod Signs
+pub mod Stub
 pub mod Works

@@ -1,4 +1,4 @@
-ghost use Rattle.std.specs.Prelude.{◌≡◌, ◌+◌, ◌++◌, map, IfOk, OnOk};
+ghost use Rattle.std.specs.Prelude.{◌≡◌, ◌+◌, ◌++◌, map, IfOk, IfErr, OnOk};
 ghost use Rattle.task_model.specs.Task.{task_term, body_term};
 ghost use Rattle.program_reader.specs.Numbers.{renumbered, body_renumbered};
 
@@ -7,7 +7,8 @@ use task_model::{Body, Task};
 
 /// The number behind so many more bodies. No memory holds as many bodies as have no numbers.
 pub(crate) fn number_after(next: u32, bodies: usize) -> Result<u32, Stop>
-    ensures { IfOk result (λ number. number ≡ next + bodies) }
+    ensures number { IfOk result (λ number. number ≡ next + bodies) }
+    ensures memory { IfErr result (λ e. e ≡ Stop.Memory) }
 {
     let Ok(bodies) = u32::try_from(bodies) else {
         return Err(Stop::Memory);
@@ -20,7 +21,8 @@ pub(crate) fn number_after(next: u32, bodies: usize) -> Result<u32, Stop>
 
 /// Gives each body of a task the next number.
 pub(crate) fn renumber(task: &mut Task) -> Result<(), Stop>
-    ensures { OnOk result (task_term task.new ≡ renumbered (task_term task.old)) }
+    ensures term { OnOk result (task_term task.new ≡ renumbered (task_term task.old)) }
+    ensures memory { IfErr result (λ e. e ≡ Stop.Memory) }
 {
     match task {
         Task::Then { left, body } => {
@@ -61,7 +63,8 @@ pub(crate) fn renumber(task: &mut Task) -> Result<(), Stop>
 
 /// Puts these bodies behind others, with the next number for each body in them.
 pub(crate) fn put_renumbered(onto: &mut Vec<Body>, bodies: Vec<Body>) -> Result<(), Stop>
-    ensures { OnOk result (map body_term onto.new.items ≡ map body_term onto.old.items ++ map body_renumbered (map body_term bodies.items)) }
+    ensures terms { OnOk result (map body_term onto.new.items ≡ map body_term onto.old.items ++ map body_renumbered (map body_term bodies.items)) }
+    ensures memory { IfErr result (λ e. e ≡ Stop.Memory) }
 {
     for body in bodies {
         let mut body = body;

@@ -1,7 +1,7 @@
-ghost use Rattle.std.specs.Prelude.{◌≡◌, [], ◌∷◌, ◌++◌, IfOk, map};
+ghost use Rattle.std.specs.Prelude.{◌≡◌, [], ◌∷◌, ◌++◌, IfOk, IfErr, map};
 
-use crate::memory::text_of;
 use exact_reading::Stop;
+use crate::stub::name_text;
 use std::alloc::Global;
 use task_model::{Param, Row, TaskText};
 
@@ -27,7 +27,8 @@ impl<'p, 't> Scope<'p, 't> {
 
     /// The scope behind a binder of this name.
     pub(crate) fn inside(&self, alloc: Global, name: &'t str) -> Result<Scope<'p, 't>, Stop>
-        ensures { IfOk result (λ s. scope_of s ≡ scope_of self.now ++ name.now ∷ []) }
+        ensures scope { IfOk result (λ s. scope_of s ≡ scope_of self.now ++ name.now ∷ []) }
+        ensures memory { IfErr result (λ e. e ≡ Stop.Memory) }
     {
         let mut bound = Vec::new(alloc);
         bound.extend_from_slice(self.bound.as_slice())?;
@@ -40,17 +41,18 @@ impl<'p, 't> Scope<'p, 't> {
 
     /// The names, as a body keeps them.
     pub(crate) fn names(&self, alloc: Global) -> Result<Row<TaskText>, Stop>
-        ensures { IfOk result (λ names. names.list ≡ scope_of self.now) }
+        ensures names { IfOk result (λ names. names.list ≡ scope_of self.now) }
+        ensures memory { IfErr result (λ e. e ≡ Stop.Memory) }
     {
         let mut names = Row::new(alloc);
         for parameter in self.parameters {
-            let name = text_of(alloc, parameter.name.as_str())?;
+            let name = name_text(alloc, parameter.name.as_str())?;
             if names.push(name).is_err() {
                 return Err(Stop::Memory);
             }
         }
         for bound in self.bound.as_slice() {
-            let name = text_of(alloc, bound)?;
+            let name = name_text(alloc, bound)?;
             if names.push(name).is_err() {
                 return Err(Stop::Memory);
             }

@@ -1,0 +1,49 @@
+ghost use Rattle.std.specs.Prelude.{◌≡◌, ℕ, List, ◌∷◌, MatchOption, IfOk, IfErr};
+ghost use Rattle.program_grammar.specs.Lexemes as terms;
+ghost use Rattle.program_grammar.specs.Grammar as grammar;
+ghost use Rattle.program_grammar.specs.Parts.{lexemes};
+ghost use Rattle.program_reader.specs.Signs.{choice_term};
+
+use crate::numbers::number_after;
+use exact_reading::Stop;
+use program_grammar::{Located, strip_sign};
+use task_syntax::Symbol;
+
+/// Who chooses between two tasks: the one that has a value, or the user.
+#[derive(Clone, Copy, Debug, PartialEq, Eq)]
+pub(crate) enum Choice {
+    Internal,
+    External,
+}
+
+impl Choice {
+    ghost use Rattle.program_reader.specs.Works.{choice_number};
+
+    /// The number of the first body of the right side, where the left side has so many.
+    pub(crate) fn number(self, next: u32, many: usize) -> Result<u32, Stop>
+        ensures number { IfOk result (λ number. number ≡ choice_number (choice_term self) next many) }
+        ensures memory { IfErr result (λ e. e ≡ Stop.Memory) }
+    {
+        match self {
+            Choice::Internal => number_after(next, many),
+            Choice::External => number_after(number_after(next, many)?, 2),
+        }
+    }
+}
+
+/// The choice that stands first, if one does, its place, and what stands after it.
+pub(crate) fn choice_sign<'t>(
+    tokens: &'t [Located<'t>],
+) -> Option<(Choice, u64, &'t [Located<'t>])>
+    ensures { MatchOption result
+        ((o : grammar.Operator grammar.choice) (p : ℕ) (rest : List terms.Lexeme) → lexemes tokens.now ≡ grammar.operator o p ∷ rest → ⊥)
+        (λ r. lexemes tokens.now ≡ grammar.operator (choice_term r.0) r.1 ∷ lexemes r.2.now) }
+{
+    if let Some((place, rest)) = strip_sign(tokens, Symbol::InternalChoice) {
+        return Some((Choice::Internal, place, rest));
+    }
+    if let Some((place, rest)) = strip_sign(tokens, Symbol::ExternalChoice) {
+        return Some((Choice::External, place, rest));
+    }
+    None
+}
