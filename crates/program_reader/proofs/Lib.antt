@@ -4,3 +4,13 @@ pub mod StepRules
 pub mod NumberLemmas
 pub mod WorkSeries
 pub mod WorkLemmas
+pub mod ReadingLemmas
+pub mod DefinitionRules
+pub mod ProgramLemmas
+pub mod Respelled
+pub mod Spelled
+pub mod SourceLemmas
+pub mod ParameterLemmas
+pub mod DefinitionLemmas
+pub mod TokenLemmas
+pub mod TextLemmas

@@ -37,8 +37,8 @@ module _ (a_name : Text → Text) (a_number : Text → Text) (a_quote : Text →
   respelled_prefix snd p = refl
   respelled_prefix len p = refl
 
-  two : (as bs cs ds : List Lexeme) → as ≡ map respell cs → bs ≡ map respell ds → as ++ bs ≡ map respell (cs ++ ds)
-  two as bs cs ds h k = ap (λ l. l ++ bs) h ∙ ap (λ l. map respell cs ++ l) k ∙ sym (map-append respell cs ds)
+  two : (ws bs cs ds : List Lexeme) → ws ≡ map respell cs → bs ≡ map respell ds → ws ++ bs ≡ map respell (cs ++ ds)
+  two ws bs cs ds h k = ap (λ l. l ++ bs) h ∙ ap (λ l. map respell cs ++ l) k ∙ sym (map-append respell cs ds)
 
   abbrev pub respelled : {f : Form} → Parse f → Parse f
   respelled no_definitions = no_definitions

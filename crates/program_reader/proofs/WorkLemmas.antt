@@ -75,6 +75,10 @@ module _ (scope : List Text) (next : ℕ) where
     bodies = left.bodies ++ (record { scope = scope; binder = Some x; task = right.term } ∷ right.bodies);
   }
 
+  pub chosen_levels : (o : Operator choice) (t u : ShownWork) → (chosen_work scope next o t u).levels ≡ 1 + max t.levels u.levels
+  chosen_levels internal t u = refl
+  chosen_levels external t u = refl
+
   pub step_shown : {number : ℕ} {left right : ShownWork} (t : Parse (series choice)) (o : Step) (p : ℕ) (x : Text) (q r : ℕ) (u : Parse task) → number ≡ suc (next + length left.bodies) → shown_choice scope next t ≡ left → shown_task (scope ++ x ∷ []) number u ≡ right → shown_task scope next (task_step t o p x q r u) ≡ step_work scope next o x left right
   step_shown {number = number} {left = left} {right = right} t o p x q r u n et eu =
       let count : length left.bodies ≡ bodies t = ap (λ q. length q.bodies) (sym et) ∙ bodies_count t scope next in

@@ -3,7 +3,7 @@ use Rattle.std.specs.Prelude.{◌≡◌, ℕ, ◌+◌, List, [], ◌∷◌, ◌+
 use Rattle.task_model.specs.Task.{BodyTerm, body_term}
 use Rattle.task_model.specs.Program.{ParamTerm, param_term, DefTerm, def_term}
 use Rattle.program_reader.specs.declared.parameters.Parameters.{Parameters}
-use Rattle.program_reader.specs.declared.definition.Definition.{Definition}
+use Rattle.program_reader.specs.declared.definition.ReadDefinition.{ReadDefinition}
 use Rattle.program_reader.specs.declared.program.Definitions.{Definitions}
 use Rattle.program_grammar.specs.Grammar.{Form, program, definition, parameter, series, list, enclosed, parameters, Parse}
 use Rattle.program_grammar.specs.Meaning.{meaning, bodies, bodies_of}
@@ -31,7 +31,7 @@ pub record ShownDefinition : Type 0 where
 abbrev pub shown_meaning : ℕ → Parse definition → ShownDefinition
 shown_meaning next d = record { def = meaning d next; places = places d; bodies = bodies_of d [] next }
 
-abbrev pub shown_definition : Definition → ShownDefinition
+abbrev pub shown_definition : ReadDefinition → ShownDefinition
 shown_definition r = record { def = def_term r.def; places = r.places.items; bodies = map body_term r.bodies.items }
 
 -- ---- a program

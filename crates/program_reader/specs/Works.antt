@@ -67,6 +67,10 @@ NoWord k ts = (p : ℕ) (rest : List Lexeme) → ts ≡ word k p ∷ rest → �
 abbrev pub NoSign : Symbol → List Lexeme → Type 0
 NoSign s ts = (p : ℕ) (rest : List Lexeme) → ts ≡ sign s p ∷ rest → ⊥
 
+-- this sign stands first
+abbrev pub IsSign : Symbol → List Lexeme → Type 0
+IsSign s ts = (p : ℕ) × (rest : List Lexeme) × (ts ≡ sign s p ∷ rest)
+
 abbrev pub shown_work : Work → ShownWork
 shown_work w = record { term = task_term w.task; levels = w.levels; start = w.start; places = w.places.items; bodies = map body_term w.bodies.items }
 

@@ -13,7 +13,36 @@ use std::alloc::Global;
 use task_model::{Body, Task};
 
 impl Work {
-    ghost use Rattle.program_reader.specs.Works.{offered_work, chosen_work, step_work};
+    ghost use Rattle.program_reader.specs.Works.{offered_work, chosen_work, choice_number, step_work};
+
+    /// The number behind this task's bodies, the first of which has this number.
+    pub(crate) fn number_after(&self, next: u32) -> Result<u32, Stop>
+        ensures number { IfOk result (λ number. number ≡ next + length (shown_work self.now).bodies) }
+        ensures memory { IfErr result (λ e. e ≡ Stop.Memory) }
+    {
+        number_after(next, self.bodies.len())
+    }
+
+    /// The number of the first body in what comes next, whose own number stands before it.
+    pub(crate) fn number_of_step(&self, next: u32) -> Result<u32, Stop>
+        ensures number { IfOk result (λ number. number ≡ suc (next + length (shown_work self.now).bodies)) }
+        ensures memory { IfErr result (λ e. e ≡ Stop.Memory) }
+    {
+        let body = self.number_after(next)?;
+        number_after(body, 1)
+    }
+
+    /// The number of the first body in the other side of a choice: where both sides are bodies, they have numbers too.
+    pub(crate) fn number_of_choice(&self, next: u32, choice: Choice) -> Result<u32, Stop>
+        ensures number { IfOk result (λ number. number ≡ choice_number (choice_term choice) next (length (shown_work self.now).bodies)) }
+        ensures memory { IfErr result (λ e. e ≡ Stop.Memory) }
+    {
+        let behind = self.number_after(next)?;
+        match choice {
+            Choice::Internal => Ok(behind),
+            Choice::External => number_after(behind, 2),
+        }
+    }
 
     /// This task and another one, of which the user takes one by `<?>`: both are bodies, the first of which has this number.
     fn offered(

@@ -1,11 +1,9 @@
-ghost use Rattle.std.specs.Prelude.{◌≡◌, ℕ, List, ◌∷◌, MatchOption, IfOk, IfErr};
+ghost use Rattle.std.specs.Prelude.{◌≡◌, ℕ, List, ◌∷◌, MatchOption};
 ghost use Rattle.program_grammar.specs.Lexemes as terms;
 ghost use Rattle.program_grammar.specs.Grammar as grammar;
 ghost use Rattle.program_grammar.specs.Parts.{lexemes};
 ghost use Rattle.program_reader.specs.Signs.{choice_term};
 
-use crate::numbers::number_after;
-use exact_reading::Stop;
 use program_grammar::{Located, strip_sign};
 use task_syntax::Symbol;
 
@@ -14,21 +12,6 @@ use task_syntax::Symbol;
 pub(crate) enum Choice {
     Internal,
     External,
-}
-
-impl Choice {
-    ghost use Rattle.program_reader.specs.Works.{choice_number};
-
-    /// The number of the first body of the right side, where the left side has so many.
-    pub(crate) fn number(self, next: u32, many: usize) -> Result<u32, Stop>
-        ensures number { IfOk result (λ number. number ≡ choice_number (choice_term self) next many) }
-        ensures memory { IfErr result (λ e. e ≡ Stop.Memory) }
-    {
-        match self {
-            Choice::Internal => number_after(next, many),
-            Choice::External => number_after(number_after(next, many)?, 2),
-        }
-    }
 }
 
 /// The choice that stands first, if one does, its place, and what stands after it.

@@ -21,7 +21,7 @@ use task_syntax::Symbol;
 
 /// A definition that was read, the places of its nodes in pre-order, and its bodies in the order in which their texts begin.
 #[derive(Drop)]
-pub(crate) struct Definition {
+pub(crate) struct ReadDefinition {
     pub(crate) def: Def,
     pub(crate) places: Vec<u64>,
     pub(crate) bodies: Vec<Body>,
@@ -33,7 +33,7 @@ fn function<'t>(
     room: usize,
     place: u64,
     tokens: &'t [Located<'t>],
-) -> Result<(Definition, &'t [Located<'t>]), Stop>
+) -> Result<(ReadDefinition, &'t [Located<'t>]), Stop>
     requires { 1 ≤ room }
     ensures { (next : ℕ) → Reads grammar.definition (shown_meaning next) room (terms.word words.Fun place ∷ lexemes tokens.now) (seen (λ r. (shown_definition r.0, lexemes r.1.now)) result) }
 {
@@ -53,7 +53,7 @@ fn function<'t>(
     };
     let bodies = Vec::new(alloc);
     Ok((
-        Definition {
+        ReadDefinition {
             def,
             places,
             bodies,
@@ -69,7 +69,7 @@ fn task_definition<'t>(
     next: u32,
     place: u64,
     tokens: &'t [Located<'t>],
-) -> Result<(Definition, &'t [Located<'t>]), Stop>
+) -> Result<(ReadDefinition, &'t [Located<'t>]), Stop>
     requires { 1 ≤ room }
     ensures { Reads grammar.definition (shown_meaning next) room (terms.word words.Task place ∷ lexemes tokens.now) (seen (λ r. (shown_definition r.0, lexemes r.1.now)) result) }
 {
@@ -90,7 +90,7 @@ fn task_definition<'t>(
     };
     let bodies = body.bodies;
     Ok((
-        Definition {
+        ReadDefinition {
             def,
             places,
             bodies,
@@ -107,7 +107,7 @@ pub(crate) fn definition<'t>(
     word: DefinitionWord,
     place: u64,
     tokens: &'t [Located<'t>],
-) -> Result<(Definition, &'t [Located<'t>]), Stop>
+) -> Result<(ReadDefinition, &'t [Located<'t>]), Stop>
     requires { 1 ≤ room }
     ensures { Reads grammar.definition (shown_meaning next) room (terms.word (word_of word) place ∷ lexemes tokens.now) (seen (λ r. (shown_definition r.0, lexemes r.1.now)) result) }
 {

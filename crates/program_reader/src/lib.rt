@@ -3,7 +3,11 @@
 
 mod bodies;
 mod choice;
+mod definition;
+mod definition_words;
 mod numbers;
+mod parameters;
+mod program;
 mod scope;
 mod step;
 mod stub;

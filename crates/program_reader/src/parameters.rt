@@ -74,7 +74,7 @@ fn parameter<'t>(
 }
 
 /// Parameters with commas between them, at least one.
-fn parameters<'t>(
+fn some_parameters<'t>(
     alloc: Global,
     room: usize,
     tokens: &'t [Located<'t>],
@@ -107,7 +107,7 @@ pub(crate) fn enclosed_parameters<'t>(
     if let Some((_, rest)) = strip_sign(rest, Symbol::Close) {
         return Ok((Parameters::none(alloc), rest));
     }
-    let (all, rest) = parameters(alloc, room, rest)?;
+    let (all, rest) = some_parameters(alloc, room, rest)?;
     let (_, rest) = expect_sign(rest, Symbol::Close)?;
     Ok((all, rest))
 }

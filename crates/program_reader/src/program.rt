@@ -1,11 +1,11 @@
-ghost use Rattle.std.specs.Prelude.{◌≡◌, ◌≤◌, [], IfOk, IfErr};
+ghost use Rattle.std.specs.Prelude.{◌≡◌, ◌≤◌, ◌+◌, [], length, IfOk, IfErr};
 ghost use Rattle.exact_reading.specs.Reading.{seen};
 ghost use Rattle.program_grammar.specs.Grammar as grammar;
 ghost use Rattle.program_grammar.specs.Languages.{Reads};
 ghost use Rattle.program_grammar.specs.Parts.{lexemes};
 ghost use Rattle.program_reader.specs.Definitions.{shown_definition, shown_program, shown_definitions, more_shown};
 
-use crate::definition::{Definition, definition};
+use crate::definition::{ReadDefinition, definition};
 use crate::definition_words::definition_word;
 use crate::numbers::number_after;
 use exact_reading::Stop;
@@ -33,8 +33,16 @@ impl Definitions {
         }
     }
 
+    /// The number behind the bodies of these definitions.
+    fn number_after(&self) -> Result<u32, Stop>
+        ensures number { IfOk result (λ number. number ≡ 0 + length (shown_definitions self.now).bodies) }
+        ensures memory { IfErr result (λ e. e ≡ Stop.Memory) }
+    {
+        number_after(0, self.bodies.len())
+    }
+
     /// These definitions, and one more behind them.
-    fn and(self, definition: Definition) -> Result<Definitions, Stop>
+    fn and(self, definition: ReadDefinition) -> Result<Definitions, Stop>
         ensures shown { IfOk result (λ r. shown_definitions r ≡ more_shown (shown_definitions self) (shown_definition definition)) }
         ensures memory { IfErr result (λ e. e ≡ Stop.Memory) }
     {
@@ -68,7 +76,7 @@ pub(crate) fn program<'t>(
     let mut all = Definitions::none(alloc);
     let mut rest = tokens;
     while let Some((word, place, after)) = definition_word(rest) {
-        let next = number_after(0, all.bodies.len())?;
+        let next = all.number_after()?;
         let (one, after) = definition(alloc, room, next, word, place, after)?;
         all = all.and(one)?;
         rest = after;

@@ -6,10 +6,9 @@ ghost use Rattle.program_grammar.specs.Lexemes as terms;
 ghost use Rattle.program_grammar.specs.Grammar as grammar;
 ghost use Rattle.program_grammar.specs.Languages.{Reads};
 ghost use Rattle.program_grammar.specs.Parts.{lexemes};
-ghost use Rattle.program_reader.specs.Works.{scope_of, shown_work, shown_task, shown_atom, shown_chain, shown_choice, Steps, NoWord};
+ghost use Rattle.program_reader.specs.Works.{scope_of, shown_work, shown_task, shown_atom, shown_chain, shown_choice, Steps, NoWord, IsSign};
 
 use crate::choice::choice_sign;
-use crate::numbers::number_after;
 use crate::scope::Scope;
 use crate::step::step_sign;
 use crate::stub::expression;
@@ -79,9 +78,9 @@ fn wordless<'t>(
     if room < 1 {
         return Err(too_nested(tokens));
     }
-    if strip_sign(rest, Symbol::Assign).is_none() {
+    let Some(_) = strip_sign(rest, Symbol::Assign) else {
         return stepped(alloc, room, scope, next, tokens);
-    }
+    };
     if room < 2 {
         return Err(too_nested(rest));
     }
@@ -148,7 +147,7 @@ fn tested<'t>(
     let (test, rest) = expression(alloc, room - 1, tokens)?;
     let (_, rest) = expect_word(rest, Keyword::Then)?;
     let (yes, rest) = task(alloc, room - 1, scope, next, rest)?;
-    let after = number_after(next, yes.bodies.len())?;
+    let after = yes.number_after(next)?;
     let (_, rest) = expect_word(rest, Keyword::Else)?;
     let (no, rest) = task(alloc, room - 1, scope, after, rest)?;
     Ok((yes.tested(alloc, place, test, no)?, rest))
@@ -173,13 +172,14 @@ fn cased<'t>(
     let (_, rest) = expect_sign(rest, Symbol::CloseBracket)?;
     let (_, rest) = expect_sign(rest, Symbol::Arrow)?;
     let (empty, rest) = task(alloc, room - 1, scope, next, rest)?;
-    let after = number_after(next, empty.bodies.len())?;
+    let after = empty.number_after(next)?;
     let (_, rest) = expect_sign(rest, Symbol::Bar)?;
     let (head, _, rest) = expect_name(rest)?;
     let (_, rest) = expect_sign(rest, Symbol::Cons)?;
     let (tail, _, rest) = expect_name(rest)?;
     let (_, rest) = expect_sign(rest, Symbol::Arrow)?;
-    let inside = scope.inside(alloc, head)?.inside(alloc, tail)?;
+    let behind = scope.inside(alloc, head)?;
+    let inside = behind.inside(alloc, tail)?;
     let (more, rest) = task(alloc, room - 1, &inside, after, rest)?;
     Ok((empty.cased(alloc, place, list, (head, tail), more)?, rest))
 }
@@ -194,7 +194,8 @@ fn changed<'t>(
     name: (&'t str, u64),
     tokens: &'t [Located<'t>],
 ) -> Result<(Work, &'t [Located<'t>]), Stop>
-    requires { 2 ≤ room }
+    requires room { 2 ≤ room }
+    requires assigned { IsSign signs.Assign (lexemes tokens.now) }
     ensures { Reads grammar.task (shown_task (scope_of scope.now) next) room (terms.name name.entry.0.now name.entry.1 ∷ lexemes tokens.now) (seen (λ r. (shown_work r.0, lexemes r.1.now)) result) }
 {
     let (_, rest) = expect_sign(tokens, Symbol::Assign)?;
@@ -224,7 +225,7 @@ fn stepped<'t>(
     }
     let (name, _, after) = expect_name(after)?;
     let (_, after) = expect_sign(after, Symbol::Dot)?;
-    let number = number_after(number_after(next, left.bodies.len())?, 1)?;
+    let number = left.number_of_step(next)?;
     let inside = scope.inside(alloc, name)?;
     let (right, after) = task(alloc, room - 1, &inside, number, after)?;
     Ok((left.followed(alloc, scope, next, step, name, right)?, after))
@@ -246,7 +247,7 @@ fn choice<'t>(
         if left.levels >= room {
             return Err(too_nested(rest));
         }
-        let number = choice.number(next, left.bodies.len())?;
+        let number = left.number_of_choice(next, choice)?;
         let (right, after) = chain(alloc, room - 1, scope, number, after)?;
         left = left.chosen(alloc, scope, next, choice, right)?;
         rest = after;
@@ -270,7 +271,7 @@ fn chain<'t>(
         if left.levels >= room {
             return Err(too_nested(rest));
         }
-        let number = number_after(next, left.bodies.len())?;
+        let number = left.number_after(next)?;
         let (right, after) = task_atom(alloc, room - 1, scope, number, after)?;
         left = left.and(alloc, right)?;
         rest = after;

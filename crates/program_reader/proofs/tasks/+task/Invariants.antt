@@ -1,4 +1,4 @@
-use Rattle.std.proofs.Common.{◌+◌, ◌*◌}
+use Rattle.std.proofs.Common.{◌+◌, ◌-◌, ◌*◌}
 use Rattle.program_grammar.specs.Grammar.{choice, chain}
 use Rattle.program_grammar.specs.Parts.{lexemes}
 use Rattle.program_reader.specs.Works.{scope_of, shown_work, shown_choice, shown_chain}
@@ -43,3 +43,9 @@ invariant-choice-loop-choice l = Going choice (shown_choice (scope_of l.scope) l
 
 abbrev pub invariant-chain-loop-after : goal.invariant-chain-loop-after
 invariant-chain-loop-after l = Going chain (shown_chain (scope_of l.scope) l.next) l.room (lexemes l.tokens) (shown_work l.left) (lexemes l.rest)
+
+abbrev pub decreases-choice-loop-choice : goal.decreases-choice-loop-choice
+decreases-choice-loop-choice l = l.room - l.left.levels
+
+abbrev pub decreases-chain-loop-after : goal.decreases-chain-loop-after
+decreases-chain-loop-after l = l.room - l.left.levels
