@@ -5,7 +5,7 @@ use Rattle.std.specs.Cmp.Lexicographic.{pointwise}
 use Rattle.std.proofs.lemmas.List.{map-append, length-map}
 use Rattle.task_model.specs.Text.{Text}
 use Rattle.task_model.specs.Program.{ProgramTerm}
-use Rattle.task_model.specs.Token.{TokenTerm}
+use Rattle.task_model.specs.Token.{TokenTerm, text_token}
 use Rattle.task_syntax.specs.declared.keyword.Keyword.{Keyword}
 use Rattle.task_syntax.specs.declared.keyword.Keyword.TheVariants as words
 use Rattle.task_syntax.specs.declared.symbol.Symbol.{Symbol}
@@ -39,6 +39,7 @@ told_symbol [] t = signs.Open
 told_symbol (k ∷ ks) t = if pointwise eqb (symbol_spelling k) t then k else told_symbol ks t
 
 keyword_told : (k : Keyword) → told_keyword every_keyword (keyword_spelling k) ≡ k
+unfolding told_keyword every_keyword
 keyword_told words.Fun = refl
 keyword_told words.Task = refl
 keyword_told words.Unit = refl
@@ -69,6 +70,7 @@ keyword_told words.Rem = refl
 keyword_told words.Nil = refl
 
 symbol_told : (s : Symbol) → told_symbol every_symbol (symbol_spelling s) ≡ s
+unfolding told_symbol every_symbol
 symbol_told signs.Open = refl
 symbol_told signs.Close = refl
 symbol_told signs.OpenBracket = refl
@@ -110,10 +112,13 @@ one_token (sign k p) (sign j q) e =
     let same : symbol_spelling k ≡ symbol_spelling j = ap (λ x. x.spelling) e in
     let k_is : k ≡ j = sym (symbol_told k) ∙ ap (told_symbol every_symbol) same ∙ symbol_told j in
     ap (λ x. sign x p) k_is ∙ ap (λ x. sign j x) (ap (λ x. x.from) e)
-one_token (name x p) (name y q) e = cc
-one_token (number x p) (number y q) e = cc
-one_token (quote s v p) (quote r u q) e = cc
-one_token t u e = absurd cc
+one_token (name x p) (name y q) e = ap (λ z. name z p) (ap (λ v. v.spelling) e) ∙ ap (λ z. name y z) (ap (λ v. v.from) e)
+one_token (number x p) (number y q) e = ap (λ z. number z p) (ap (λ v. v.spelling) e) ∙ ap (λ z. number y z) (ap (λ v. v.from) e)
+one_token (quote s v p) (quote r u q) e =
+    let kinds : text_token v ≡ text_token u = ap (λ x. x.kind) e in
+    let v_is : v ≡ u = cc in
+    ap (λ z. quote z v p) (ap (λ x. x.spelling) e) ∙ ap (λ z. quote r z p) v_is ∙ ap (λ z. quote r u z) (ap (λ x. x.from) e)
+one_token t u e = let kinds = ap (λ x. x.kind) e in absurd cc
 
 -- tokens that begin as others do
 pub split_terms : (ls us : List Lexeme) (w : List TokenTerm) → token_terms ls ≡ token_terms us ++ w → (v : List Lexeme) × (ls ≡ us ++ v) × (token_terms v ≡ w)

@@ -34,8 +34,12 @@ kept_name ts x = if stands_in (is_name x) ts then x else codes "a"
 abbrev pub kept_number : List Lexeme → Text → Text
 kept_number ts x = if stands_in (is_number x) ts then x else codes "0"
 
+abbrev pub quote_or_none : Text → Text → Bool → Text × Text
+quote_or_none s v true = (s, v)
+quote_or_none s v false = (34 ∷ (34 ∷ []), [])
+
 abbrev pub kept_quote : List Lexeme → Text → Text → Text × Text
-kept_quote ts s v = if stands_in (is_quote s v) ts then (s, v) else (34 ∷ (34 ∷ []), [])
+kept_quote ts s v = quote_or_none s v (stands_in (is_quote s v) ts)
 
 abbrev pub kept : List Lexeme → Lexeme → Lexeme
 kept ts = respell (kept_name ts) (kept_number ts) (kept_quote ts)
@@ -43,13 +47,14 @@ kept ts = respell (kept_name ts) (kept_number ts) (kept_quote ts)
 -- ---- they are spelled
 found : (P : Lexeme → Bool) (Q : Type 0) (ts : List Lexeme) → AreSpelled (token_terms ts) → ((t : Lexeme) → IsSpelled (token_term t) → P t ≡ true → Q) → stands_in P ts ≡ true → Q
 found P Q [] all hit e = absurd cc
-found P Q (t ∷ ts) all hit e = go (P t) refl
+found P Q (t ∷ ts) all hit e = go (P t) refl (λ k. found P Q ts all.1 hit k)
   where
-    go : (b : Bool) → P t ≡ b → Q
-    go true is = hit t all.0 is
-    go false is = found P Q ts all.1 hit (sym (ap (λ b. b || stands_in P ts) is) ∙ e)
+    go : (b : Bool) → P t ≡ b → (stands_in P ts ≡ true → Q) → Q
+    go true is later = hit t all.0 is
+    go false is later = later (sym (ap (λ b. b || stands_in P ts) is) ∙ e)
 
 a_spelled : (p : ℕ) → IsSpelled (token_term (name (codes "a") p))
+unfolding lib.Utf8.encode
 a_spelled p = record { spells = (record { first = 97; rest = []; scalars = refl; bytes = refl; starts = is_xid_start-ascii 97 (omega arith) ∙ refl; continues = tt }, refl); within = tt }
 
 module _ (ts : List Lexeme) (all : AreSpelled (token_terms ts)) where
@@ -69,7 +74,7 @@ module _ (ts : List Lexeme) (all : AreSpelled (token_terms ts)) where
       hit t h is = absurd cc
   number_spelled x p false e = record { spells = ((λ none. cc), ((omega arith, omega arith), tt), refl); within = omega arith }
 
-  quote_spelled : (s v : Text) (p : ℕ) (b : Bool) → stands_in (is_quote s v) ts ≡ b → IsSpelled (token_term (quote (if b then (s, v) else (34 ∷ (34 ∷ []), [])).0 (if b then (s, v) else (34 ∷ (34 ∷ []), [])).1 p))
+  quote_spelled : (s v : Text) (p : ℕ) (b : Bool) → stands_in (is_quote s v) ts ≡ b → IsSpelled (token_term (quote (quote_or_none s v b).0 (quote_or_none s v b).1 p))
   quote_spelled s v p true e = found (is_quote s v) (IsSpelled (token_term (quote s v p))) ts all hit e
     where
       hit : (t : Lexeme) → IsSpelled (token_term t) → is_quote s v t ≡ true → IsSpelled (token_term (quote s v p))
@@ -114,7 +119,7 @@ kept_one pre (quote s v p) post =
     let h = same s in
     let k = same v in
     let both : is_quote s v (quote s v p) ≡ true = grind (arith, h, k) in
-    ap (λ b. quote (if b then (s, v) else (34 ∷ (34 ∷ []), [])).0 (if b then (s, v) else (34 ∷ (34 ∷ []), [])).1 p) (stands (is_quote s v) pre (quote s v p) post both)
+    ap (λ b. quote (quote_or_none s v b).0 (quote_or_none s v b).1 p) (stands (is_quote s v) pre (quote s v p) post both)
 
 pub all_kept : (pre us : List Lexeme) → map (kept (pre ++ us)) us ≡ us
 all_kept pre [] = refl

@@ -61,7 +61,7 @@ step_cases (task_plain t) s = inl (t, refl)
 step_cases (task_step t o p x q r u) s = inr (t, (o, p), ((x, q), (r, (u, tt))), refl)
 step_cases d s = absurd s
 
-pub steps : Optional task (series choice)
+abbrev pub steps : Optional task (series choice)
 steps = record {
   Among = IsStepping;
   bare = task_plain;

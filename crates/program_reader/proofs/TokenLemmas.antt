@@ -1,10 +1,10 @@
 -- From the tokens of a source to those of the grammar.
 use Rattle.std.proofs.Common.{◌≡◌, ℕ, ◌+◌, ◌<◌, ◌≤◌, List, [], ◌∷◌, ◌++◌, length, map, refl, sym, ap, ◌∙◌, subst, arith, append_assoc, append-nil}
-use Rattle.std.specs.Prelude.{pos, slice_range}
+use Rattle.std.specs.Prelude.{ℤ, pos, slice_range}
 use Rattle.std.specs.Str.{IsUtf8}
 use Rattle.std.proofs.lemmas.List.{map-append}
 use Rattle.task_model.specs.Text.{Text}
-use Rattle.task_model.specs.Token.{TokenTerm, IsWord, name_token, keyword_token, number_token, text_token, symbol_token, number_from, Spells, Piece, blank, comment, lexeme, AreRight, tokens_from, HasTokens}
+use Rattle.task_model.specs.Token.{TokenTerm, TokenKindTerm, IsWord, name_token, keyword_token, number_token, text_token, symbol_token, number_from, Spells, Piece, blank, comment, lexeme, AreRight, tokens_from, HasTokens}
 use Rattle.task_syntax.specs.declared.keyword.Keyword.{Keyword}
 use Rattle.task_syntax.specs.declared.symbol.Symbol.{Symbol}
 use Rattle.task_syntax.specs.declared.token.Token.{Token}
@@ -28,9 +28,38 @@ pub has_spelled : (source : Text) (ts : List TokenTerm) → HasTokens source ts 
 has_spelled source ts h = subst AreSpelled h.are (spelled_from 0 h.pieces h.right)
 
 -- ---- one token
-module _ (source : Text) (token : Token) (term : TokenTerm) (is : IsToken source token term) where
-  pub is_kind : (k : kinds.TokenKind) → token.kind ≡ k → IsKind k term.kind term.spelling
-  is_kind k e = subst (λ j. IsKind j term.kind term.spelling) e is.kind
+module _ (source : Text) (token : Token) where
+  told : (kind : TokenKindTerm) (x : Text) (term : TokenTerm) → IsToken source token term → term.kind ≡ kind → term.spelling ≡ x → term ≡ record { kind = kind; from = token.from; spelling = x }
+  told kind x term is k s =
+      ap (λ z. record { kind = z; from = term.from; spelling = term.spelling }) k ∙ ap (λ z. record { kind = kind; from = z; spelling = term.spelling }) (sym is.from)
+      ∙ ap (λ z. record { kind = kind; from = token.from; spelling = z }) s
+
+  pub name_is : (x : Text) → token.kind ≡ kinds.Name → slice_range source token.from token.to ≡ x → (term : TokenTerm) → IsToken source token term → IsSpelled term → term ≡ record { kind = name_token; from = token.from; spelling = x }
+  name_is x e s term is h = let k = subst (λ j. IsKind j term.kind term.spelling) e is.kind in told name_token x term is k (sym is.slice ∙ s)
+
+  pub keyword_is : (w : Keyword) → token.kind ≡ kinds.Keyword w → (term : TokenTerm) → IsToken source token term → IsSpelled term → term ≡ record { kind = keyword_token; from = token.from; spelling = keyword_spelling w }
+  keyword_is w e term is h = let k = subst (λ j. IsKind j term.kind term.spelling) e is.kind in told keyword_token (keyword_spelling w) term is k.0 k.1
+
+  pub symbol_is : (w : Symbol) → token.kind ≡ kinds.Symbol w → (term : TokenTerm) → IsToken source token term → IsSpelled term → term ≡ record { kind = symbol_token; from = token.from; spelling = symbol_spelling w }
+  symbol_is w e term is h = let k = subst (λ j. IsKind j term.kind term.spelling) e is.kind in told symbol_token (symbol_spelling w) term is k.0 k.1
+
+  pub text_is : (content x : Text) → token.kind ≡ kinds.Text content → slice_range source token.from token.to ≡ x → (term : TokenTerm) → IsToken source token term → IsSpelled term → term ≡ record { kind = text_token content; from = token.from; spelling = x }
+  text_is content x e s term is h = let k = subst (λ j. IsKind j term.kind term.spelling) e is.kind in told (text_token content) x term is k (sym is.slice ∙ s)
+
+  pub number_is : (i : ℤ) (x : Text) → token.kind ≡ kinds.Number i → slice_range source token.from token.to ≡ x → (term : TokenTerm) → IsToken source token term → IsSpelled term → (i ≡ pos (number_from 0 x)) × (term ≡ record { kind = number_token (number_from 0 x); from = token.from; spelling = x })
+  number_is i x e s term is h =
+      let (n, i_is, k) = subst (λ j. IsKind j term.kind term.spelling) e is.kind in
+      let x_is : term.spelling ≡ x = sym is.slice ∙ s in
+      let (some, digits, n_is) = subst (λ z. Spells term.spelling z) k h.spells in
+      let value : n ≡ number_from 0 x = n_is ∙ ap (number_from 0) x_is in
+      (i_is ∙ ap pos value, told (number_token (number_from 0 x)) x term is (k ∙ ap number_token value) x_is)
+
+  -- a name is in UTF-8
+  pub name_utf8 : token.kind ≡ kinds.Name → ((term : TokenTerm) × IsToken source token term × IsSpelled term) → IsUtf8 (slice_range source token.from token.to)
+  name_utf8 e (term, is, h) =
+      let k = subst (λ j. IsKind j term.kind term.spelling) e is.kind in
+      let (w, _) = subst (λ z. Spells term.spelling z) k h.spells in
+      subst IsUtf8 (sym is.slice) (w.first ∷ w.rest, w.scalars, w.bytes)
 
 -- ---- all tokens
 spans_ordered : (from : ℕ) (ts : List Token) (to : ℕ) → AreSpans from ts to → from ≤ to

@@ -27,7 +27,7 @@ returns-in-Some-strip_word c =
     let up : 0 + c.args.room ≡ c.args.room = omega arith in
     let (x, sx, fx) = c.in_ok-item.ensures.by in
     let fits = fx.by.fits in
-    record { by = (_, reference_shown _ _ _ _ x.0 sx c.in_ok-name.ensures.text, rules.by_name _ _ c.in-Some.ensures le (rules.by_colon _ _ _ c.in-Some-strip_sign.ensures le (rules.by_reference _ _ _ c.in-Some-strip_word.ensures le (seq_part grammar 0 (stops_within basic parameter (omega arith)) (omega (arith, le)) up fx (seq_done grammar 0 (omega (arith, le, fits))))))) }
+    record { by = (_, reference_shown _ _ 0 0 x.0 sx c.in_ok-name.ensures.text, rules.by_name _ _ c.in-Some.ensures le (rules.by_colon _ _ _ c.in-Some-strip_sign.ensures le (rules.by_reference _ _ _ c.in-Some-strip_word.ensures le (seq_part grammar 0 (stops_within basic parameter (omega arith)) (omega (arith, le)) up fx (seq_done grammar 0 (omega (arith, le, fits))))))) }
 
 pub returns-in_err-item-2 : goal.returns-in_err-item-2
 returns-in_err-item-2 c =
@@ -42,4 +42,4 @@ returns c =
     let up : 0 + c.args.room ≡ c.args.room = omega arith in
     let (x, sx, fx) = c.in_ok-item-2.ensures.by in
     let fits = fx.by.fits in
-    record { by = (_, value_shown _ _ _ x.0 sx c.in_ok-name-2.ensures.text, rules.by_name _ _ c.in-Some.ensures le (rules.by_colon _ _ _ c.in-Some-strip_sign.ensures le (rules.by_value _ _ _ c.in_default-strip_word.ensures (seq_part grammar 0 (stops_within basic parameter (omega arith)) (omega (arith, le)) up fx (seq_done grammar 0 (omega (arith, le, fits))))))) }
+    record { by = (_, value_shown _ _ 0 x.0 sx c.in_ok-name-2.ensures.text, rules.by_name _ _ c.in-Some.ensures le (rules.by_colon _ _ _ c.in-Some-strip_sign.ensures le (rules.by_value _ _ _ c.in_default-strip_word.ensures (seq_part grammar 0 (stops_within basic parameter (omega arith)) (omega (arith, le)) up fx (seq_done grammar 0 (omega (arith, le, fits))))))) }

@@ -4,7 +4,7 @@ use Rattle.program_grammar.specs.Grammar.{basic, task, task_atom, expression, at
 use Rattle.task_syntax.specs.declared.symbol.Symbol.TheVariants as signs
 use Rattle.program_grammar.specs.Lexemes.{Lexeme, sign}
 use Rattle.exact_reading.proofs.Symbols.{seq_one, seq_one_stop, seq_part, seq_part_stop, seq_done}
-use Rattle.program_grammar.proofs.GrammarLemmas.{grammar, stops_within}
+use Rattle.program_grammar.proofs.GrammarLemmas.{grammar, stops_within, least_levels}
 use Rattle.program_grammar.proofs.RuleLemmas.{by_rule, too_deep}
 use Rattle.program_reader.specs.Works.{scope_of, shown_work, shown_task, shown_atom, shown_chain, shown_choice}
 use Rattle.program_reader.specs.Signs.{choice_term, step_term}
@@ -60,9 +60,6 @@ wordless-returns-then-room-lt2 t c =
     let lt : c.args.room < 2 = omega arith in
     rw c.too_nested-then-room-lt2.ensures (counted_at _ (at_reading c.in-Some.ensures (record { by = steps.change_deep _ _ c.in-Some-strip_sign.ensures le lt })))
 
-pub wordless-changed-requires-clause-assigned : goal.wordless-changed-requires-clause-assigned
-wordless-changed-requires-clause-assigned t c = (_, _, c.in-Some-strip_sign.ensures)
-
 pub wordless-returns : goal.wordless-returns
 wordless-returns t c = at_reading c.in-Some.ensures c.changed.ensures
 
@@ -111,7 +108,7 @@ bound-returns t c =
     let fits2 = f2.by.fits in
     let (x4, s4, f4) = c.in_ok-body.ensures.by in
     let fits4 = f4.by.fits in
-    record { by = (_, shows.let_shown (scope_of c.args.scope.now) c.args.next _ _ _ _ x2.0 _ x4.0 c.in_ok-inside.ensures.scope s2 s4 ∙ sym c.in_ok-bound.ensures.shown, by_rule (rules.let_rule _) refl le (seq_one grammar 1 (omega (arith, le)) c.in_ok-name.ensures (seq_one grammar 1 (omega (arith, le)) c.in_ok-rest.ensures (seq_part grammar 1 (λ p z. refl) (omega (arith, le)) up f2 (seq_one grammar 1 (omega (arith, le, fits2)) c.in_ok-rest-2.ensures (seq_part grammar 1 (λ z h. h) (omega (arith, le, fits2)) up f4 (seq_done grammar 1 (omega (arith, le, fits2, fits4))))))))) }
+    record { by = (_, shows.let_shown (scope_of c.args.scope.now) c.args.next _ _ 0 0 x2.0 0 x4.0 c.in_ok-inside.ensures.scope s2 s4 ∙ sym c.in_ok-bound.ensures.shown, by_rule (rules.let_rule _) refl le (seq_one grammar 1 (omega (arith, le)) c.in_ok-name.ensures (seq_one grammar 1 (omega (arith, le)) c.in_ok-rest.ensures (seq_part grammar 1 (λ p z. refl) (omega (arith, le)) up f2 (seq_one grammar 1 (omega (arith, le, fits2)) c.in_ok-rest-2.ensures (seq_part grammar 1 (λ z h. h) (omega (arith, le, fits2)) up f4 (seq_done grammar 1 (omega (arith, le, fits2, fits4))))))))) }
 
 pub made-returns-in_err-name : goal.made-returns-in_err-name
 made-returns-in_err-name t c =
@@ -158,7 +155,7 @@ made-returns t c =
     let fits2 = f2.by.fits in
     let (x4, s4, f4) = c.in_ok-body.ensures.by in
     let fits4 = f4.by.fits in
-    record { by = (_, shows.new_shown (scope_of c.args.scope.now) c.args.next _ _ _ _ x2.0 _ x4.0 c.in_ok-inside.ensures.scope s2 s4 ∙ sym c.in_ok-made.ensures.shown, by_rule (rules.new_rule _) refl le (seq_one grammar 1 (omega (arith, le)) c.in_ok-name.ensures (seq_one grammar 1 (omega (arith, le)) c.in_ok-rest.ensures (seq_part grammar 1 (λ p z. refl) (omega (arith, le)) up f2 (seq_one grammar 1 (omega (arith, le, fits2)) c.in_ok-rest-2.ensures (seq_part grammar 1 (λ z h. h) (omega (arith, le, fits2)) up f4 (seq_done grammar 1 (omega (arith, le, fits2, fits4))))))))) }
+    record { by = (_, shows.new_shown (scope_of c.args.scope.now) c.args.next _ _ 0 0 x2.0 0 x4.0 c.in_ok-inside.ensures.scope s2 s4 ∙ sym c.in_ok-made.ensures.shown, by_rule (rules.new_rule _) refl le (seq_one grammar 1 (omega (arith, le)) c.in_ok-name.ensures (seq_one grammar 1 (omega (arith, le)) c.in_ok-rest.ensures (seq_part grammar 1 (λ p z. refl) (omega (arith, le)) up f2 (seq_one grammar 1 (omega (arith, le, fits2)) c.in_ok-rest-2.ensures (seq_part grammar 1 (λ z h. h) (omega (arith, le, fits2)) up f4 (seq_done grammar 1 (omega (arith, le, fits2, fits4))))))))) }
 
 pub tested-returns-in_err-test : goal.tested-returns-in_err-test
 tested-returns-in_err-test t c =
@@ -217,7 +214,7 @@ tested-returns t c =
     let fits2 = f2.by.fits in
     let (x4, s4, f4) = c.in_ok-no.ensures.by in
     let fits4 = f4.by.fits in
-    record { by = (_, shows.if_shown (scope_of c.args.scope.now) c.args.next _ x0.0 _ x2.0 _ x4.0 s0 (c.in_ok-after.ensures.number) s2 s4 ∙ sym c.in_ok-tested.ensures.shown, by_rule (rules.if_rule _) refl le (seq_part grammar 1 (λ p z. refl) (omega (arith, le)) up f0 (seq_one grammar 1 (omega (arith, le, fits0)) c.in_ok-rest.ensures (seq_part grammar 1 (λ p z. refl) (omega (arith, le, fits0)) up f2 (seq_one grammar 1 (omega (arith, le, fits0, fits2)) c.in_ok-rest-2.ensures (seq_part grammar 1 (λ z h. h) (omega (arith, le, fits0, fits2)) up f4 (seq_done grammar 1 (omega (arith, le, fits0, fits2, fits4))))))))) }
+    record { by = (_, shows.if_shown (scope_of c.args.scope.now) c.args.next _ x0.0 0 x2.0 0 x4.0 s0 (c.in_ok-after.ensures.number) s2 s4 ∙ sym c.in_ok-tested.ensures.shown, by_rule (rules.if_rule _) refl le (seq_part grammar 1 (λ p z. refl) (omega (arith, le)) up f0 (seq_one grammar 1 (omega (arith, le, fits0)) c.in_ok-rest.ensures (seq_part grammar 1 (λ p z. refl) (omega (arith, le, fits0)) up f2 (seq_one grammar 1 (omega (arith, le, fits0, fits2)) c.in_ok-rest-2.ensures (seq_part grammar 1 (λ z h. h) (omega (arith, le, fits0, fits2)) up f4 (seq_done grammar 1 (omega (arith, le, fits0, fits2, fits4))))))))) }
 
 pub cased-returns-in_err-list : goal.cased-returns-in_err-list
 cased-returns-in_err-list t c =
@@ -347,20 +344,20 @@ cased-returns t c =
     let fits5 = f5.by.fits in
     let (x11, s11, f11) = c.in_ok-more.ensures.by in
     let fits11 = f11.by.fits in
-    record { by = (_, shows.case_shown (scope_of c.args.scope.now) c.args.next _ x0.0 _ _ _ _ x5.0 _ _ _ _ _ _ _ x11.0 s0 (c.in_ok-inside.ensures.scope ∙ ap (λ l. l ++ c.in_ok-tail.tail.now ∷ []) c.in_ok-behind.ensures.scope ∙ append_assoc (scope_of c.args.scope.now) (c.in_ok-head.head.now ∷ []) (c.in_ok-tail.tail.now ∷ [])) (c.in_ok-after.ensures.number) s5 s11 ∙ sym c.in_ok-cased.ensures.shown, by_rule (rules.case_rule _) refl le (seq_part grammar 1 (λ p z. refl) (omega (arith, le)) up f0 (seq_one grammar 1 (omega (arith, le, fits0)) c.in_ok-rest.ensures (seq_one grammar 1 (omega (arith, le, fits0)) c.in_ok-rest-2.ensures (seq_one grammar 1 (omega (arith, le, fits0)) c.in_ok-rest-3.ensures (seq_one grammar 1 (omega (arith, le, fits0)) c.in_ok-rest-4.ensures (seq_part grammar 1 (λ p z. refl) (omega (arith, le, fits0)) up f5 (seq_one grammar 1 (omega (arith, le, fits0, fits5)) c.in_ok-rest-5.ensures (seq_one grammar 1 (omega (arith, le, fits0, fits5)) c.in_ok-head.ensures (seq_one grammar 1 (omega (arith, le, fits0, fits5)) c.in_ok-rest-6.ensures (seq_one grammar 1 (omega (arith, le, fits0, fits5)) c.in_ok-tail.ensures (seq_one grammar 1 (omega (arith, le, fits0, fits5)) c.in_ok-rest-7.ensures (seq_part grammar 1 (λ z h. h) (omega (arith, le, fits0, fits5)) up f11 (seq_done grammar 1 (omega (arith, le, fits0, fits5, fits11)))))))))))))))) }
+    record { by = (_, shows.case_shown (scope_of c.args.scope.now) c.args.next _ x0.0 0 0 0 0 x5.0 0 _ 0 0 _ 0 0 x11.0 s0 (c.in_ok-inside.ensures.scope ∙ ap (λ l. l ++ c.in_ok-tail.tail.now ∷ []) c.in_ok-behind.ensures.scope ∙ append_assoc (scope_of c.args.scope.now) (c.in_ok-head.head.now ∷ []) (c.in_ok-tail.tail.now ∷ [])) (c.in_ok-after.ensures.number) s5 s11 ∙ sym c.in_ok-cased.ensures.shown, by_rule (rules.case_rule _) refl le (seq_part grammar 1 (λ p z. refl) (omega (arith, le)) up f0 (seq_one grammar 1 (omega (arith, le, fits0)) c.in_ok-rest.ensures (seq_one grammar 1 (omega (arith, le, fits0)) c.in_ok-rest-2.ensures (seq_one grammar 1 (omega (arith, le, fits0)) c.in_ok-rest-3.ensures (seq_one grammar 1 (omega (arith, le, fits0)) c.in_ok-rest-4.ensures (seq_part grammar 1 (λ p z. refl) (omega (arith, le, fits0)) up f5 (seq_one grammar 1 (omega (arith, le, fits0, fits5)) c.in_ok-rest-5.ensures (seq_one grammar 1 (omega (arith, le, fits0, fits5)) c.in_ok-head.ensures (seq_one grammar 1 (omega (arith, le, fits0, fits5)) c.in_ok-rest-6.ensures (seq_one grammar 1 (omega (arith, le, fits0, fits5)) c.in_ok-tail.ensures (seq_one grammar 1 (omega (arith, le, fits0, fits5)) c.in_ok-rest-7.ensures (seq_part grammar 1 (λ z h. h) (omega (arith, le, fits0, fits5)) up f11 (seq_done grammar 1 (omega (arith, le, fits0, fits5, fits11)))))))))))))))) }
 
 pub changed-returns-in_err-rest : goal.changed-returns-in_err-rest
 changed-returns-in_err-rest t c =
     let p = err_from_is_err_and c.from_residual.result c.from_residual.ensures.1 in
     let le : 2 ≤ c.args.room = omega arith in
-    rw (p.1, p.2) (record { by = steps.changed _ _ c.requires.assigned.1.1 le (seq_one_stop grammar 1 (omega (arith, le)) c.in_err-rest.ensures) })
+    rw (p.1, p.2) (record { by = steps.changed _ _ c.requires.assigned.2 le (seq_one_stop grammar 1 (omega (arith, le)) c.in_err-rest.ensures) })
 
 pub changed-returns-in_err-value : goal.changed-returns-in_err-value
 changed-returns-in_err-value t c =
     let p = err_from_is_err_and c.from_residual-in_err-value.result c.from_residual-in_err-value.ensures.1 in
     let le : 2 ≤ c.args.room = omega arith in
     let up : 1 + (c.args.room - 1) ≡ c.args.room = omega arith in
-    rw (p.1, p.2) (record { by = steps.changed _ _ c.requires.assigned.1.1 le (seq_one grammar 1 (omega (arith, le)) c.in_ok-rest.ensures (seq_part_stop grammar 1 (λ p z. refl) (omega (arith, le)) up c.in_err-value.ensures.by)) })
+    rw (p.1, p.2) (record { by = steps.changed _ _ c.requires.assigned.2 le (seq_one grammar 1 (omega (arith, le)) c.in_ok-rest.ensures (seq_part_stop grammar 1 (λ p z. refl) (omega (arith, le)) up c.in_err-value.ensures.by)) })
 
 pub changed-returns-in_err-rest-2 : goal.changed-returns-in_err-rest-2
 changed-returns-in_err-rest-2 t c =
@@ -369,7 +366,7 @@ changed-returns-in_err-rest-2 t c =
     let up : 1 + (c.args.room - 1) ≡ c.args.room = omega arith in
     let (x1, s1, f1) = c.in_ok-value.ensures.by in
     let fits1 = f1.by.fits in
-    rw (p.1, p.2) (record { by = steps.changed _ _ c.requires.assigned.1.1 le (seq_one grammar 1 (omega (arith, le)) c.in_ok-rest.ensures (seq_part grammar 1 (λ p z. refl) (omega (arith, le)) up f1 (seq_one_stop grammar 1 (omega (arith, le, fits1)) c.in_err-rest-2.ensures))) })
+    rw (p.1, p.2) (record { by = steps.changed _ _ c.requires.assigned.2 le (seq_one grammar 1 (omega (arith, le)) c.in_ok-rest.ensures (seq_part grammar 1 (λ p z. refl) (omega (arith, le)) up f1 (seq_one_stop grammar 1 (omega (arith, le, fits1)) c.in_err-rest-2.ensures))) })
 
 pub changed-returns-in_err-body : goal.changed-returns-in_err-body
 changed-returns-in_err-body t c =
@@ -378,7 +375,7 @@ changed-returns-in_err-body t c =
     let up : 1 + (c.args.room - 1) ≡ c.args.room = omega arith in
     let (x1, s1, f1) = c.in_ok-value.ensures.by in
     let fits1 = f1.by.fits in
-    rw (p.1, p.2) (record { by = steps.changed _ _ c.requires.assigned.1.1 le (seq_one grammar 1 (omega (arith, le)) c.in_ok-rest.ensures (seq_part grammar 1 (λ p z. refl) (omega (arith, le)) up f1 (seq_one grammar 1 (omega (arith, le, fits1)) c.in_ok-rest-2.ensures (seq_part_stop grammar 1 (λ z h. h) (omega (arith, le, fits1)) up c.in_err-body.ensures.by)))) })
+    rw (p.1, p.2) (record { by = steps.changed _ _ c.requires.assigned.2 le (seq_one grammar 1 (omega (arith, le)) c.in_ok-rest.ensures (seq_part grammar 1 (λ p z. refl) (omega (arith, le)) up f1 (seq_one grammar 1 (omega (arith, le, fits1)) c.in_ok-rest-2.ensures (seq_part_stop grammar 1 (λ z h. h) (omega (arith, le, fits1)) up c.in_err-body.ensures.by)))) })
 
 pub changed-returns : goal.changed-returns
 changed-returns t c =
@@ -388,7 +385,7 @@ changed-returns t c =
     let fits1 = f1.by.fits in
     let (x3, s3, f3) = c.in_ok-body.ensures.by in
     let fits3 = f3.by.fits in
-    record { by = (_, shows.put_shown (scope_of c.args.scope.now) c.args.next _ _ _ x1.0 _ x3.0 s1 s3 ∙ sym c.in_ok-changed.ensures.shown, steps.changed _ _ c.requires.assigned.1.1 le (seq_one grammar 1 (omega (arith, le)) c.in_ok-rest.ensures (seq_part grammar 1 (λ p z. refl) (omega (arith, le)) up f1 (seq_one grammar 1 (omega (arith, le, fits1)) c.in_ok-rest-2.ensures (seq_part grammar 1 (λ z h. h) (omega (arith, le, fits1)) up f3 (seq_done grammar 1 (omega (arith, le, fits1, fits3)))))))) }
+    record { by = (_, shows.put_shown (scope_of c.args.scope.now) c.args.next _ _ 0 x1.0 0 x3.0 s1 s3 ∙ sym c.in_ok-changed.ensures.shown, steps.changed _ _ c.requires.assigned.2 le (seq_one grammar 1 (omega (arith, le)) c.in_ok-rest.ensures (seq_part grammar 1 (λ p z. refl) (omega (arith, le)) up f1 (seq_one grammar 1 (omega (arith, le, fits1)) c.in_ok-rest-2.ensures (seq_part grammar 1 (λ z h. h) (omega (arith, le, fits1)) up f3 (seq_done grammar 1 (omega (arith, le, fits1, fits3)))))))) }
 
 pub stepped-returns-in_err-left : goal.stepped-returns-in_err-left
 stepped-returns-in_err-left t c = let p = err_from_is_err_and c.from_residual.result c.from_residual.ensures.1 in rw (p.1, p.2) (record { by = tails.first_stop steps.steps c.in_err-left.ensures.by })
@@ -404,7 +401,8 @@ stepped-returns-then-left-room t c =
     let fits = fx.by.fits in
     let same = fx.by.found.1 in
     let shown_levels = ap (λ q. q.levels) sx in
-    rw c.too_nested.ensures (counted_at _ (record { by = tails.first_found steps.steps fx (tails.led_too_deep steps.steps (step_term c.in-Some.step, c.in-Some.field-0-1) c.in-Some.ensures (omega (arith, same, shown_levels))) }))
+    let some = least_levels x.0 in
+    rw c.too_nested.ensures (counted_at _ (record { by = tails.first_found steps.steps fx (tails.led_too_deep steps.steps (step_term c.in-Some.step, c.in-Some.field-0-1) c.in-Some.ensures (omega (arith, same, shown_levels, some))) }))
 
 pub stepped-returns-in_err-name : goal.stepped-returns-in_err-name
 stepped-returns-in_err-name t c =
@@ -413,9 +411,10 @@ stepped-returns-in_err-name t c =
     let fits = fx.by.fits in
     let same = fx.by.found.1 in
     let shown_levels = ap (λ q. q.levels) sx in
+    let some = least_levels x.0 in
     let lt : c.in_ok-left.left.levels < c.args.room = omega arith in
     let up : 1 + (c.args.room - 1) ≡ c.args.room = omega arith in
-    rw (p.1, p.2) (record { by = tails.first_found steps.steps fx (tails.led steps.steps (step_term c.in-Some.step, c.in-Some.field-0-1) c.in-Some.ensures (omega (arith, same, shown_levels, lt)) (seq_one_stop grammar 1 (omega (arith, same, shown_levels, lt)) c.in_err-name.ensures)) })
+    rw (p.1, p.2) (record { by = tails.first_found steps.steps fx (tails.led steps.steps (step_term c.in-Some.step, c.in-Some.field-0-1) c.in-Some.ensures (omega (arith, same, shown_levels, lt, some)) (seq_one_stop grammar 1 (omega (arith, same, shown_levels, lt, some)) c.in_err-name.ensures)) })
 
 pub stepped-returns-in_err-after : goal.stepped-returns-in_err-after
 stepped-returns-in_err-after t c =
@@ -424,9 +423,10 @@ stepped-returns-in_err-after t c =
     let fits = fx.by.fits in
     let same = fx.by.found.1 in
     let shown_levels = ap (λ q. q.levels) sx in
+    let some = least_levels x.0 in
     let lt : c.in_ok-left.left.levels < c.args.room = omega arith in
     let up : 1 + (c.args.room - 1) ≡ c.args.room = omega arith in
-    rw (p.1, p.2) (record { by = tails.first_found steps.steps fx (tails.led steps.steps (step_term c.in-Some.step, c.in-Some.field-0-1) c.in-Some.ensures (omega (arith, same, shown_levels, lt)) (seq_one grammar 1 (omega (arith, same, shown_levels, lt)) c.in_ok-name.ensures (seq_one_stop grammar 1 (omega (arith, same, shown_levels, lt)) c.in_err-after.ensures))) })
+    rw (p.1, p.2) (record { by = tails.first_found steps.steps fx (tails.led steps.steps (step_term c.in-Some.step, c.in-Some.field-0-1) c.in-Some.ensures (omega (arith, same, shown_levels, lt, some)) (seq_one grammar 1 (omega (arith, same, shown_levels, lt, some)) c.in_ok-name.ensures (seq_one_stop grammar 1 (omega (arith, same, shown_levels, lt, some)) c.in_err-after.ensures))) })
 
 pub stepped-returns-in_err-right : goal.stepped-returns-in_err-right
 stepped-returns-in_err-right t c =
@@ -435,9 +435,10 @@ stepped-returns-in_err-right t c =
     let fits = fx.by.fits in
     let same = fx.by.found.1 in
     let shown_levels = ap (λ q. q.levels) sx in
+    let some = least_levels x.0 in
     let lt : c.in_ok-left.left.levels < c.args.room = omega arith in
     let up : 1 + (c.args.room - 1) ≡ c.args.room = omega arith in
-    rw (p.1, p.2) (record { by = tails.first_found steps.steps fx (tails.led steps.steps (step_term c.in-Some.step, c.in-Some.field-0-1) c.in-Some.ensures (omega (arith, same, shown_levels, lt)) (seq_one grammar 1 (omega (arith, same, shown_levels, lt)) c.in_ok-name.ensures (seq_one grammar 1 (omega (arith, same, shown_levels, lt)) c.in_ok-after.ensures (seq_part_stop grammar 1 (λ z h. h) (omega (arith, same, shown_levels, lt)) up c.in_err-right.ensures.by)))) })
+    rw (p.1, p.2) (record { by = tails.first_found steps.steps fx (tails.led steps.steps (step_term c.in-Some.step, c.in-Some.field-0-1) c.in-Some.ensures (omega (arith, same, shown_levels, lt, some)) (seq_one grammar 1 (omega (arith, same, shown_levels, lt, some)) c.in_ok-name.ensures (seq_one grammar 1 (omega (arith, same, shown_levels, lt, some)) c.in_ok-after.ensures (seq_part_stop grammar 1 (λ z h. h) (omega (arith, same, shown_levels, lt, some)) up c.in_err-right.ensures.by)))) })
 
 pub stepped-returns : goal.stepped-returns
 stepped-returns t c =
@@ -445,12 +446,13 @@ stepped-returns t c =
     let fits = fx.by.fits in
     let same = fx.by.found.1 in
     let shown_levels = ap (λ q. q.levels) sx in
+    let some = least_levels x.0 in
     let lt : c.in_ok-left.left.levels < c.args.room = omega arith in
     let up : 1 + (c.args.room - 1) ≡ c.args.room = omega arith in
     let (y, sy, fy) = c.in_ok-right.ensures.by in
     let fits' = fy.by.fits in
     let number_is = c.in_ok-number.ensures.number in
-    record { by = (_, shows.step_shown (scope_of c.args.scope.now) c.args.next x.0 (step_term c.in-Some.step) _ _ _ _ y.0 number_is sx (ap (λ l. shown_task l c.in_ok-number.number y.0) (sym c.in_ok-inside.ensures.scope) ∙ sy) ∙ sym c.in_ok-followed.ensures.shown, tails.first_found steps.steps fx (tails.led steps.steps (step_term c.in-Some.step, c.in-Some.field-0-1) c.in-Some.ensures (omega (arith, same, shown_levels, lt)) (seq_one grammar 1 (omega (arith, same, shown_levels, lt)) c.in_ok-name.ensures (seq_one grammar 1 (omega (arith, same, shown_levels, lt)) c.in_ok-after.ensures (seq_part grammar 1 (λ z h. h) (omega (arith, same, shown_levels, lt)) up fy (seq_done grammar 1 (omega (arith, same, shown_levels, lt, fits, fits'))))))) }
+    record { by = (_, shows.step_shown (scope_of c.args.scope.now) c.args.next x.0 (step_term c.in-Some.step) 0 _ 0 0 y.0 number_is sx (ap (λ l. shown_task l c.in_ok-number.number y.0) (sym c.in_ok-inside.ensures.scope) ∙ sy) ∙ sym c.in_ok-followed.ensures.shown, tails.first_found steps.steps fx (tails.led steps.steps (step_term c.in-Some.step, c.in-Some.field-0-1) c.in-Some.ensures (omega (arith, same, shown_levels, lt, some)) (seq_one grammar 1 (omega (arith, same, shown_levels, lt, some)) c.in_ok-name.ensures (seq_one grammar 1 (omega (arith, same, shown_levels, lt, some)) c.in_ok-after.ensures (seq_part grammar 1 (λ z h. h) (omega (arith, same, shown_levels, lt, some)) up fy (seq_done grammar 1 (omega (arith, same, shown_levels, lt, some, fits, fits')))))))) }
 
 pub choice-returns-in_err-left : goal.choice-returns-in_err-left
 choice-returns-in_err-left t c = let p = err_from_is_err_and c.from_residual.result c.from_residual.ensures.1 in rw (p.1, p.2) (loops.begin_stop choice (shown_choice (scope_of c.args.scope.now) c.args.next) (shown_chain (scope_of c.args.scope.now) c.args.next) (λ d. refl) c.in_err-left.ensures)
@@ -471,12 +473,12 @@ pub choice-loop-choice-preserved : goal.choice-loop-choice-preserved
 choice-loop-choice-preserved t c =
     let lt : c.loop-choice.left.levels < c.args.room = omega arith in
     let number_is = c.in_ok-number.ensures.number in
-    loops.next choice refl (shown_choice (scope_of c.args.scope.now) c.args.next) c.loop-choice.invariant (choice_term c.in-Some.choice) c.in-Some.field-0-1 c.in-Some.ensures lt (shown_chain (scope_of c.args.scope.now) c.in_ok-number.number) (λ d. refl) (λ x y ex ey. shows.choice_shown (scope_of c.args.scope.now) c.args.next x (choice_term c.in-Some.choice) _ y number_is ex ey ∙ sym c.in_ok-chosen.ensures.shown) (sym (shows.chosen_levels (scope_of c.args.scope.now) c.args.next (choice_term c.in-Some.choice) _ _) ∙ ap (λ q. q.levels) (sym c.in_ok-chosen.ensures.shown)) c.in_ok-right.ensures
+    loops.next choice refl (shown_choice (scope_of c.args.scope.now) c.args.next) c.loop-choice.invariant (choice_term c.in-Some.choice) c.in-Some.field-0-1 c.in-Some.ensures lt (shown_chain (scope_of c.args.scope.now) c.in_ok-number.number) (λ d. refl) (λ x y ex ey. shows.choice_shown (scope_of c.args.scope.now) c.args.next x (choice_term c.in-Some.choice) 0 y number_is ex ey ∙ sym c.in_ok-left-2.ensures.shown) (sym (shows.chosen_levels (scope_of c.args.scope.now) c.args.next (choice_term c.in-Some.choice) _ _) ∙ ap (λ q. q.levels) (sym c.in_ok-left-2.ensures.shown)) c.in_ok-right.ensures
 
 pub choice-loop-choice-smaller : goal.choice-loop-choice-smaller
 choice-loop-choice-smaller t c =
     let lt : c.loop-choice.left.levels < c.args.room = omega arith in
-    let more = (sym (shows.chosen_levels (scope_of c.args.scope.now) c.args.next (choice_term c.in-Some.choice) _ _) ∙ ap (λ q. q.levels) (sym c.in_ok-chosen.ensures.shown)) in
+    let more = (sym (shows.chosen_levels (scope_of c.args.scope.now) c.args.next (choice_term c.in-Some.choice) _ _) ∙ ap (λ q. q.levels) (sym c.in_ok-left-2.ensures.shown)) in
     omega (arith, lt, more)
 
 pub choice-returns : goal.choice-returns
@@ -501,12 +503,12 @@ pub chain-loop-after-preserved : goal.chain-loop-after-preserved
 chain-loop-after-preserved t c =
     let lt : c.loop-after.left.levels < c.args.room = omega arith in
     let number_is = c.in_ok-number.ensures.number in
-    loops.next chain refl (shown_chain (scope_of c.args.scope.now) c.args.next) c.loop-after.invariant together c.in-Some.field-0-0 c.in-Some.ensures lt (shown_atom (scope_of c.args.scope.now) c.in_ok-number.number) (λ d. refl) (λ x y ex ey. shows.chain_shown (scope_of c.args.scope.now) c.args.next x together _ y number_is ex ey ∙ sym c.in_ok-and.ensures.shown) (ap (λ q. q.levels) (sym c.in_ok-and.ensures.shown)) c.in_ok-right.ensures
+    loops.next chain refl (shown_chain (scope_of c.args.scope.now) c.args.next) c.loop-after.invariant together c.in-Some.field-0-0 c.in-Some.ensures lt (shown_atom (scope_of c.args.scope.now) c.in_ok-number.number) (λ d. refl) (λ x y ex ey. shows.chain_shown (scope_of c.args.scope.now) c.args.next x together 0 y number_is ex ey ∙ sym c.in_ok-left-2.ensures.shown) (ap (λ q. q.levels) (sym c.in_ok-left-2.ensures.shown)) c.in_ok-right.ensures
 
 pub chain-loop-after-smaller : goal.chain-loop-after-smaller
 chain-loop-after-smaller t c =
     let lt : c.loop-after.left.levels < c.args.room = omega arith in
-    let more = (ap (λ q. q.levels) (sym c.in_ok-and.ensures.shown)) in
+    let more = (ap (λ q. q.levels) (sym c.in_ok-left-2.ensures.shown)) in
     omega (arith, lt, more)
 
 pub chain-returns : goal.chain-returns
@@ -537,7 +539,7 @@ task_atom-returns-in-Some t c =
     let up : 1 + (c.args.room - 1) ≡ c.args.room = omega arith in
     let (x0, s0, f0) = c.in_ok-inner.ensures.by in
     let fits0 = f0.by.fits in
-    record { by = (_, shows.group_shown (scope_of c.args.scope.now) c.args.next _ x0.0 _ s0 ∙ sym c.group.ensures, by_rule (rules.group_rule _) c.in-Some.ensures le (seq_part grammar 1 (λ p z. refl) (omega (arith, le)) up f0 (seq_one grammar 1 (omega (arith, le, fits0)) c.in_ok-rest.ensures (seq_done grammar 1 (omega (arith, le, fits0)))))) }
+    record { by = (_, shows.group_shown (scope_of c.args.scope.now) c.args.next _ x0.0 0 s0 ∙ sym c.group.ensures, by_rule (rules.group_rule _) c.in-Some.ensures le (seq_part grammar 1 (λ p z. refl) (omega (arith, le)) up f0 (seq_one grammar 1 (omega (arith, le, fits0)) c.in_ok-rest.ensures (seq_done grammar 1 (omega (arith, le, fits0)))))) }
 
 pub task_atom-returns : goal.task_atom-returns
 task_atom-returns t c = c.word_atom.ensures (scope_of c.args.scope.now) c.args.next
