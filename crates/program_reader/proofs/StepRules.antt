@@ -36,17 +36,17 @@ unfolding told_step
 step_told by_itself = refl
 step_told by_user = refl
 
-stepped_apart : (l m : Stepped) → stepped l ≡ stepped m → l ≡ m
+pub stepped_apart : (l m : Stepped) → stepped l ≡ stepped m → l ≡ m
 stepped_apart l m e =
     let same : step l.0 ≡ step m.0 = cc in
     let place_is : l.1 ≡ m.1 = cc in
     ap (λ o. (o, l.1)) (sym (step_told l.0) ∙ ap told_step same ∙ step_told m.0) ∙ ap (λ p. (m.0, p)) place_is
 
-stepped_past : (l : Stepped) → stops_at 10 (rank (stepped l)) ≡ true
+pub stepped_past : (l : Stepped) → stops_at 10 (rank (stepped l)) ≡ true
 stepped_past (by_itself, p) = refl
 stepped_past (by_user, p) = refl
 
-stepped_goes_on : (l : Stepped) → stops_at 11 (rank (stepped l)) ≡ false
+pub stepped_goes_on : (l : Stepped) → stops_at 11 (rank (stepped l)) ≡ false
 stepped_goes_on (by_itself, p) = refl
 stepped_goes_on (by_user, p) = refl
 
@@ -56,7 +56,7 @@ step_symbols = one a_name ∷ one (a_sign signs.Dot) ∷ part task ∷ []
 abbrev pub step_build : Parse (series choice) → Stepped → Values grammar step_symbols → Parse task
 step_build d l vs = task_step d l.0 l.1 vs.0.0 vs.0.1 vs.1.0 vs.1.1.0
 
-step_cases : (d : Parse task) → IsStepping d → ((e : Parse (series choice)) × (task_plain e ≡ d)) ⊎ ((e : Parse (series choice)) × (l : Stepped) × (vs : Values grammar step_symbols) × (step_build e l vs ≡ d))
+pub step_cases : (d : Parse task) → IsStepping d → ((e : Parse (series choice)) × (task_plain e ≡ d)) ⊎ ((e : Parse (series choice)) × (l : Stepped) × (vs : Values grammar step_symbols) × (step_build e l vs ≡ d))
 step_cases (task_plain t) s = inl (t, refl)
 step_cases (task_step t o p x q r u) s = inr (t, (o, p), ((x, q), (r, (u, tt))), refl)
 step_cases d s = absurd s

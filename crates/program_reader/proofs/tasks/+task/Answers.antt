@@ -473,7 +473,7 @@ pub choice-loop-choice-preserved : goal.choice-loop-choice-preserved
 choice-loop-choice-preserved t c =
     let lt : c.loop-choice.left.levels < c.args.room = omega arith in
     let number_is = c.in_ok-number.ensures.number in
-    loops.next choice refl (shown_choice (scope_of c.args.scope.now) c.args.next) c.loop-choice.invariant (choice_term c.in-Some.choice) c.in-Some.field-0-1 c.in-Some.ensures lt (shown_chain (scope_of c.args.scope.now) c.in_ok-number.number) (λ d. refl) (λ x y ex ey. shows.choice_shown (scope_of c.args.scope.now) c.args.next x (choice_term c.in-Some.choice) 0 y number_is ex ey ∙ sym c.in_ok-left-2.ensures.shown) (sym (shows.chosen_levels (scope_of c.args.scope.now) c.args.next (choice_term c.in-Some.choice) _ _) ∙ ap (λ q. q.levels) (sym c.in_ok-left-2.ensures.shown)) c.in_ok-right.ensures
+    loops.next choice refl (shown_choice (scope_of c.args.scope.now) c.args.next) c.loop-choice.invariant (choice_term c.in-Some.choice) c.in-Some.field-0-1 c.in-Some.ensures lt (shown_chain (scope_of c.args.scope.now) c.in_ok-number.number) (λ d. refl) (λ x y ex ey. shows.choice_shown (scope_of c.args.scope.now) c.args.next x (choice_term c.in-Some.choice) c.in-Some.field-0-1 y number_is ex ey ∙ sym c.in_ok-left-2.ensures.shown) (sym (shows.chosen_levels (scope_of c.args.scope.now) c.args.next (choice_term c.in-Some.choice) _ _) ∙ ap (λ q. q.levels) (sym c.in_ok-left-2.ensures.shown)) c.in_ok-right.ensures
 
 pub choice-loop-choice-smaller : goal.choice-loop-choice-smaller
 choice-loop-choice-smaller t c =
@@ -503,7 +503,7 @@ pub chain-loop-after-preserved : goal.chain-loop-after-preserved
 chain-loop-after-preserved t c =
     let lt : c.loop-after.left.levels < c.args.room = omega arith in
     let number_is = c.in_ok-number.ensures.number in
-    loops.next chain refl (shown_chain (scope_of c.args.scope.now) c.args.next) c.loop-after.invariant together c.in-Some.field-0-0 c.in-Some.ensures lt (shown_atom (scope_of c.args.scope.now) c.in_ok-number.number) (λ d. refl) (λ x y ex ey. shows.chain_shown (scope_of c.args.scope.now) c.args.next x together 0 y number_is ex ey ∙ sym c.in_ok-left-2.ensures.shown) (ap (λ q. q.levels) (sym c.in_ok-left-2.ensures.shown)) c.in_ok-right.ensures
+    loops.next chain refl (shown_chain (scope_of c.args.scope.now) c.args.next) c.loop-after.invariant together c.in-Some.field-0-0 c.in-Some.ensures lt (shown_atom (scope_of c.args.scope.now) c.in_ok-number.number) (λ d. refl) (λ x y ex ey. shows.chain_shown (scope_of c.args.scope.now) c.args.next x together c.in-Some.field-0-0 y number_is ex ey ∙ sym c.in_ok-left-2.ensures.shown) (ap (λ q. q.levels) (sym c.in_ok-left-2.ensures.shown)) c.in_ok-right.ensures
 
 pub chain-loop-after-smaller : goal.chain-loop-after-smaller
 chain-loop-after-smaller t c =
