@@ -17,35 +17,26 @@ use Rattle.program_grammar.specs.Parts.{Shown, shown, shown_type, lexeme, lexeme
 use Rattle.std.proofs.lemmas.List.{length-map}
 use Rattle.program_grammar.specs.declared.lexeme.Located.{Located}
 use Rattle.program_reader.specs.Works.{ShownWork, shown_task}
-use Rattle.program_reader.specs.Definitions.{shown_enclosed, ShownDefinition, shown_meaning, ShownProgram, shown_program, more_shown}
+use Rattle.program_reader.specs.Definitions.{shown_enclosed, ShownDefinition, shown_meaning, ShownProgram, shown_program, more_shown, function_definition, task_definition}
 use Rattle.program_reader.specs.Signs.{word_of}
 use Rattle.program_reader.specs.declared.definition_words.DefinitionWord.{DefinitionWord}
 use Rattle.program_reader.proofs.NumberLemmas.{bodies_count}
 use Rattle.program_reader.proofs.ProgramLemmas.{Tail, start_right, more_stop, more_found, end, begins_word}
 
-pub function_shown : (next p : ℕ) (x : Text) (q : ℕ) (ps : Parse (enclosed parameters)) (r : ℕ) (b : Parse basic) (s : ℕ) (e : Parse expression) {list : List ParamTerm × List ℕ} {bt : BasicTerm} {n : ℕ} {value : Shown HostTerm} {text : Text} {all : List ℕ} → shown_enclosed ps ≡ list → shown_type b ≡ (bt, n) → shown e ≡ value → text ≡ x → all ≡ p ∷ (list.1 ++ value.places)
-    → shown_meaning next (function p x q ps r b s e) ≡ record { def = record { name = text; params = list.0; result = bt; what = fun_body value.term }; places = all; bodies = [] }
-function_shown next p x q ps r b s e {list = list} {bt = bt} {value = value} {text = text} eps eb ee en ea =
-    ap (λ l. record { def = record { name = x; params = l.0; result = meaning b; what = fun_body (meaning e) }; places = p ∷ (l.1 ++ places e); bodies = [] }) eps
-    ∙ ap (λ t. record { def = record { name = x; params = list.0; result = t.0; what = fun_body (meaning e) }; places = p ∷ (list.1 ++ places e); bodies = [] }) eb
-    ∙ ap (λ v. record { def = record { name = x; params = list.0; result = bt; what = fun_body v.term }; places = p ∷ (list.1 ++ v.places); bodies = [] }) ee
-    ∙ ap (λ t. record { def = record { name = t; params = list.0; result = bt; what = fun_body value.term }; places = p ∷ (list.1 ++ value.places); bodies = [] }) (sym en)
-    ∙ ap (λ l. record { def = record { name = text; params = list.0; result = bt; what = fun_body value.term }; places = l; bodies = [] }) (sym ea)
+pub function_shown : (next p : ℕ) (x : Text) (q : ℕ) (ps : Parse (enclosed parameters)) (r : ℕ) (b : Parse basic) (s : ℕ) (e : Parse expression) {list : List ParamTerm × List ℕ} {type' : BasicTerm × ℕ} {value : Shown HostTerm} → shown_enclosed ps ≡ list → shown_type b ≡ type' → shown e ≡ value → shown_meaning next (function p x q ps r b s e) ≡ function_definition p x list type' value
+function_shown next p x q ps r b s e {list = list} {type' = type'} eps eb ee =
+    ap (λ l. function_definition p x l (shown_type b) (shown e)) eps ∙ ap (λ t. function_definition p x list t (shown e)) eb ∙ ap (λ v. function_definition p x list type' v) ee
 
 -- the names of parameters
 names_are : (qs : List Param) → map (λ q. q.name) (map param_term qs) ≡ map (λ q. q.name) qs
 names_are [] = refl
 names_are (q ∷ qs) = ap (λ l. q.name ∷ l) (names_are qs)
 
-pub task_shown : (next p : ℕ) (x : Text) (q : ℕ) (ps : Parse (enclosed parameters)) (r : ℕ) (b : Parse basic) (s : ℕ) (t : Parse task) {qs : List Param} {where' : List ℕ} {bt : BasicTerm} {n : ℕ} {scope : List Text} {body : ShownWork} {text : Text} {all : List ℕ} → shown_enclosed ps ≡ (map param_term qs, where') → shown_type b ≡ (bt, n) → scope ≡ map (λ q. q.name) qs → shown_task scope next t ≡ body → text ≡ x → all ≡ p ∷ (where' ++ body.places)
-    → shown_meaning next (task_named p x q ps r b s t) ≡ record { def = record { name = text; params = map param_term qs; result = bt; what = task_body body.term }; places = all; bodies = body.bodies }
-task_shown next p x q ps r b s t {qs = qs} {where' = where'} {bt = bt} {scope = scope} {body = body} {text = text} eps eb es et en ea =
-    ap (λ l. record { def = record { name = x; params = l.0; result = meaning b; what = task_body (meaning t next) }; places = p ∷ (l.1 ++ places t); bodies = bodies_of t (map (λ q. q.name) l.0) next }) eps
-    ∙ ap (λ l. record { def = record { name = x; params = map param_term qs; result = meaning b; what = task_body (meaning t next) }; places = p ∷ (where' ++ places t); bodies = bodies_of t l next }) (names_are qs ∙ sym es)
-    ∙ ap (λ k. record { def = record { name = x; params = map param_term qs; result = k.0; what = task_body (meaning t next) }; places = p ∷ (where' ++ places t); bodies = bodies_of t scope next }) eb
-    ∙ ap (λ v. record { def = record { name = x; params = map param_term qs; result = bt; what = task_body v.term }; places = p ∷ (where' ++ v.places); bodies = v.bodies }) et
-    ∙ ap (λ k. record { def = record { name = k; params = map param_term qs; result = bt; what = task_body body.term }; places = p ∷ (where' ++ body.places); bodies = body.bodies }) (sym en)
-    ∙ ap (λ l. record { def = record { name = text; params = map param_term qs; result = bt; what = task_body body.term }; places = l; bodies = body.bodies }) (sym ea)
+pub task_shown : (next p : ℕ) (x : Text) (q : ℕ) (ps : Parse (enclosed parameters)) (r : ℕ) (b : Parse basic) (s : ℕ) (t : Parse task) (qs : List Param) {where' : List ℕ} {type' : BasicTerm × ℕ} {body : ShownWork} → shown_enclosed ps ≡ (map param_term qs, where') → shown_type b ≡ type' → shown_task (map (λ q. q.name) qs) next t ≡ body → shown_meaning next (task_named p x q ps r b s t) ≡ task_definition p x (map param_term qs, where') type' body
+task_shown next p x q ps r b s t qs {where' = where'} {type' = type'} eps eb et =
+    ap (λ l. task_definition p x l (shown_type b) (shown_task (map (λ q. q.name) l.0) next t)) eps
+    ∙ ap (λ l. task_definition p x (map param_term qs, where') (shown_type b) (shown_task l next t)) (names_are qs)
+    ∙ ap (λ k. task_definition p x (map param_term qs, where') k (shown_task (map (λ q. q.name) qs) next t)) eb ∙ ap (λ v. task_definition p x (map param_term qs, where') type' v) et
 
 -- one more definition
 more_is : (x : Parse program) (d : Parse definition) {left : ShownProgram} {one : ShownDefinition} {next : ℕ} → shown_program x ≡ left → next ≡ 0 + length left.bodies → shown_meaning next d ≡ one → shown_program (more_definitions x d) ≡ more_shown left one
@@ -67,19 +58,19 @@ module _ {room : ℕ} {ts : List Lexeme} where
   pub begin : {left : ShownProgram} → left ≡ record { defs = []; places = []; bodies = [] } → Going room ts left ts
   begin is = record { parse = (no_definitions, 0); shows = sym is; fits = omega arith; goes_on = λ r tail. start_right tail }
 
-  module _ {left : ShownProgram} {rest after : List Lexeme} (g : Going room ts left rest) (k : DefinitionWord) (p : ℕ) (e : rest ≡ word (word_of k) p ∷ after) {next : ℕ} where
-    pub next_stop : {s : Stop} → Reads definition (shown_meaning next) room (word (word_of k) p ∷ after) (Err s) → Reads program shown_program room ts (Err s)
+  module _ {left : ShownProgram} {rest after : List Lexeme} (g : Going room ts left rest) (k : DefinitionWord) (p : ℕ) (e : rest ≡ word (word_of k) p ∷ after) {number : ℕ} where
+    pub next_stop : {s : Stop} → Reads definition (shown_meaning number) room (word (word_of k) p ∷ after) (Err s) → Reads program shown_program room ts (Err s)
     next_stop {s = s} h = record { by = g.goes_on _ (more_stop k p e g.fits (subst (λ l. Right (Of definition) (Within room) (Stops definition) l (Err s)) (sym e) h.by)) }
 
-    pub next : {one : ShownDefinition} {new : ShownProgram} {behind : List Lexeme} → next ≡ 0 + length left.bodies → new ≡ more_shown left one → Reads definition (shown_meaning next) room (word (word_of k) p ∷ after) (Ok (one, behind)) → Going room ts new behind
-    next {behind = behind} number is h =
+    pub next : {one : ShownDefinition} {new : ShownProgram} {behind : List Lexeme} → number ≡ 0 + length left.bodies → new ≡ more_shown left one → Reads definition (shown_meaning number) room (word (word_of k) p ∷ after) (Ok (one, behind)) → Going room ts new behind
+    next {behind = behind} number_is is h =
         let (y, shows, found) = h.by in
         let here : Right (Of definition) (Within room) (Stops definition) rest (Ok (y, behind)) = subst (λ l. Right (Of definition) (Within room) (Stops definition) l (Ok (y, behind))) (sym e) found in
         let fits = found.by.fits in
         let few = g.fits in
         record {
           parse = (more_definitions g.parse.0 y.0, max g.parse.1 y.1);
-          shows = more_is g.parse.0 y.0 g.shows number shows ∙ sym is;
+          shows = more_is g.parse.0 y.0 g.shows number_is shows ∙ sym is;
           fits = omega (arith, few, fits);
           goes_on = λ r tail. g.goes_on r (more_found k p e g.fits here tail);
         }

@@ -59,7 +59,7 @@ module _ (source : Text) (token : Token) where
   name_utf8 e (term, is, h) =
       let k = subst (λ j. IsKind j term.kind term.spelling) e is.kind in
       let (w, _) = subst (λ z. Spells term.spelling z) k h.spells in
-      subst IsUtf8 (sym is.slice) (w.first ∷ w.rest, w.scalars, w.bytes)
+      subst IsUtf8 (sym is.slice) (w.first ∷ w.rest, (w.scalars, w.bytes))
 
 -- ---- all tokens
 spans_ordered : (from : ℕ) (ts : List Token) (to : ℕ) → AreSpans from ts to → from ≤ to

@@ -1,7 +1,12 @@
 -- Definitions and programs as their readers hand them on.
 use Rattle.std.specs.Prelude.{◌≡◌, ℕ, ◌+◌, List, [], ◌∷◌, ◌++◌, map}
 use Rattle.task_model.specs.Task.{BodyTerm, body_term}
-use Rattle.task_model.specs.Program.{ParamTerm, param_term, DefTerm, def_term}
+use Rattle.task_model.specs.Text.{Text}
+use Rattle.task_model.specs.Basic.{BasicTerm}
+use Rattle.task_model.specs.Host.{HostTerm}
+use Rattle.task_model.specs.Program.{ParamTerm, param_term, DefTerm, def_term, fun_body, task_body}
+use Rattle.program_grammar.specs.Parts.{Shown}
+use Rattle.program_reader.specs.Works.{ShownWork}
 use Rattle.program_reader.specs.declared.parameters.Parameters.{Parameters}
 use Rattle.program_reader.specs.declared.definition.ReadDefinition.{ReadDefinition}
 use Rattle.program_reader.specs.declared.program.Definitions.{Definitions}
@@ -33,6 +38,17 @@ shown_meaning next d = record { def = meaning d next; places = places d; bodies 
 
 abbrev pub shown_definition : ReadDefinition → ShownDefinition
 shown_definition r = record { def = def_term r.def; places = r.places.items; bodies = map body_term r.bodies.items }
+
+-- a task, with this place and others before its own
+abbrev pub under_work : ℕ → List ℕ → ShownWork → ShownWork
+under_work p before t = record { term = t.term; levels = t.levels; start = t.start; places = p ∷ (before ++ t.places); bodies = t.bodies }
+
+-- definitions from their parts
+abbrev pub function_definition : ℕ → Text → List ParamTerm × List ℕ → BasicTerm × ℕ → Shown HostTerm → ShownDefinition
+function_definition p x ps b e = record { def = record { name = x; params = ps.0; result = b.0; what = fun_body e.term }; places = p ∷ (ps.1 ++ e.places); bodies = [] }
+
+abbrev pub task_definition : ℕ → Text → List ParamTerm × List ℕ → BasicTerm × ℕ → ShownWork → ShownDefinition
+task_definition p x ps b t = record { def = record { name = x; params = ps.0; result = b.0; what = task_body t.term }; places = p ∷ (ps.1 ++ t.places); bodies = t.bodies }
 
 -- ---- a program
 pub record ShownProgram : Type 0 where

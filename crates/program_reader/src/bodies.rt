@@ -14,6 +14,7 @@ use task_model::{Body, Task};
 
 impl Work {
     ghost use Rattle.program_reader.specs.Works.{offered_work, chosen_work, choice_number, step_work};
+    ghost use Rattle.program_reader.specs.Definitions.{under_work};
 
     /// The number behind this task's bodies, the first of which has this number.
     pub(crate) fn number_after(&self, next: u32) -> Result<u32, Stop>
@@ -153,5 +154,14 @@ impl Work {
             places,
             bodies,
         })
+    }
+
+    /// The same task, with this place and others before its own.
+    pub(crate) fn under(self, place: u64, before: Vec<u64>) -> Result<Work, Stop>
+        ensures shown { IfOk result (λ r. shown_work r ≡ under_work place before.items (shown_work self)) }
+        ensures memory { IfErr result (λ e. e ≡ Stop.Memory) }
+    {
+        let places = joined(place, before, self.places)?;
+        Ok(Work { places, ..self })
     }
 }

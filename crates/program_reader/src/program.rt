@@ -64,6 +64,17 @@ impl Definitions {
     }
 }
 
+/// No definitions yet, and all tokens before them.
+fn nothing_read<'t>(
+    alloc: Global,
+    tokens: &'t [Located<'t>],
+) -> (Definitions, &'t [Located<'t>])
+    ensures none { shown_definitions result.0 ≡ record { defs = []; places = []; bodies = [] } }
+    ensures rest { result.1.now ≡ tokens.now }
+{
+    (Definitions::none(alloc), tokens)
+}
+
 /// The definitions of a program.
 pub(crate) fn program<'t>(
     alloc: Global,
@@ -73,8 +84,7 @@ pub(crate) fn program<'t>(
     requires { 1 ≤ room }
     ensures { Reads grammar.program shown_program room (lexemes tokens.now) (seen (λ r. (shown_definitions r.0, lexemes r.1.now)) result) }
 {
-    let mut all = Definitions::none(alloc);
-    let mut rest = tokens;
+    let (mut all, mut rest) = nothing_read(alloc, tokens);
     while let Some((word, place, after)) = definition_word(rest) {
         let next = all.number_after()?;
         let (one, after) = definition(alloc, room, next, word, place, after)?;
