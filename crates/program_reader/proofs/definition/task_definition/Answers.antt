@@ -73,4 +73,4 @@ returns c =
     let fits3 = f3.by.fits in
     let (x5, s5, f5) = c.in_ok-body.ensures.by in
     let fits5 = f5.by.fits in
-    record { by = (_, task_shown _ _ _ 0 x1.0 0 x3.0 0 x5.0 _ s1 s3 s5 ∙ sym c.in_ok-read.ensures.shown, by_rule (rules.task_rule _) refl le (seq_one grammar 0 (omega (arith, le)) c.in_ok-name.ensures (seq_part grammar 0 (λ p z. refl) (omega (arith, le)) up f1 (seq_one grammar 0 (omega (arith, le, fits1)) c.in_ok-rest.ensures (seq_part grammar 0 (λ p z. refl) (omega (arith, le, fits1)) up f3 (seq_one grammar 0 (omega (arith, le, fits1, fits3)) c.in_ok-rest-2.ensures (seq_part grammar 0 (stops_within task definition (omega arith)) (omega (arith, le, fits1, fits3)) up f5 (seq_done grammar 0 (omega (arith, le, fits1, fits3, fits5)))))))))) }
+    record { by = (_, task_shown c.args.next _ _ 0 x1.0 0 x3.0 0 x5.0 _ s1 s3 s5 ∙ sym c.in_ok-read.ensures.shown, by_rule (rules.task_rule _) refl le (seq_one grammar 0 (omega (arith, le)) c.in_ok-name.ensures (seq_part grammar 0 (λ p z. refl) (omega (arith, le)) up f1 (seq_one grammar 0 (omega (arith, le, fits1)) c.in_ok-rest.ensures (seq_part grammar 0 (λ p z. refl) (omega (arith, le, fits1)) up f3 (seq_one grammar 0 (omega (arith, le, fits1, fits3)) c.in_ok-rest-2.ensures (seq_part grammar 0 (stops_within task definition (omega arith)) (omega (arith, le, fits1, fits3)) up f5 (seq_done grammar 0 (omega (arith, le, fits1, fits3, fits5)))))))))) }
