@@ -7,4 +7,4 @@ use Rattle.program_reader.specs.Works.{shown_task, shown_work}
 use Rattle.program_reader.proofs.definition.body_of_task.Goals as goal
 
 pub returns : goal.returns
-returns c = subst (λ s. Reads grammar.task (shown_task s c.args.next) c.args.room (lexemes c.args.tokens.now) (seen (λ r. (shown_work r.0, lexemes r.1.now)) c.task.result)) (c.of.ensures ∙ ap (λ l. map (λ q. q.name) l) c.as_slice.ensures) c.task.ensures
+returns c = subst (λ s. Reads grammar.task (shown_task s c.args.next) c.args.room (lexemes c.args.tokens.now) (seen (λ r. (shown_work r.0, lexemes r.1.now)) c.task.result)) (c.of-scope.ensures ∙ ap (λ l. map (λ q. q.name) l) c.as_slice.ensures) c.task.ensures
