@@ -8,7 +8,7 @@ use Rattle.program_reader.proofs.DefinitionLemmas.{begin, next, next_stop, finis
 use Rattle.program_reader.proofs.program.program.Goals as goal
 
 pub loop-word-init : goal.loop-word-init
-loop-word-init c = rw c.nothing_read.ensures.rest (begin c.nothing_read.ensures.none)
+loop-word-init c = rw c.nothing_read-all.ensures.rest (begin c.nothing_read-all.ensures.none)
 
 pub returns-in_err-one : goal.returns-in_err-one
 returns-in_err-one c = let p = err_from_is_err_and c.from_residual-in_err-one.result c.from_residual-in_err-one.ensures.1 in rw (p.1, p.2) (next_stop c.loop-word.invariant c.in-Some.word c.in-Some.place c.in-Some.ensures c.in_err-one.ensures)
