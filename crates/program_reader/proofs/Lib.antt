@@ -1,0 +1,16 @@
+pub mod TaskRules
+pub mod TailLemmas
+pub mod StepRules
+pub mod NumberLemmas
+pub mod WorkSeries
+pub mod WorkLemmas
+pub mod ReadingLemmas
+pub mod DefinitionRules
+pub mod ProgramLemmas
+pub mod Respelled
+pub mod Spelled
+pub mod SourceLemmas
+pub mod ParameterLemmas
+pub mod DefinitionLemmas
+pub mod TokenLemmas
+pub mod TextLemmas

@@ -1,0 +1,67 @@
+-- Definitions and programs as their readers hand them on.
+use Rattle.std.specs.Prelude.{◌≡◌, ℕ, ◌+◌, List, [], ◌∷◌, ◌++◌, map}
+use Rattle.task_model.specs.Task.{BodyTerm, body_term}
+use Rattle.task_model.specs.Text.{Text}
+use Rattle.task_model.specs.Basic.{BasicTerm}
+use Rattle.task_model.specs.Host.{HostTerm}
+use Rattle.task_model.specs.Program.{ParamTerm, param_term, DefTerm, def_term, fun_body, task_body}
+use Rattle.program_grammar.specs.Parts.{Shown}
+use Rattle.program_reader.specs.Works.{ShownWork}
+use Rattle.program_reader.specs.declared.parameters.Parameters.{Parameters}
+use Rattle.program_reader.specs.declared.definition.ReadDefinition.{ReadDefinition}
+use Rattle.program_reader.specs.declared.program.Definitions.{Definitions}
+use Rattle.program_grammar.specs.Grammar.{Form, program, definition, parameter, series, list, enclosed, parameters, Parse}
+use Rattle.program_grammar.specs.Meaning.{meaning, bodies, bodies_of}
+use Rattle.program_grammar.specs.Nodes.{start, places}
+
+-- ---- parameters, with their places
+abbrev pub shown_parameter : Parse parameter → ParamTerm × ℕ
+shown_parameter d = (meaning d, start d)
+
+abbrev pub shown_series : Parse (series (list parameters)) → List ParamTerm × List ℕ
+shown_series d = (meaning d, places d)
+
+abbrev pub shown_enclosed : Parse (enclosed parameters) → List ParamTerm × List ℕ
+shown_enclosed d = (meaning d, places d)
+
+abbrev pub shown_parameters : Parameters → List ParamTerm × List ℕ
+shown_parameters r = (map param_term r.list.list, r.places.items)
+
+-- ---- a definition, with its places and its bodies, the first of which has this number
+pub record ShownDefinition : Type 0 where
+  pub def : DefTerm
+  pub places : List ℕ
+  pub bodies : List BodyTerm
+
+abbrev pub shown_meaning : ℕ → Parse definition → ShownDefinition
+shown_meaning next d = record { def = meaning d next; places = places d; bodies = bodies_of d [] next }
+
+abbrev pub shown_definition : ReadDefinition → ShownDefinition
+shown_definition r = record { def = def_term r.def; places = r.places.items; bodies = map body_term r.bodies.items }
+
+-- a task, with this place and others before its own
+abbrev pub under_work : ℕ → List ℕ → ShownWork → ShownWork
+under_work p before t = record { term = t.term; levels = t.levels; start = t.start; places = p ∷ (before ++ t.places); bodies = t.bodies }
+
+-- definitions from their parts
+abbrev pub function_definition : ℕ → Text → List ParamTerm × List ℕ → BasicTerm × ℕ → Shown HostTerm → ShownDefinition
+function_definition p x ps b e = record { def = record { name = x; params = ps.0; result = b.0; what = fun_body e.term }; places = p ∷ (ps.1 ++ e.places); bodies = [] }
+
+abbrev pub task_definition : ℕ → Text → List ParamTerm × List ℕ → BasicTerm × ℕ → ShownWork → ShownDefinition
+task_definition p x ps b t = record { def = record { name = x; params = ps.0; result = b.0; what = task_body t.term }; places = p ∷ (ps.1 ++ t.places); bodies = t.bodies }
+
+-- ---- a program
+pub record ShownProgram : Type 0 where
+  pub defs : List DefTerm
+  pub places : List ℕ
+  pub bodies : List BodyTerm
+
+abbrev pub shown_program : Parse program → ShownProgram
+shown_program d = record { defs = meaning d; places = places d; bodies = bodies_of d [] 0 }
+
+abbrev pub shown_definitions : Definitions → ShownProgram
+shown_definitions r = record { defs = map def_term r.defs.list; places = r.places.items; bodies = map body_term r.bodies.items }
+
+-- one more definition
+abbrev pub more_shown : ShownProgram → ShownDefinition → ShownProgram
+more_shown r d = record { defs = r.defs ++ d.def ∷ []; places = r.places ++ d.places; bodies = r.bodies ++ d.bodies }

@@ -1,0 +1,4 @@
+pub mod Definitions
+pub mod Numbers
+pub mod Signs
+pub mod Works

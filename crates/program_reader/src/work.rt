@@ -1,0 +1,348 @@
+ghost use Rattle.std.specs.Prelude.{◌≡◌, ◌+◌, ◌<◌, ◌^◌, [], IfOk, IfErr};
+ghost use Rattle.task_model.specs.Task as tasks;
+ghost use Rattle.program_grammar.specs.Grammar.{Step};
+ghost use Rattle.program_grammar.specs.Parts.{measured, shown_host};
+ghost use Rattle.program_grammar.specs.Parts.{shown_items};
+ghost use Rattle.program_reader.specs.Works.{shown_work, scope_of};
+
+use exact_reading::Stop;
+use program_grammar::{Items, joined, name_text, threefold};
+use program_grammar::{Measured, Node};
+use std::alloc::Global;
+use task_model::{Body, Host, Task};
+
+/// A task that was read, its levels, the place of its first token, the places of its nodes in pre-order, and its bodies in the
+/// order in which their texts begin.
+#[derive(Drop)]
+pub(crate) struct Work {
+    pub(crate) task: Task,
+    pub(crate) levels: usize,
+    pub(crate) start: u64,
+    pub(crate) places: Vec<u64>,
+    pub(crate) bodies: Vec<Body>,
+}
+
+impl Work {
+    ghost use Rattle.program_reader.specs.Works.{leaf_work, edit_work, type_work, call_work, group_work, over_works, after_work, either_work};
+
+    /// `edit`, which stands here, of this expression.
+    pub(crate) fn edit(alloc: Global, place: u64, value: Node<Host>) -> Result<Work, Stop>
+        requires { value.levels + 1 < 2 ^ 64 }
+        ensures shown { IfOk result (λ r. shown_work r ≡ edit_work place (shown_host value)) }
+        ensures memory { IfErr result (λ e. e ≡ Stop.Memory) }
+    {
+        let levels = 1 + value.levels;
+        let mut places = value.places;
+        places.insert(0, place)?;
+        Ok(Work {
+            task: Task::Edit(Box::into_inner(value.term)),
+            levels,
+            start: place,
+            places,
+            bodies: Vec::new(alloc),
+        })
+    }
+
+    /// `enter`, which stands here, of this type.
+    pub(crate) fn enter(alloc: Global, place: u64, item: Measured) -> Result<Work, Stop>
+        requires { item.levels + 1 < 2 ^ 64 }
+        ensures shown { IfOk result (λ r. shown_work r ≡ type_work tasks.enter place (measured item)) }
+        ensures memory { IfErr result (λ e. e ≡ Stop.Memory) }
+    {
+        let levels = 1 + item.levels;
+        let mut places = Vec::new(alloc);
+        places.push(place)?;
+        Ok(Work {
+            task: Task::Enter(item.basic),
+            levels,
+            start: place,
+            places,
+            bodies: Vec::new(alloc),
+        })
+    }
+
+    /// `fail`, which stands here, of this type.
+    pub(crate) fn fail(alloc: Global, place: u64, item: Measured) -> Result<Work, Stop>
+        requires { item.levels + 1 < 2 ^ 64 }
+        ensures shown { IfOk result (λ r. shown_work r ≡ type_work tasks.fail place (measured item)) }
+        ensures memory { IfErr result (λ e. e ≡ Stop.Memory) }
+    {
+        let levels = 1 + item.levels;
+        let mut places = Vec::new(alloc);
+        places.push(place)?;
+        Ok(Work {
+            task: Task::Fail(item.basic),
+            levels,
+            start: place,
+            places,
+            bodies: Vec::new(alloc),
+        })
+    }
+
+    /// `share`, which stands here, of this name.
+    pub(crate) fn share(alloc: Global, place: u64, name: &str) -> Result<Work, Stop>
+        ensures shown { IfOk result (λ r. shown_work r ≡ leaf_work (tasks.share name.now) 1 place) }
+        ensures memory { IfErr result (λ e. e ≡ Stop.Memory) }
+    {
+        let name = name_text(alloc, name)?;
+        let mut places = Vec::new(alloc);
+        places.push(place)?;
+        Ok(Work {
+            task: Task::Share(name),
+            levels: 1,
+            start: place,
+            places,
+            bodies: Vec::new(alloc),
+        })
+    }
+
+    /// A call of a task with these arguments, whose name stands here.
+    pub(crate) fn call(
+        alloc: Global,
+        place: u64,
+        name: &str,
+        items: Items,
+    ) -> Result<Work, Stop>
+        requires { items.levels + 1 < 2 ^ 64 }
+        ensures shown { IfOk result (λ r. shown_work r ≡ call_work name.now place (shown_items items)) }
+        ensures memory { IfErr result (λ e. e ≡ Stop.Memory) }
+    {
+        let levels = 1 + items.levels;
+        let mut places = items.places;
+        places.insert(0, place)?;
+        let name = name_text(alloc, name)?;
+        Ok(Work {
+            task: Task::Call {
+                name,
+                args: items.list,
+            },
+            levels,
+            start: place,
+            places,
+            bodies: Vec::new(alloc),
+        })
+    }
+
+    /// This task in parentheses, the first of which stands here.
+    pub(crate) fn group(self, place: u64) -> Work
+        requires { self.levels + 1 < 2 ^ 64 }
+        ensures { shown_work result ≡ group_work place (shown_work self) }
+    {
+        Work {
+            levels: 1 + self.levels,
+            start: place,
+            ..self
+        }
+    }
+
+    /// This task and another one, joined by `<&>`.
+    pub(crate) fn and(self, alloc: Global, right: Work) -> Result<Work, Stop>
+        requires left { self.levels + 1 < 2 ^ 64 }
+        requires right { right.levels + 1 < 2 ^ 64 }
+        ensures shown { IfOk result (λ r. shown_work r ≡ over_works tasks.and_task (shown_work self) (shown_work right)) }
+        ensures memory { IfErr result (λ e. e ≡ Stop.Memory) }
+    {
+        let levels = 1 + self.levels.max(right.levels);
+        let start = self.start;
+        let places = joined(start, self.places, right.places)?;
+        let mut bodies = self.bodies;
+        let mut others = right.bodies;
+        bodies.append(&mut others)?;
+        let left = Box::new(alloc, self.task)?;
+        let right = Box::new(alloc, right.task)?;
+        Ok(Work {
+            task: Task::And(left, right),
+            levels,
+            start,
+            places,
+            bodies,
+        })
+    }
+
+    /// This task or another one, as `<|>` chooses.
+    pub(crate) fn or(self, alloc: Global, right: Work) -> Result<Work, Stop>
+        requires left { self.levels + 1 < 2 ^ 64 }
+        requires right { right.levels + 1 < 2 ^ 64 }
+        ensures shown { IfOk result (λ r. shown_work r ≡ over_works tasks.or_task (shown_work self) (shown_work right)) }
+        ensures memory { IfErr result (λ e. e ≡ Stop.Memory) }
+    {
+        let levels = 1 + self.levels.max(right.levels);
+        let start = self.start;
+        let places = joined(start, self.places, right.places)?;
+        let mut bodies = self.bodies;
+        let mut others = right.bodies;
+        bodies.append(&mut others)?;
+        let left = Box::new(alloc, self.task)?;
+        let right = Box::new(alloc, right.task)?;
+        Ok(Work {
+            task: Task::Or(left, right),
+            levels,
+            start,
+            places,
+            bodies,
+        })
+    }
+
+    /// `let`, which stands here, of this value, and this task behind it.
+    pub(crate) fn bound(
+        self,
+        alloc: Global,
+        place: u64,
+        name: &str,
+        value: Node<Host>,
+    ) -> Result<Work, Stop>
+        requires task { self.levels + 1 < 2 ^ 64 }
+        requires value { value.levels + 1 < 2 ^ 64 }
+        ensures shown { IfOk result (λ r. shown_work r ≡ after_work (tasks.let_task name.now) place (shown_host value) (shown_work self)) }
+        ensures memory { IfErr result (λ e. e ≡ Stop.Memory) }
+    {
+        let levels = 1 + value.levels.max(self.levels);
+        let places = joined(place, value.places, self.places)?;
+        let name = name_text(alloc, name)?;
+        let rest = Box::new(alloc, self.task)?;
+        Ok(Work {
+            task: Task::Let {
+                name,
+                bound: Box::into_inner(value.term),
+                rest,
+            },
+            levels,
+            start: place,
+            places,
+            bodies: self.bodies,
+        })
+    }
+
+    /// `new`, which stands here, with this content, and this task behind it.
+    pub(crate) fn made(
+        self,
+        alloc: Global,
+        place: u64,
+        name: &str,
+        init: Node<Host>,
+    ) -> Result<Work, Stop>
+        requires task { self.levels + 1 < 2 ^ 64 }
+        requires init { init.levels + 1 < 2 ^ 64 }
+        ensures shown { IfOk result (λ r. shown_work r ≡ after_work (tasks.new_task name.now) place (shown_host init) (shown_work self)) }
+        ensures memory { IfErr result (λ e. e ≡ Stop.Memory) }
+    {
+        let levels = 1 + init.levels.max(self.levels);
+        let places = joined(place, init.places, self.places)?;
+        let name = name_text(alloc, name)?;
+        let rest = Box::new(alloc, self.task)?;
+        Ok(Work {
+            task: Task::New {
+                name,
+                init: Box::into_inner(init.term),
+                rest,
+            },
+            levels,
+            start: place,
+            places,
+            bodies: self.bodies,
+        })
+    }
+
+    /// A change of the place of this name, which stands here, and this task behind it.
+    pub(crate) fn changed(
+        self,
+        alloc: Global,
+        place: u64,
+        name: &str,
+        value: Node<Host>,
+    ) -> Result<Work, Stop>
+        requires task { self.levels + 1 < 2 ^ 64 }
+        requires value { value.levels + 1 < 2 ^ 64 }
+        ensures shown { IfOk result (λ r. shown_work r ≡ after_work (tasks.put_task name.now) place (shown_host value) (shown_work self)) }
+        ensures memory { IfErr result (λ e. e ≡ Stop.Memory) }
+    {
+        let levels = 1 + value.levels.max(self.levels);
+        let places = joined(place, value.places, self.places)?;
+        let name = name_text(alloc, name)?;
+        let rest = Box::new(alloc, self.task)?;
+        Ok(Work {
+            task: Task::Put {
+                name,
+                value: Box::into_inner(value.term),
+                rest,
+            },
+            levels,
+            start: place,
+            places,
+            bodies: self.bodies,
+        })
+    }
+
+    /// `if`, which stands here, and this task where the test holds.
+    pub(crate) fn tested(
+        self,
+        alloc: Global,
+        place: u64,
+        test: Node<Host>,
+        no: Work,
+    ) -> Result<Work, Stop>
+        requires yes { self.levels + 1 < 2 ^ 64 }
+        requires test { test.levels + 1 < 2 ^ 64 }
+        requires no { no.levels + 1 < 2 ^ 64 }
+        ensures shown { IfOk result (λ r. shown_work r ≡ either_work tasks.if_task place (shown_host test) (shown_work self) (shown_work no)) }
+        ensures memory { IfErr result (λ e. e ≡ Stop.Memory) }
+    {
+        let levels = 1 + test.levels.max(self.levels.max(no.levels));
+        let places = threefold(place, test.places, self.places, no.places)?;
+        let mut bodies = self.bodies;
+        let mut others = no.bodies;
+        bodies.append(&mut others)?;
+        let yes = Box::new(alloc, self.task)?;
+        let no = Box::new(alloc, no.task)?;
+        Ok(Work {
+            task: Task::If {
+                test: Box::into_inner(test.term),
+                yes,
+                no,
+            },
+            levels,
+            start: place,
+            places,
+            bodies,
+        })
+    }
+
+    /// `case`, which stands here, and this task where the list is empty.
+    pub(crate) fn cased(
+        self,
+        alloc: Global,
+        place: u64,
+        list: Node<Host>,
+        names: (&str, &str),
+        more: Work,
+    ) -> Result<Work, Stop>
+        requires empty { self.levels + 1 < 2 ^ 64 }
+        requires list { list.levels + 1 < 2 ^ 64 }
+        requires more { more.levels + 1 < 2 ^ 64 }
+        ensures shown { IfOk result (λ r. shown_work r ≡ either_work (λ e t u. tasks.case_task e t names.entry.0.now names.entry.1.now u) place (shown_host list) (shown_work self) (shown_work more)) }
+        ensures memory { IfErr result (λ e. e ≡ Stop.Memory) }
+    {
+        let levels = 1 + list.levels.max(self.levels.max(more.levels));
+        let places = threefold(place, list.places, self.places, more.places)?;
+        let mut bodies = self.bodies;
+        let mut others = more.bodies;
+        bodies.append(&mut others)?;
+        let head = name_text(alloc, names.0)?;
+        let tail = name_text(alloc, names.1)?;
+        let empty = Box::new(alloc, self.task)?;
+        let more = Box::new(alloc, more.task)?;
+        Ok(Work {
+            task: Task::Case {
+                list: Box::into_inner(list.term),
+                empty,
+                head,
+                tail,
+                more,
+            },
+            levels,
+            start: place,
+            places,
+            bodies,
+        })
+    }
+}
