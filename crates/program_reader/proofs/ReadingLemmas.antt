@@ -11,10 +11,9 @@ use Rattle.program_grammar.specs.Lexemes.{Lexeme}
 use Rattle.program_grammar.specs.Grammar.{Form, basic, Parse, levels}
 use Rattle.program_grammar.specs.Meaning.{Meaning}
 use Rattle.program_grammar.specs.Languages.{Of, Stops, Reading, Reads}
-use Rattle.program_grammar.specs.Parts.{lexeme, lexemes, Shown, shown, shown_type}
+use Rattle.program_grammar.specs.Parts.{lexeme, lexemes, Shown, shown, shown_type, Listed, shown_list}
 use Rattle.program_grammar.specs.declared.lexeme.Located.{Located}
 use Rattle.task_model.specs.Basic.{BasicTerm}
-use Rattle.program_grammar.specs.Parts.{Listed, shown_list}
 
 -- want of memory says nothing of the tokens
 pub starved : {X Y : Type 0} {A : Language Lexeme X} {F : X → Type 0} {E : List Lexeme → Type 0} {show : X → Y} {ts : List Lexeme} {e : Stop} → e ≡ Memory → Reading A F E show ts (Err e)

@@ -11,8 +11,7 @@ use Rattle.program_grammar.specs.Lexemes.{Lexeme}
 use Rattle.program_grammar.specs.Grammar.{Form, task, task_atom, series, choice, chain, expression, Operator, internal, external, together, Step, Parse, task_let, task_if, task_case, task_new, task_put, task_plain, task_step, task_edit, task_enter, task_fail, task_call, task_group, atom, basic, enclosed, arguments, single, joined, levels}
 use Rattle.program_grammar.specs.Meaning.{meaning, bodies, bodies_of, step_of}
 use Rattle.program_grammar.specs.Languages.{Of, Stops, Reading, Reads}
-use Rattle.program_grammar.specs.Parts.{Shown, shown, shown_type}
-use Rattle.program_grammar.specs.Parts.{Listed, shown_list}
+use Rattle.program_grammar.specs.Parts.{Shown, shown, shown_type, Listed, shown_list}
 use Rattle.program_reader.specs.Numbers.{renumbered, body_renumbered}
 use Rattle.program_reader.specs.Works.{ShownWork, work, shown_task, shown_atom, shown_chain, shown_choice, over_works, offered_work, chosen_work, choice_number, step_work, after_work, either_work, group_work, edit_work, type_work, call_work}
 use Rattle.program_reader.proofs.NumberLemmas.{bodies_count, term_next, bodies_next}

@@ -17,8 +17,7 @@ use Rattle.program_reader.specs.Numbers.{renumbered, body_renumbered}
 use Rattle.program_grammar.specs.Grammar.{Form, task, task_atom, series, choice, chain, Operator, internal, external, Step, Parse, task_plain, task_step, levels}
 use Rattle.program_grammar.specs.Meaning.{meaning, bodies_of, step_of}
 use Rattle.program_grammar.specs.Nodes.{start, places}
-use Rattle.program_grammar.specs.Parts.{Shown}
-use Rattle.program_grammar.specs.Parts.{Listed}
+use Rattle.program_grammar.specs.Parts.{Shown, Listed}
 
 -- the names in scope, outermost first
 abbrev pub scope_of : Scope → List Text

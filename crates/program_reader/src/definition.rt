@@ -15,12 +15,13 @@ ghost use Rattle.task_model.specs.Program.{param_term, task_body};
 use crate::definition_words::DefinitionWord;
 use crate::parameters::{Parameters, enclosed_parameters};
 use crate::scope::Scope;
-use expression_reader::expression;
-use program_grammar::{joined, name_text};
 use crate::tasks::task;
 use crate::work::Work;
 use exact_reading::Stop;
-use program_grammar::{Located, Measured, Node, basic, expect_name, expect_sign};
+use expression_reader::expression;
+use program_grammar::{
+    Located, Measured, Node, basic, expect_name, expect_sign, joined, name_text,
+};
 use std::alloc::Global;
 use task_model::{Basic, Body, Def, DefBody, Host, Param, Row, TaskText};
 use task_syntax::Symbol;

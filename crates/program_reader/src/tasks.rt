@@ -11,10 +11,10 @@ ghost use Rattle.program_reader.specs.Works.{scope_of, shown_work, shown_task, s
 use crate::choice::choice_sign;
 use crate::scope::Scope;
 use crate::step::step_sign;
-use expression_reader::expression;
 use crate::word_atoms::word_atom;
 use crate::work::Work;
 use exact_reading::{Stop, too_nested};
+use expression_reader::expression;
 use program_grammar::{Located, expect_name, expect_sign, expect_word, strip_name, strip_sign, strip_word};
 use std::alloc::Global;
 use task_syntax::{Keyword, Symbol};

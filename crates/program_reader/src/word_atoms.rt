@@ -7,9 +7,9 @@ ghost use Rattle.program_grammar.specs.Languages.{Reads};
 ghost use Rattle.program_grammar.specs.Parts.{lexemes};
 ghost use Rattle.program_reader.specs.Works.{shown_work, shown_atom, NoSign};
 
-use expression_reader::{atom, enclosed};
 use crate::work::Work;
 use exact_reading::{Stop, too_nested, unexpected};
+use expression_reader::{atom, enclosed};
 use program_grammar::{Located, basic, expect_name, strip_name, strip_word};
 use std::alloc::Global;
 use task_syntax::Keyword;

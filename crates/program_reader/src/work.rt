@@ -1,13 +1,11 @@
 ghost use Rattle.std.specs.Prelude.{◌≡◌, ◌+◌, ◌<◌, ◌^◌, [], IfOk, IfErr};
 ghost use Rattle.task_model.specs.Task as tasks;
 ghost use Rattle.program_grammar.specs.Grammar.{Step};
-ghost use Rattle.program_grammar.specs.Parts.{measured, shown_host};
-ghost use Rattle.program_grammar.specs.Parts.{shown_items};
+ghost use Rattle.program_grammar.specs.Parts.{measured, shown_host, shown_items};
 ghost use Rattle.program_reader.specs.Works.{shown_work, scope_of};
 
 use exact_reading::Stop;
-use program_grammar::{Items, joined, name_text, threefold};
-use program_grammar::{Measured, Node};
+use program_grammar::{Items, Measured, Node, joined, name_text, threefold};
 use std::alloc::Global;
 use task_model::{Body, Host, Task};
 
@@ -197,9 +195,9 @@ impl Work {
         ensures memory { IfErr result (λ e. e ≡ Stop.Memory) }
     {
         let levels = 1 + value.levels.max(self.levels);
-        let places = joined(place, value.places, self.places)?;
         let name = name_text(alloc, name)?;
-        let rest = Box::new(alloc, self.task)?;
+        let task = self.under(place, value.places)?;
+        let rest = Box::new(alloc, task.task)?;
         Ok(Work {
             task: Task::Let {
                 name,
@@ -208,8 +206,8 @@ impl Work {
             },
             levels,
             start: place,
-            places,
-            bodies: self.bodies,
+            places: task.places,
+            bodies: task.bodies,
         })
     }
 
@@ -227,9 +225,9 @@ impl Work {
         ensures memory { IfErr result (λ e. e ≡ Stop.Memory) }
     {
         let levels = 1 + init.levels.max(self.levels);
-        let places = joined(place, init.places, self.places)?;
         let name = name_text(alloc, name)?;
-        let rest = Box::new(alloc, self.task)?;
+        let task = self.under(place, init.places)?;
+        let rest = Box::new(alloc, task.task)?;
         Ok(Work {
             task: Task::New {
                 name,
@@ -238,8 +236,8 @@ impl Work {
             },
             levels,
             start: place,
-            places,
-            bodies: self.bodies,
+            places: task.places,
+            bodies: task.bodies,
         })
     }
 
@@ -257,9 +255,9 @@ impl Work {
         ensures memory { IfErr result (λ e. e ≡ Stop.Memory) }
     {
         let levels = 1 + value.levels.max(self.levels);
-        let places = joined(place, value.places, self.places)?;
         let name = name_text(alloc, name)?;
-        let rest = Box::new(alloc, self.task)?;
+        let task = self.under(place, value.places)?;
+        let rest = Box::new(alloc, task.task)?;
         Ok(Work {
             task: Task::Put {
                 name,
@@ -268,8 +266,8 @@ impl Work {
             },
             levels,
             start: place,
-            places,
-            bodies: self.bodies,
+            places: task.places,
+            bodies: task.bodies,
         })
     }
 
