@@ -34,17 +34,20 @@ module _ (source : Text) (ls : List Lexeme) (short : length source ≤ 1048576) 
         let (is, fits) = whole_found none right in
         let few = is.1 in record {
           short = short;
-          terms = token_terms ls;
-          has = has;
-          parse = x.0;
-          reads = ap token_terms is.0;
-          within = omega (arith, fits, few);
-          stands_for = ap (λ q. record { defs = q.defs; bodies = q.bodies }) shows ∙ sym ep;
-          placed = es ∙ ap (λ q. q.places ++ length source ∷ []) (sym shows);
+          reading = record {
+            terms = token_terms ls;
+            has = has;
+            parse = x.0;
+            reads = ap token_terms is.0;
+            within = omega (arith, fits, few);
+            stands_for = ap (λ q. record { defs = q.defs; bodies = q.bodies }) shows ∙ sym ep;
+            placed = es ∙ ap (λ q. q.places ++ length source ∷ []) (sym shows);
+          };
         }
 
     pub only_text : (p : ProgramTerm) (places : List ℕ) → p ≡ record { defs = all.defs; bodies = all.bodies } → places ≡ all.places ++ length source ∷ [] → (q : ProgramTerm) (others : List ℕ) → IsProgramText source q others → (q ≡ p) × (others ≡ places)
-    only_text p places ep es q others k =
+    only_text p places ep es q others t =
+        let k = t.reading in
         let (x, shows, right) = h.by in
         let terms_are : token_terms (tokens k.parse) ≡ token_terms ls = k.reads ∙ one_list source k.terms (token_terms ls) k.has has in
         let here = same_terms (tokens k.parse) ls terms_are in
