@@ -1,7 +1,7 @@
 -- From the answer for the tokens of a source to what holds of the source.
-use Rattle.std.proofs.Common.{◌≡◌, ◌≢◌, ℕ, zero, suc, ◌+◌, ◌-◌, ◌<◌, ◌≤◌, List, [], ◌∷◌, ◌++◌, length, get_or, map, Ok, Err, refl, sym, ap, ◌∙◌, subst, arith}
-use Rattle.std.specs.Prelude.{◌==◌, Bool, true, false, Result, IfOk, IfErr, MatchResult}
-use Rattle.std.specs.Str.{IsUtf8, IsValidUpTo}
+use Rattle.std.proofs.Common.{◌≡◌, ◌≢◌, ℕ, zero, suc, ◌+◌, ◌-◌, ◌<◌, ◌≤◌, List, [], ◌∷◌, ◌++◌, length, get_or, Ok, Err, refl, sym, ap, ◌∙◌, subst, arith}
+use Rattle.std.specs.Prelude.{◌==◌, true, false, Result, IfOk, IfErr, MatchResult}
+use Rattle.std.specs.Str.{IsValidUpTo}
 use Rattle.std.proofs.Math.Nat.{lt_of_not-le}
 use Rattle.std.proofs.lemmas.List.{length-map}
 use Rattle.task_model.specs.Text.{Text}
@@ -13,15 +13,15 @@ use Rattle.task_syntax.specs.declared.token.Token.{Token}
 use Rattle.exact_reading.specs.declared.stop.Kind.{Kind}
 use Rattle.exact_reading.specs.declared.stop.Kind.TheVariants.{Unexpected}
 use Rattle.exact_reading.specs.declared.stop.Stop.TheVariants.{Fault}
-use Rattle.exact_reading.specs.Reading.{Within, Right}
+use Rattle.exact_reading.specs.Reading.{Within}
 use Rattle.exact_reading.specs.Whole.{IsFirstFault}
 use Rattle.exact_reading.proofs.Whole.{whole_found, whole_only, trailing, refused, left_within, rest_within}
 use Rattle.program_grammar.specs.Lexemes.{Lexeme, token_term, token_terms}
-use Rattle.program_grammar.specs.Grammar.{program, Parse, tokens, levels}
+use Rattle.program_grammar.specs.Grammar.{program, tokens, levels}
 use Rattle.program_grammar.specs.Meaning.{program_of}
 use Rattle.program_grammar.specs.Nodes as nodes
-use Rattle.program_grammar.specs.Languages.{Of, Stops, Reads}
-use Rattle.program_grammar.specs.Faults.{AreSpelled, IsProgram, place_of, IsTokenFault, IsLongestUtf8, IsFaultOf, IsStop}
+use Rattle.program_grammar.specs.Languages.{Reads}
+use Rattle.program_grammar.specs.Faults.{AreSpelled, IsProgram, place_of, IsLongestUtf8, IsStop}
 use Rattle.program_grammar.specs.ProgramText.{IsProgramText}
 use Rattle.program_grammar.specs.declared.lexeme.Lexeme as codes
 use Rattle.program_grammar.specs.declared.lexeme.Lexeme.TheVariants as variants

@@ -1,4 +1,4 @@
-use Rattle.program_reader.proofs.TokenLemmas.{going_start, going_next, going_end, first_spelled, first_some, first_within}
+use Rattle.program_reader.proofs.TokenLemmas.{going_next}
 use Rattle.program_reader.proofs.tokens.lexemes_of.Goals as goal
 
 pub loop-token-preserved : goal.loop-token-preserved
