@@ -156,8 +156,7 @@ module _ (G : ℕ → Type 0) where
   onto u all (w, (d, n), (t, l), g) =
       let other = respelled (kept_name u) (kept_number u) (kept_quote u) d in
       let are : tokens other ≡ u ++ map (kept u) w =
-          tokens_respelled (kept_name u) (kept_number u) (kept_quote u) d ∙ ap (map (kept u)) t ∙ map-append (kept u) u w ∙ ap (λ l. l ++ map (kept u) w) (all_kept [] u) in
-      (
+      tokens_respelled (kept_name u) (kept_number u) (kept_quote u) d ∙ ap (map (kept u)) t ∙ map-append (kept u) u w ∙ ap (λ l. l ++ map (kept u) w) (all_kept [] u) in (
         token_terms (map (kept u) w),
         (program_of other, levels other),
         record { spelled = spelled_append (token_terms u) (token_terms (map (kept u) w)) all (all_kept_spelled u all w); parse = other; reads = ap token_terms are ∙ terms_append u (map (kept u) w); stands_for = refl },
