@@ -1,10 +1,9 @@
 -- The tokens of the grammar and those of a source: the same, and faults in them too.
-use Rattle.std.proofs.Common.{◌≡◌, ℕ, suc, ◌+◌, ◌<◌, ◌≤◌, Bool, true, false, List, [], ◌∷◌, ◌++◌, length, map, refl, sym, ap, ◌∙◌, subst, arith, eqb, append_assoc}
+use Rattle.std.proofs.Common.{◌≡◌, ℕ, ◌≤◌, List, [], ◌∷◌, ◌++◌, map, refl, sym, ap, ◌∙◌, subst, arith, eqb, append_assoc}
 use Rattle.std.specs.Prelude.{if◌then◌else◌}
 use Rattle.std.specs.Cmp.Lexicographic.{pointwise}
 use Rattle.std.proofs.lemmas.List.{map-append, length-map}
 use Rattle.task_model.specs.Text.{Text}
-use Rattle.task_model.specs.Program.{ProgramTerm}
 use Rattle.task_model.specs.Token.{TokenTerm, text_token}
 use Rattle.task_syntax.specs.declared.keyword.Keyword.{Keyword}
 use Rattle.task_syntax.specs.declared.keyword.Keyword.TheVariants as words
@@ -13,13 +12,13 @@ use Rattle.task_syntax.specs.declared.symbol.Symbol.TheVariants as signs
 use Rattle.task_syntax.specs.Spelling.{keyword_spelling, symbol_spelling}
 use Rattle.exact_reading.specs.declared.stop.Kind.{Kind}
 use Rattle.exact_reading.specs.declared.stop.Kind.TheVariants.{Unexpected, TooNested}
-use Rattle.exact_reading.specs.Reading.{Language, Within, Alive, Always}
+use Rattle.exact_reading.specs.Reading.{Within, Alive, Always}
 use Rattle.exact_reading.specs.Whole.{IsFault, IsFirstFault}
 use Rattle.program_grammar.specs.Lexemes.{Lexeme, word, sign, name, number, quote, token_term, token_terms}
-use Rattle.program_grammar.specs.Grammar.{program, Parse, no_definitions, tokens, levels}
+use Rattle.program_grammar.specs.Grammar.{program, no_definitions, tokens, levels}
 use Rattle.program_grammar.specs.Meaning.{program_of}
 use Rattle.program_grammar.specs.Languages.{Of}
-use Rattle.program_grammar.specs.Faults.{IsSpelled, AreSpelled, IsProgram}
+use Rattle.program_grammar.specs.Faults.{AreSpelled, IsProgram}
 use Rattle.program_reader.proofs.Respelled.{respelled, tokens_respelled, levels_respelled}
 use Rattle.program_reader.proofs.Spelled.{kept_name, kept_number, kept_quote, kept, all_kept, all_kept_spelled}
 
@@ -157,8 +156,7 @@ module _ (G : ℕ → Type 0) where
   onto u all (w, (d, n), (t, l), g) =
       let other = respelled (kept_name u) (kept_number u) (kept_quote u) d in
       let are : tokens other ≡ u ++ map (kept u) w =
-          tokens_respelled (kept_name u) (kept_number u) (kept_quote u) d ∙ ap (map (kept u)) t ∙ map-append (kept u) u w ∙ ap (λ l. l ++ map (kept u) w) (all_kept [] u) in
-      (
+      tokens_respelled (kept_name u) (kept_number u) (kept_quote u) d ∙ ap (map (kept u)) t ∙ map-append (kept u) u w ∙ ap (λ l. l ++ map (kept u) w) (all_kept [] u) in (
         token_terms (map (kept u) w),
         (program_of other, levels other),
         record { spelled = spelled_append (token_terms u) (token_terms (map (kept u) w)) all (all_kept_spelled u all w); parse = other; reads = ap token_terms are ∙ terms_append u (map (kept u) w); stands_for = refl },

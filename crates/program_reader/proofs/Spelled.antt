@@ -1,11 +1,9 @@
 -- Completions whose tokens are all spelled as their kinds say: of names, numbers and texts only those that stand in front are kept.
-use Rattle.std.proofs.Common.{◌≡◌, ℕ, suc, ◌+◌, ◌<◌, ◌≤◌, Bool, true, false, List, [], ◌∷◌, ◌++◌, length, map, refl, sym, ap, ◌∙◌, subst, arith, eqb, append_assoc}
+use Rattle.std.proofs.Common.{◌≡◌, ℕ, Bool, true, false, List, [], ◌∷◌, ◌++◌, map, refl, sym, ap, ◌∙◌, subst, arith, eqb, append_assoc}
 use Rattle.std.specs.Prelude.{codes, if◌then◌else◌, ◌||◌, ◌&&◌}
 use Rattle.std.specs.Cmp.Lexicographic.{pointwise, same_text}
-use Rattle.std.proofs.lemmas.List.{map-append}
 use Rattle.unicode_ident.proofs.IdentLemmas.{is_xid_start-ascii}
 use Rattle.task_model.specs.Text.{Text}
-use Rattle.task_model.specs.Token.{TokenTerm, IsWord, is_keyword, Spells, IsWithinLimits, name_token, number_token, text_token, number_from, IsText, IsNumber}
 use Rattle.task_syntax.proofs.Words.{is_keyword-spelling, is_symbol-spelling}
 use Rattle.program_grammar.specs.Lexemes.{Lexeme, word, sign, name, number, quote, token_term, token_terms}
 use Rattle.program_grammar.specs.Faults.{IsSpelled, AreSpelled}

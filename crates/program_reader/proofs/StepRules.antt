@@ -197,14 +197,16 @@ module _ (x : Text) (p : ℕ) where
 
   -- `:=` follows, and there is room for a call, but none for a change
   pub change_deep : {room : ℕ} {q : ℕ} {ts s : List Lexeme} → ts ≡ sign signs.Assign q ∷ s → 1 ≤ room → room < 2 → Right (Of task) (Within room) (Stops task) (name x p ∷ ts) (Err (Fault TooNested (length ts)))
-  change_deep {room = room} {q = q} {ts = ts} {s = s} e le lt = record { by = record {
-    front = name x p ∷ [];
-    back = ts;
-    split = refl;
-    place = refl;
-    alive = inr (tokens (empty arguments 0 0), (called, 1), (refl, refl), le);
-    faulty = (dead, (sign signs.Assign q, s, e, (_, (put_build (q, (smallest expression, (0, (smallest task, tt)))), 2), (refl, refl), tt)));
-  } }
+  change_deep {room = room} {q = q} {ts = ts} {s = s} e le lt = record {
+    by = record {
+      front = name x p ∷ [];
+      back = ts;
+      split = refl;
+      place = refl;
+      alive = inr (tokens (empty arguments 0 0), (called, 1), (refl, refl), le);
+      faulty = (dead, (sign signs.Assign q, s, e, (_, (put_build (q, (smallest expression, (0, (smallest task, tt)))), 2), (refl, refl), tt)));
+    };
+  }
     where
       dead : (a : List Lexeme) (y : Parse task × ℕ) (z : List Lexeme) → Of task a y → y.1 ≤ room → Stops task z → Begins (name x p ∷ []) ts (a ++ z) → ⊥
       dead a y z h fits hz b =

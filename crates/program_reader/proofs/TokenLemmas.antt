@@ -1,10 +1,10 @@
 -- From the tokens of a source to those of the grammar.
-use Rattle.std.proofs.Common.{◌≡◌, ℕ, ◌+◌, ◌<◌, ◌≤◌, List, [], ◌∷◌, ◌++◌, length, map, refl, sym, ap, ◌∙◌, subst, arith, append_assoc, append-nil}
+use Rattle.std.proofs.Common.{◌≡◌, ℕ, ◌<◌, ◌≤◌, List, [], ◌∷◌, ◌++◌, length, refl, sym, ap, ◌∙◌, subst, arith, append_assoc, append-nil}
 use Rattle.std.specs.Prelude.{ℤ, pos, slice_range}
 use Rattle.std.specs.Str.{IsUtf8}
 use Rattle.std.proofs.lemmas.List.{map-append}
 use Rattle.task_model.specs.Text.{Text}
-use Rattle.task_model.specs.Token.{TokenTerm, TokenKindTerm, IsWord, name_token, keyword_token, number_token, text_token, symbol_token, number_from, Spells, Piece, blank, comment, lexeme, AreRight, tokens_from, HasTokens}
+use Rattle.task_model.specs.Token.{TokenTerm, TokenKindTerm, name_token, keyword_token, number_token, text_token, symbol_token, number_from, Spells}
 use Rattle.task_syntax.specs.declared.keyword.Keyword.{Keyword}
 use Rattle.task_syntax.specs.declared.symbol.Symbol.{Symbol}
 use Rattle.task_syntax.specs.declared.token.Token.{Token}
@@ -16,16 +16,6 @@ use Rattle.program_grammar.specs.Lexemes.{token_term, token_terms}
 use Rattle.program_grammar.specs.Parts as parts
 use Rattle.program_grammar.specs.Parts.{lexemes}
 use Rattle.program_grammar.specs.declared.lexeme.Located.{Located}
-
-spelled_from : (place : ℕ) (ps : List Piece) → AreRight ps → AreSpelled (tokens_from place ps)
-spelled_from place [] r = tt
-spelled_from place (blank byte ∷ ps) r = spelled_from (place + 1) ps r.1
-spelled_from place (comment t ∷ ps) r = spelled_from (place + 1 + length t) ps r.2
-spelled_from place (lexeme t kind ∷ ps) r = (record { spells = r.0; within = r.1 }, spelled_from (place + length t) ps r.3)
-
--- the tokens of a source are spelled as their kinds say
-pub has_spelled : (source : Text) (ts : List TokenTerm) → HasTokens source ts → AreSpelled ts
-has_spelled source ts h = subst AreSpelled h.are (spelled_from 0 h.pieces h.right)
 
 -- ---- one token
 module _ (source : Text) (token : Token) where

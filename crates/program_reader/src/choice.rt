@@ -15,9 +15,7 @@ pub(crate) enum Choice {
 }
 
 /// The choice that stands first, if one does, its place, and what stands after it.
-pub(crate) fn choice_sign<'t>(
-    tokens: &'t [Located<'t>],
-) -> Option<(Choice, u64, &'t [Located<'t>])>
+pub(crate) fn choice_sign<'t>(tokens: &'t [Located<'t>]) -> Option<(Choice, u64, &'t [Located<'t>])>
     ensures { MatchOption result
         ((o : grammar.Operator grammar.choice) (p : ℕ) (rest : List terms.Lexeme) → lexemes tokens.now ≡ grammar.operator o p ∷ rest → ⊥)
         (λ r. lexemes tokens.now ≡ grammar.operator (choice_term r.0) r.1 ∷ lexemes r.2.now) }

@@ -91,12 +91,7 @@ impl ReadDefinition {
         ensures memory { IfErr result (λ e. e ≡ Stop.Memory) }
     {
         let body = body.under(place, parameters.places)?;
-        Ok(ReadDefinition::titled(
-            name,
-            parameters.list,
-            result_type.basic,
-            body,
-        ))
+        Ok(ReadDefinition::titled(name, parameters.list, result_type.basic, body))
     }
 
     /// The definition of a task whose places stand with its body.

@@ -8,8 +8,14 @@ mod definition_words;
 mod numbers;
 mod parameters;
 mod program;
+mod read;
 mod scope;
 mod step;
 mod tasks;
+#[cfg(test)]
+mod tests;
+mod tokens;
 mod word_atoms;
 mod work;
+
+pub use read::{Read, read_program};

@@ -7,9 +7,7 @@ ghost use Rattle.program_grammar.specs.Parts.{lexemes};
 ghost use Rattle.program_reader.specs.Definitions.{shown_parameter, shown_series, shown_enclosed, shown_parameters};
 
 use exact_reading::{Stop, unexpected};
-use program_grammar::{
-    Located, basic, expect_sign, name_text, strip_name, strip_sign, strip_word,
-};
+use program_grammar::{Located, basic, expect_sign, name_text, strip_name, strip_sign, strip_word};
 use std::alloc::Global;
 use task_model::{Kind, Param, Row};
 use task_syntax::{Keyword, Symbol};

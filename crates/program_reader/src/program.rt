@@ -65,10 +65,7 @@ impl Definitions {
 }
 
 /// No definitions yet, and all tokens before them.
-fn nothing_read<'t>(
-    alloc: Global,
-    tokens: &'t [Located<'t>],
-) -> (Definitions, &'t [Located<'t>])
+fn nothing_read<'t>(alloc: Global, tokens: &'t [Located<'t>]) -> (Definitions, &'t [Located<'t>])
     ensures none { shown_definitions result.0 ≡ record { defs = []; places = []; bodies = [] } }
     ensures rest { result.1.now ≡ tokens.now }
 {

@@ -15,9 +15,7 @@ pub(crate) enum Step {
 }
 
 /// The step that stands first, if one does, its place, and what stands after it.
-pub(crate) fn step_sign<'t>(
-    tokens: &'t [Located<'t>],
-) -> Option<(Step, u64, &'t [Located<'t>])>
+pub(crate) fn step_sign<'t>(tokens: &'t [Located<'t>]) -> Option<(Step, u64, &'t [Located<'t>])>
     ensures { MatchOption result
         ((o : grammar.Step) (p : ℕ) (rest : List terms.Lexeme) → lexemes tokens.now ≡ terms.sign (grammar.step o) p ∷ rest → ⊥)
         (λ r. lexemes tokens.now ≡ terms.sign (grammar.step (step_term r.0)) r.1 ∷ lexemes r.2.now) }

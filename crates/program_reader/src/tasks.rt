@@ -15,7 +15,9 @@ use crate::word_atoms::word_atom;
 use crate::work::Work;
 use exact_reading::{Stop, too_nested};
 use expression_reader::expression;
-use program_grammar::{Located, expect_name, expect_sign, expect_word, strip_name, strip_sign, strip_word};
+use program_grammar::{
+    Located, expect_name, expect_sign, expect_word, strip_name, strip_sign, strip_word,
+};
 use std::alloc::Global;
 use task_syntax::{Keyword, Symbol};
 

@@ -95,12 +95,7 @@ impl Work {
     }
 
     /// A call of a task with these arguments, whose name stands here.
-    pub(crate) fn call(
-        alloc: Global,
-        place: u64,
-        name: &str,
-        items: Items,
-    ) -> Result<Work, Stop>
+    pub(crate) fn call(alloc: Global, place: u64, name: &str, items: Items) -> Result<Work, Stop>
         requires { items.levels + 1 < 2 ^ 64 }
         ensures shown { IfOk result (λ r. shown_work r ≡ call_work name.now place (shown_items items)) }
         ensures memory { IfErr result (λ e. e ≡ Stop.Memory) }

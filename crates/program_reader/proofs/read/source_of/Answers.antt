@@ -1,0 +1,9 @@
+use Rattle.std.proofs.Common.{sym, subst}
+use Rattle.std.specs.Str.{IsValidUpTo}
+use Rattle.program_reader.proofs.TextLemmas.{longest_valid}
+use Rattle.program_reader.proofs.read.source_of.Goals as goal
+
+pub returns-in-Err-clause-fault : goal.returns-in-Err-clause-fault
+returns-in-Err-clause-fault c =
+    let (not, valid) = c.in-Err.ensures.cases in
+    (c.if-bytes-gt-MOST_BYTES.false, not, longest_valid c.args.bytes.now c.valid_up_to.result (subst (IsValidUpTo c.args.bytes.now) (sym c.valid_up_to.ensures) valid))
