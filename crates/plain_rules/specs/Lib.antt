@@ -1,0 +1,5 @@
+pub mod Starts
+pub mod Bodies
+pub mod Handled
+pub mod Signs
+pub mod Outcomes
