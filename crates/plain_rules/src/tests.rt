@@ -1,12 +1,14 @@
 //! The worked rows of the rules, on programs built by hand.
 
-use crate::{Outcome, Rules, html_page, judge, normalise, offers, page, widgets};
+use crate::{Outcome, judge, normalise, offers, widgets};
+use plain_pages::{html_page, page};
+use plain_values::Rules;
 use std::alloc::Global;
 use std::process::Abort;
 use std::test::Fail;
 use task_model::{
     Act, Basic, Body, Def, DefBody, Env, Host, Input, Kind, Op, OutOfMemory, Param, Path, Program,
-    Purse, Row, Stop, Task, TaskText, Tree, Turn, Value, boxed,
+    Purse, Row, Stop, Task, TaskText, Tree, Turn, Value, Widget, boxed,
 };
 
 const BUDGET: u32 = 100_000;
@@ -219,79 +221,81 @@ fn path(alloc: Global, letters: &str) -> Result<Path, OutOfMemory> {
     Ok(Path { turns })
 }
 
-// Tries an input, which is to end as it is written: `taken`, `not offered` or `over budget`.
-fn act(
-    rt: &(impl Abort + AllocGlobal),
-    world: &mut World,
-    letters: &str,
-    act: Act,
-    want: &str,
-) -> Result<(), OutOfMemory> {
-    let input = Input {
-        path: path(rt.alloc(), letters)?,
-        act,
-    };
+// What is done, and at which path.
+#[derive(Clone, Copy)]
+enum Deed<'t> {
+    Int(&'t str, i64),
+    Text(&'t str, &'t str),
+    Next(&'t str),
+    Left(&'t str),
+    Right(&'t str),
+    // the page of a seat
+    Show(u8),
+    ShowHtml(u8),
+}
+
+// Does this in a world, and answers what comes of it: `taken`, `not offered` or `over budget`, or the page.
+fn done(alloc: Global, world: &mut World, deed: Deed<'_>) -> Result<TaskText, OutOfMemory> {
+    match deed {
+        Deed::Int(at, i) => judged(alloc, world, at, Act::Set(Value::Int(i))),
+        Deed::Text(at, text) => said(alloc, world, at, name(alloc, text)?),
+        Deed::Next(at) => judged(alloc, world, at, Act::Next),
+        Deed::Left(at) => judged(alloc, world, at, Act::Left),
+        Deed::Right(at) => judged(alloc, world, at, Act::Right),
+        Deed::Show(seat) => {
+            let shown = interface(alloc, world)?;
+            page(alloc, world.version, seat, shown.as_slice())
+        }
+        Deed::ShowHtml(seat) => {
+            let shown = interface(alloc, world)?;
+            html_page(alloc, world.version, seat, shown.as_slice())
+        }
+    }
+}
+
+fn said(alloc: Global, world: &mut World, at: &str, text: TaskText) -> Result<TaskText, OutOfMemory> {
+    judged(alloc, world, at, Act::Set(Value::Text(text)))
+}
+
+fn interface(alloc: Global, world: &World) -> Result<Row<Widget>, OutOfMemory> {
+    widgets(alloc, &world.rules, BUDGET, &world.tree, world.store.as_slice())
+}
+
+// Tries an input.
+fn judged(alloc: Global, world: &mut World, at: &str, act: Act) -> Result<TaskText, OutOfMemory> {
+    let path = path(alloc, at)?;
+    let input = Input { path, act };
     let got = judge(
-        rt.alloc(),
+        alloc,
         &world.rules,
         BUDGET,
         &world.tree,
         world.store.as_slice(),
         &input,
     )?;
-    let said = match got {
+    match got {
         Outcome::Taken { tree, store } => {
             world.tree = tree;
             world.store = store;
             world.version += 1;
-            "taken"
+            name(alloc, "taken")
         }
-        Outcome::NotOffered => "not offered",
-        Outcome::Over => "over budget",
-    };
-    assert_eq!(rt; said, want);
-    Ok(())
+        Outcome::NotOffered => name(alloc, "not offered"),
+        Outcome::Over => name(alloc, "over budget"),
+    }
 }
 
-fn set(
+// Opens a program and does these deeds one after another, each of which is to come to what stands beside it.
+fn plays(
     rt: &(impl Abort + AllocGlobal),
-    world: &mut World,
-    letters: &str,
-    i: i64,
-    want: &str,
+    rules: Rules,
+    deeds: &[(Deed<'_>, &str)],
 ) -> Result<(), OutOfMemory> {
-    act(rt, world, letters, Act::Set(Value::Int(i)), want)
-}
-
-// Draws the page, which is to have these lines behind its first.
-fn shows(rt: &(impl Abort + AllocGlobal), world: &World, want: &str) -> Result<(), OutOfMemory> {
-    let shown = widgets(
-        rt.alloc(),
-        &world.rules,
-        BUDGET,
-        &world.tree,
-        world.store.as_slice(),
-    )?;
-    let text = page(rt.alloc(), world.version, 1, shown.as_slice())?;
-    assert_eq!(rt; text.as_str(), want);
-    Ok(())
-}
-
-// Draws the HTML page.
-fn shows_html(
-    rt: &(impl Abort + AllocGlobal),
-    world: &World,
-    want: &str,
-) -> Result<(), OutOfMemory> {
-    let shown = widgets(
-        rt.alloc(),
-        &world.rules,
-        BUDGET,
-        &world.tree,
-        world.store.as_slice(),
-    )?;
-    let text = html_page(rt.alloc(), world.version, 1, shown.as_slice())?;
-    assert_eq!(rt; text.as_str(), want);
+    let mut world = told(opened(rt.alloc(), rules, BUDGET))?;
+    for (deed, want) in deeds {
+        let got = done(rt.alloc(), &mut world, *deed)?;
+        assert_eq!(rt; got.as_str(), *want);
+    }
     Ok(())
 }
 
@@ -315,29 +319,45 @@ fn x_above(alloc: Global, least: i64) -> Result<Task, OutOfMemory> {
     only_if(alloc, test, Task::Edit(named(alloc, "x")?))
 }
 
+fn x_and_one(alloc: Global) -> Result<Task, OutOfMemory> {
+    let sum = op(alloc, Op::Add, named(alloc, "x")?, Host::Int(1))?;
+    Ok(Task::Edit(sum))
+}
+
 #[test]
 fn steps(rt: HostRuntime) -> Result<(), Fail> {
     let alloc = rt.alloc();
-    let sum = op(alloc, Op::Add, named(alloc, "x")?, Host::Int(1))?;
-    let mut w = told(opened(alloc, one_step(alloc, true, Task::Edit(sum), 1)?, BUDGET))?;
-    set(&rt, &mut w, "", 4, "taken")?;
-    act(&rt, &mut w, "", Act::Next, "taken")?;
-    shows(&rt, &w, "version 2 seat 1\n. edit int 5\n")?;
-
-    let mut w = told(opened(alloc, one_step(alloc, true, x_above(alloc, 3)?, 1)?, BUDGET))?;
-    set(&rt, &mut w, "", 2, "taken")?;
-    act(&rt, &mut w, "", Act::Next, "not offered")?;
-    shows(&rt, &w, "version 1 seat 1\n. step\n. edit int 2\n")?;
-
-    let mut w = told(opened(
-        alloc,
-        one_step(alloc, false, x_above(alloc, 3)?, 1)?,
-        BUDGET,
-    ))?;
-    set(&rt, &mut w, "", 2, "taken")?;
-    shows(&rt, &w, "version 1 seat 1\n. then\n. edit int 2\n")?;
-    set(&rt, &mut w, "", 5, "taken")?;
-    shows(&rt, &w, "version 2 seat 1\n. edit int 5\n")?;
+    let next = one_step(alloc, true, x_and_one(alloc)?, 1)?;
+    plays(
+        &rt,
+        next,
+        &[
+            (Deed::Int("", 4), "taken"),
+            (Deed::Next(""), "taken"),
+            (Deed::Show(1), "version 2 seat 1\n. edit int 5\n"),
+        ],
+    )?;
+    let no_next = one_step(alloc, true, x_above(alloc, 3)?, 1)?;
+    plays(
+        &rt,
+        no_next,
+        &[
+            (Deed::Int("", 2), "taken"),
+            (Deed::Next(""), "not offered"),
+            (Deed::Show(1), "version 1 seat 1\n. step\n. edit int 2\n"),
+        ],
+    )?;
+    let then = one_step(alloc, false, x_above(alloc, 3)?, 1)?;
+    plays(
+        &rt,
+        then,
+        &[
+            (Deed::Int("", 2), "taken"),
+            (Deed::Show(1), "version 1 seat 1\n. then\n. edit int 2\n"),
+            (Deed::Int("", 5), "taken"),
+            (Deed::Show(1), "version 2 seat 1\n. edit int 5\n"),
+        ],
+    )?;
     Ok(())
 }
 
@@ -373,28 +393,34 @@ fn row_6(alloc: Global) -> Result<Rules, OutOfMemory> {
 #[test]
 fn stores(rt: HostRuntime) -> Result<(), Fail> {
     let alloc = rt.alloc();
-    let mut w = told(opened(alloc, row_5(alloc)?, BUDGET))?;
-    set(&rt, &mut w, "F", 0, "taken")?;
-    act(&rt, &mut w, "F", Act::Next, "not offered")?;
-    shows(
+    plays(
         &rt,
-        &w,
-        "version 1 seat 1\n. and\n.F step\n.F edit int 0\n.S share int 7\n",
+        row_5(alloc)?,
+        &[
+            (Deed::Int("F", 0), "taken"),
+            (Deed::Next("F"), "not offered"),
+            (
+                Deed::Show(1),
+                "version 1 seat 1\n. and\n.F step\n.F edit int 0\n.S share int 7\n",
+            ),
+            (Deed::Int("F", 3), "taken"),
+            (Deed::Next("F"), "taken"),
+            (
+                Deed::Show(1),
+                "version 3 seat 1\n. and\n.F edit int 3\n.S share int 3\n",
+            ),
+        ],
     )?;
-    set(&rt, &mut w, "F", 3, "taken")?;
-    act(&rt, &mut w, "F", Act::Next, "taken")?;
-    shows(
+    plays(
         &rt,
-        &w,
-        "version 3 seat 1\n. and\n.F edit int 3\n.S share int 3\n",
-    )?;
-
-    let mut w = told(opened(alloc, row_6(alloc)?, BUDGET))?;
-    set(&rt, &mut w, "F", 9, "taken")?;
-    shows(
-        &rt,
-        &w,
-        "version 1 seat 1\n. and\n.F share int 9\n.S share int 9\n",
+        row_6(alloc)?,
+        &[
+            (Deed::Int("F", 9), "taken"),
+            (
+                Deed::Show(2),
+                "version 1 seat 2\n. and\n.F share int 9\n.S share int 9\n",
+            ),
+        ],
     )?;
     Ok(())
 }
@@ -433,23 +459,36 @@ fn row_9(alloc: Global) -> Result<Rules, OutOfMemory> {
 #[test]
 fn choices(rt: HostRuntime) -> Result<(), Fail> {
     let alloc = rt.alloc();
-    let mut w = told(opened(alloc, row_7(alloc)?, BUDGET))?;
-    shows(&rt, &w, "version 0 seat 1\n. pick left\n")?;
-    act(&rt, &mut w, "", Act::Right, "not offered")?;
-    act(&rt, &mut w, "", Act::Left, "taken")?;
-    shows(&rt, &w, "version 1 seat 1\n. edit int 1\n")?;
-
-    let mut w = told(opened(alloc, row_8(alloc)?, BUDGET))?;
-    set(&rt, &mut w, "S", 3, "taken")?;
-    set(&rt, &mut w, "S", 4, "not offered")?;
-    set(&rt, &mut w, "", 4, "taken")?;
-    shows(&rt, &w, "version 2 seat 1\n. edit int 4\n")?;
-
-    let mut w = told(opened(alloc, row_9(alloc)?, BUDGET))?;
-    set(&rt, &mut w, "", 3, "taken")?;
-    act(&rt, &mut w, "", Act::Next, "taken")?;
-    act(&rt, &mut w, "", Act::Next, "taken")?;
-    shows(&rt, &w, "version 3 seat 1\n. edit int 6\n")?;
+    plays(
+        &rt,
+        row_7(alloc)?,
+        &[
+            (Deed::Show(1), "version 0 seat 1\n. pick left\n"),
+            (Deed::Right(""), "not offered"),
+            (Deed::Left(""), "taken"),
+            (Deed::Show(1), "version 1 seat 1\n. edit int 1\n"),
+        ],
+    )?;
+    plays(
+        &rt,
+        row_8(alloc)?,
+        &[
+            (Deed::Int("S", 3), "taken"),
+            (Deed::Int("S", 4), "not offered"),
+            (Deed::Int("", 4), "taken"),
+            (Deed::Show(1), "version 2 seat 1\n. edit int 4\n"),
+        ],
+    )?;
+    plays(
+        &rt,
+        row_9(alloc)?,
+        &[
+            (Deed::Int("", 3), "taken"),
+            (Deed::Next(""), "taken"),
+            (Deed::Next(""), "taken"),
+            (Deed::Show(1), "version 3 seat 1\n. edit int 6\n"),
+        ],
+    )?;
     Ok(())
 }
 
@@ -506,16 +545,23 @@ fn opens(alloc: Global, rules: Rules, budget: u32) -> Result<bool, OutOfMemory> 
 #[test]
 fn budgets(rt: HostRuntime) -> Result<(), Fail> {
     let alloc = rt.alloc();
+    // a program without an input
+    assert!(rt; opens(alloc, one_step(alloc, true, x_and_one(alloc)?, 1)?, BUDGET)?);
     assert!(rt; opens(alloc, row_10(alloc)?, 4)?);
     assert!(rt; !opens(alloc, row_10(alloc)?, 3)?);
-    assert!(rt; !opens(alloc, row_11(alloc)?, 10_000)?);
+    assert!(rt; !opens(alloc, row_11(alloc)?, BUDGET)?);
+    assert!(rt; !opens(alloc, row_11(alloc)?, 1_000_000)?);
     // a unit for `main`, and one for each of the three strides
     assert!(rt; opens(alloc, three_edits(alloc)?, 4)?);
     assert!(rt; !opens(alloc, three_edits(alloc)?, 3)?);
-
-    let mut w = told(opened(alloc, row_24(alloc)?, BUDGET))?;
-    shows(&rt, &w, "version 0 seat 1\n. pick left? right?\n")?;
-    act(&rt, &mut w, "", Act::Left, "over budget")?;
+    plays(
+        &rt,
+        row_24(alloc)?,
+        &[
+            (Deed::Show(1), "version 0 seat 1\n. pick left? right?\n"),
+            (Deed::Left(""), "over budget"),
+        ],
+    )?;
     Ok(())
 }
 
@@ -566,44 +612,67 @@ fn row_23(alloc: Global) -> Result<Rules, OutOfMemory> {
     Ok(m.made())
 }
 
-fn say(rt: &(impl Abort + AllocGlobal), world: &mut World, text: &str) -> Result<(), OutOfMemory> {
-    let value = Value::Text(name(rt.alloc(), text)?);
-    act(rt, world, "F", Act::Set(value), "taken")?;
-    act(rt, world, "F", Act::Next, "taken")
+fn over_the_greatest(alloc: Global) -> Result<Task, OutOfMemory> {
+    let sum = op(alloc, Op::Add, Host::Int(i64::MAX), Host::Int(1))?;
+    Ok(Task::Edit(sum))
+}
+
+fn edited_text(alloc: Global, text: &str) -> Result<Task, OutOfMemory> {
+    let text = name(alloc, text)?;
+    Ok(Task::Edit(Host::Text(text)))
 }
 
 #[test]
 fn values(rt: HostRuntime) -> Result<(), Fail> {
     let alloc = rt.alloc();
-    let sum = op(alloc, Op::Add, Host::Int(i64::MAX), Host::Int(1))?;
-    let w = told(opened(alloc, one_task(alloc, Task::Edit(sum), Basic::Int)?, BUDGET))?;
-    shows(
+    plays(
         &rt,
-        &w,
-        "version 0 seat 1\n. edit int 9223372036854775807\n",
+        one_task(alloc, over_the_greatest(alloc)?, Basic::Int)?,
+        &[(
+            Deed::Show(1),
+            "version 0 seat 1\n. edit int 9223372036854775807\n",
+        )],
     )?;
-
-    let text = Host::Text(name(alloc, "<b>&\"")?);
-    let w = told(opened(
-        alloc,
-        one_task(alloc, Task::Edit(text), Basic::Text)?,
-        BUDGET,
-    ))?;
-    shows(&rt, &w, "version 0 seat 1\n. edit text \"<b>&\\\"\"\n")?;
-    shows_html(&rt, &w, ROW_19)?;
-
-    let mut w = told(opened(alloc, one_task(alloc, edit(5), Basic::Int)?, BUDGET))?;
-    set(&rt, &mut w, "", 5, "taken")?;
-    shows(&rt, &w, "version 1 seat 1\n. edit int 5\n")?;
-
-    let mut w = told(opened(alloc, row_23(alloc)?, BUDGET))?;
-    say(&rt, &mut w, "hello")?;
-    say(&rt, &mut w, "hi")?;
-    shows(
+    plays(
         &rt,
-        &w,
-        "version 4 seat 1\n. and\n.F step\n.F enter text\n.S share [text] [\"hi\", \"hello\"]\n",
+        one_task(alloc, edited_text(alloc, "<b>&\"")?, Basic::Text)?,
+        &[
+            (
+                Deed::Show(1),
+                "version 0 seat 1\n. edit text \"<b>&\\\"\"\n",
+            ),
+            (Deed::ShowHtml(1), ROW_19),
+        ],
     )?;
+    plays(
+        &rt,
+        one_task(alloc, edit(5), Basic::Int)?,
+        &[
+            (Deed::Int("", 5), "taken"),
+            (Deed::Show(1), "version 1 seat 1\n. edit int 5\n"),
+        ],
+    )?;
+    Ok(())
+}
+
+#[test]
+fn boards(rt: HostRuntime) -> Result<(), Fail> {
+    let alloc = rt.alloc();
+    plays(
+        &rt,
+        row_23(alloc)?,
+        &[
+            (Deed::Text("F", "hello"), "taken"),
+            (Deed::Next("F"), "taken"),
+            (Deed::Text("F", "hi"), "taken"),
+            (Deed::Next("F"), "taken"),
+            (
+                Deed::Show(1),
+                "version 4 seat 1\n. and\n.F step\n.F enter text\n.S share [text] [\"hi\", \"hello\"]\n",
+            ),
+        ],
+    )?;
+    let w = told(opened(alloc, row_23(alloc)?, BUDGET))?;
     let offered = offers(alloc, &w.rules, BUDGET, &w.tree, w.store.as_slice())?;
     assert_eq!(rt; offered.as_slice().len(), 2);
     Ok(())
