@@ -195,7 +195,12 @@ fn push_editor_line(
     push(text, "</p>\n")
 }
 
-fn push_fields(alloc: Global, text: &mut Row<u8>, b: &Basic, shown: &[u8]) -> Result<(), OutOfMemory>
+fn push_fields(
+    alloc: Global,
+    text: &mut Row<u8>,
+    b: &Basic,
+    shown: &[u8],
+) -> Result<(), OutOfMemory>
     ensures { OnOk result (text.new.list ≡ text.old.list ++ model.editor_fields (basic_term b.now) shown.now) }
 {
     match b {
@@ -216,7 +221,12 @@ fn push_fields(alloc: Global, text: &mut Row<u8>, b: &Basic, shown: &[u8]) -> Re
 }
 
 // The fields of an editor that is no text: its type, and then its value.
-fn push_literal_fields(alloc: Global, text: &mut Row<u8>, b: &Basic, shown: &[u8]) -> Result<(), OutOfMemory>
+fn push_literal_fields(
+    alloc: Global,
+    text: &mut Row<u8>,
+    b: &Basic,
+    shown: &[u8],
+) -> Result<(), OutOfMemory>
     ensures { OnOk result (text.new.list ≡ text.old.list ++ literal_fields (basic_text (basic_term b.now)) shown.now) }
 {
     push(text, "<input type=\"hidden\" name=\"as\" value=\"")?;

@@ -16,19 +16,17 @@ use Rattle.task_model.proofs.RanLemmas.{ran_give, ran_memory}
 use Rattle.plain_rules.specs.Handled.{edited, shared, picks}
 use Rattle.plain_values.proofs.ListLemmas.{in_front}
 use Rattle.plain_values.proofs.RunLemmas.{ran_is}
-use Rattle.task_model.specs.Spends.{Spends, Runs}
+use Rattle.task_model.specs.Spends.{Spends}
 use Rattle.task_model.specs.Checked.{CheckedTerm}
 use Rattle.task_model.specs.Plan.{Plan, give, work, derives_at, Derives}
 use Rattle.task_model.specs.Rules.{tested, rule_of}
 use Rattle.task_model.specs.Env.{SlotTerm}
-use Rattle.task_model.specs.Judgements.{Within}
 use Rattle.task_model.specs.Sign.{IsSign, Test}
 use Rattle.task_model.specs.Calls.{Ran}
 use Rattle.task_model.specs.declared.purse.Stop.{Stop}
 use Rattle.task_model.specs.declared.purse.Stop.TheVariants.{Over, Memory}
 use Rattle.task_model.specs.declared.memory.OutOfMemory.{OutOfMemory}
 use Rattle.task_model.specs.declared.widget.Sign.{Sign}
-use Rattle.task_model.specs.declared.widget.Sign.TheVariants as signs
 use Rattle.task_model.proofs.PlanLemmas.{low_work, under_work, under_at, low_back, low_derives}
 use Rattle.plain_rules.specs.Signs.{Signed}
 

@@ -1,5 +1,5 @@
 -- The outcome of an input, by what handling and settling answer.
-use Rattle.std.proofs.Common.{◌≡◌, ◌≤◌, ◌+◌, max, ℕ, List, map, IfOk, Option, Some, None, Result, Ok, Err, refl, sym, ap, ◌∙◌, subst, arith}
+use Rattle.std.proofs.Common.{◌≡◌, ◌≤◌, ◌+◌, ℕ, List, map, IfOk, Option, Some, None, Result, Ok, Err, refl, sym, subst, arith}
 use Rattle.task_model.specs.Left.{Left}
 use Rattle.task_model.specs.Spends.{Spends}
 use Rattle.std.specs.Option.{option_map}
@@ -8,11 +8,9 @@ use Rattle.task_model.specs.Value.{ValueTerm, value_term}
 use Rattle.task_model.specs.Tree.{TreeTerm, tree_term, State, at}
 use Rattle.task_model.specs.Input.{InputTerm}
 use Rattle.task_model.specs.Checked.{CheckedTerm}
-use Rattle.task_model.specs.Plan.{work, Derives}
-use Rattle.task_model.specs.Rules.{rule_of}
 use Rattle.task_model.specs.Judgements.{Within}
-use Rattle.task_model.specs.Handling.{handles, settled, Interacts}
-use Rattle.task_model.specs.Outcome.{taken, not_offered, over_budget, IsNotOffered, IsOutcome}
+use Rattle.task_model.specs.Handling.{Interacts}
+use Rattle.task_model.specs.Outcome.{taken, not_offered, over_budget, IsOutcome}
 use Rattle.task_model.specs.declared.purse.Stop.{Stop}
 use Rattle.task_model.specs.declared.purse.Stop.TheVariants.{Over, Memory}
 use Rattle.task_model.specs.declared.memory.OutOfMemory.{OutOfMemory}
@@ -20,7 +18,6 @@ use Rattle.task_model.specs.declared.tree.Tree as tree
 use Rattle.task_model.specs.declared.value.Value as value
 use Rattle.plain_rules.specs.declared.outcomes.Outcome.{Outcome}
 use Rattle.plain_rules.specs.Outcomes.{outcome_term, Judged}
-use Rattle.task_model.proofs.PlanLemmas.{work_after}
 use Rattle.task_model.proofs.OutcomeLemmas.{none_lacks, lacks_none}
 
 module _ (c : CheckedTerm) (budget : ℕ) (s : State) (i : InputTerm) where

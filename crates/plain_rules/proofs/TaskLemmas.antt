@@ -4,7 +4,6 @@ use Rattle.std.specs.Option.{option_map}
 use Rattle.std.specs.Prelude.{slice_get}
 use Rattle.task_model.specs.Left.{Left}
 use Rattle.task_model.specs.Text.{Text, same_text}
-use Rattle.task_model.specs.Basic.{BasicTerm}
 use Rattle.task_model.specs.Value.{ValueTerm}
 use Rattle.task_model.specs.Env.{EnvTerm}
 use Rattle.task_model.specs.Host.{HostTerm}
@@ -14,9 +13,9 @@ use Rattle.task_model.specs.declared.tree.Tree as tree
 use Rattle.task_model.specs.declared.memory.OutOfMemory.{OutOfMemory}
 use Rattle.std.proofs.lemmas.Result.{IfOk-at_ok}
 use Rattle.task_model.specs.Program.{ParamTerm, DefBodyTerm, fun_body, task_body, DefTerm, ProgramTerm}
-use Rattle.task_model.specs.Checked.{CheckedTerm, Callee, slot_of, def_in, callee_of, what_nodes, task_named}
-use Rattle.task_model.specs.Plan.{evaluates, normal, Plan, give, stuck, known}
-use Rattle.task_model.specs.Rules.{as_place, evaluate_rule}
+use Rattle.task_model.specs.Checked.{CheckedTerm, Callee, def_in, callee_of, what_nodes}
+use Rattle.task_model.specs.Plan.{evaluates, normal, Plan, give, known}
+use Rattle.task_model.specs.Rules.{evaluate_rule}
 use Rattle.task_model.specs.Calls.{Asked, Ran}
 use Rattle.task_model.specs.declared.purse.Stop.{Stop}
 use Rattle.task_model.specs.declared.purse.Stop.TheVariants.{Over, Memory}
@@ -24,7 +23,7 @@ use Rattle.task_model.proofs.RanLemmas.{ran_give, ran_memory}
 use Rattle.plain_values.specs.Known.{Known}
 use Rattle.plain_values.specs.Words.{option_then, place_named}
 use Rattle.plain_rules.specs.Starts.{nodes_before, Called, called_of, task_in, share_known, call_task_plan}
-use Rattle.plain_values.proofs.RunLemmas.{ran_is, ran_known_ok, ran_known_stops, placed_is}
+use Rattle.plain_values.proofs.RunLemmas.{ran_known_ok, ran_known_stops, placed_is}
 
 pub ran_known_made : {c : CheckedTerm} {A B X : Type 0} (o : Option A) (view : X → A) (make : A → B) {vb : X → B} (r : Result X Stop) {old : Left} → ((x : X) → vb x ≡ make (view x)) → Known o view r → Ran c (known o (λ x. give (make x))) vb old old r
 ran_known_made o view make (Ok x) e k = ran_known_ok (λ x. give (make x)) k (ran_give (e x))

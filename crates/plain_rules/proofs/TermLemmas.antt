@@ -1,5 +1,5 @@
 -- Terms of rows.
-use Rattle.std.proofs.Common.{◌≡◌, ℕ, zero, suc, ◌<◌, ◌++◌, Bool, true, false, cond, take, length, get_or, arith, List, [], ◌∷◌, map, refl, sym, ap, ◌∙◌}
+use Rattle.std.proofs.Common.{◌≡◌, ℕ, zero, suc, ◌<◌, ◌++◌, Bool, true, false, cond, take, length, get_or, arith, List, [], ◌∷◌, map, refl, sym, ap}
 use Rattle.std.specs.Prelude.{slice_set}
 
 -- ---- a list with another item at a place

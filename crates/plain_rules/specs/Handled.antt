@@ -1,5 +1,5 @@
 -- What becomes of an input at an editor, and beside another part.
-use Rattle.std.specs.Prelude.{ℕ, Bool, true, false, List, [], ◌∷◌, Option, Some, None, slice_set, if◌then◌else◌}
+use Rattle.std.specs.Prelude.{ℕ, Bool, true, false, List, [], Option, Some, None, slice_set, if◌then◌else◌}
 use Rattle.task_model.specs.Basic.{BasicTerm}
 use Rattle.task_model.specs.Value.{ValueTerm, value_has}
 use Rattle.task_model.specs.Tree.{TreeTerm, edit_tree, share_tree, and_tree, or_tree, State, at}

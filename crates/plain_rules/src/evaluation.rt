@@ -20,7 +20,9 @@ ghost use Rattle.plain_rules.specs.Starts.{call_task_plan, called, share_known};
 use crate::definitions::task_named;
 use crate::made::{and_tree, enter_tree, next_task, or_tree, replaced, then_task, xor_task};
 use crate::nodes::{body_first, nodes_before, nodes_of};
-use plain_values::{Rules, bound, env_at, memory, opened_list, param_names, place_named, slots_at, truth, value_at};
+use plain_values::{
+    Rules, bound, env_at, memory, opened_list, param_names, place_named, slots_at, truth, value_at,
+};
 use std::alloc::Global;
 use task_model::{
     Basic, Body, Env, Host, OutOfMemory, Param, Purse, Row, Slot, Stop, Task, TaskText, Tree,

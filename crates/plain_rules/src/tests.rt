@@ -253,12 +253,23 @@ fn done(alloc: Global, world: &mut World, deed: Deed<'_>) -> Result<TaskText, Ou
     }
 }
 
-fn said(alloc: Global, world: &mut World, at: &str, text: TaskText) -> Result<TaskText, OutOfMemory> {
+fn said(
+    alloc: Global,
+    world: &mut World,
+    at: &str,
+    text: TaskText,
+) -> Result<TaskText, OutOfMemory> {
     judged(alloc, world, at, Act::Set(Value::Text(text)))
 }
 
 fn interface(alloc: Global, world: &World) -> Result<Row<Widget>, OutOfMemory> {
-    widgets(alloc, &world.rules, BUDGET, &world.tree, world.store.as_slice())
+    widgets(
+        alloc,
+        &world.rules,
+        BUDGET,
+        &world.tree,
+        world.store.as_slice(),
+    )
 }
 
 // Tries an input.

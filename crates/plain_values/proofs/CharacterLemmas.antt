@@ -6,7 +6,7 @@ use Rattle.std.specs.Prelude.{nat_le, nat_lt, slice_index}
 use Rattle.std.proofs.lemmas.Bool.Decides.{nat_tests}
 use Rattle.task_model.specs.Text.{Text}
 use Rattle.task_model.specs.Characters.{continues, joined, characters_of, fitting, cut_text}
-use Rattle.plain_values.proofs.ListLemmas.{tail_is, slice_is}
+use Rattle.plain_values.proofs.ListLemmas.{slice_is}
 use Rattle.plain_values.specs.Words.{starts}
 
 joined-length : (byte : ℕ) (c : Text) (cs : List Text) → length (joined byte (c ∷ cs)) ≡ suc (length cs)

@@ -1,10 +1,8 @@
 -- The rules' tests of equality tell equal terms.
-use Rattle.std.proofs.Common.{◌≡◌, ℕ, Bool, true, false, cond, not, IsTrue, List, refl, sym, ap, ◌∙◌, true≢false}
-use Rattle.std.specs.Ordering.{int_eq}
+use Rattle.std.proofs.Common.{◌≡◌, Bool, true, false, cond, IsTrue, refl, sym, ap, ◌∙◌, true≢false}
 use Rattle.std.proofs.lemmas.Bool.Decides.{Decides-int_eq}
 use Rattle.std.proofs.lemmas.Cmp.{int_eq_equiv, nat_list_eq_equiv}
 use Rattle.std.specs.Cmp.Lexicographic as texts
-use Rattle.task_model.specs.Text.{Text, same_text}
 use Rattle.task_model.specs.Value.{ValueTerm, unit_value, bool_value, int_value, text_value, pair_value, list_value, ValueTerms, no_values, more_values}
 use Rattle.task_model.specs.Operators.{same_bool, same_value, same_values}
 

@@ -1,8 +1,8 @@
 -- What is looked for, where it takes memory.
-use Rattle.std.proofs.Common.{◌≡◌, Option, Some, None, Result, Ok, Err, IfOk, IfErr, refl, sym, ap, ◌∙◌, subst}
+use Rattle.std.proofs.Common.{◌≡◌, Option, Some, Result, Ok, Err, IfOk, IfErr, sym, subst}
 use Rattle.std.proofs.lemmas.Result.{IfOk-at_ok}
 use Rattle.task_model.specs.declared.purse.Stop.{Stop}
-use Rattle.task_model.specs.declared.purse.Stop.TheVariants.{Over, Memory}
+use Rattle.task_model.specs.declared.purse.Stop.TheVariants.{Memory}
 use Rattle.task_model.specs.declared.memory.OutOfMemory.{OutOfMemory}
 use Rattle.plain_values.specs.Known.{Known}
 

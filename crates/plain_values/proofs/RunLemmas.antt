@@ -1,16 +1,15 @@
 -- How plans come together that look for something first.
-use Rattle.std.proofs.Common.{◌≡◌, ◌<◌, ◌≤◌, ◌+◌, ◌-◌, length, take, drop, get_or, cond, arith, ℕ, Bool, true, false, List, [], ◌∷◌, ◌++◌, Option, Some, None, Result, Ok, Err, map, refl, sym, ap, ◌∙◌, subst, IfOk, IfErr}
+use Rattle.std.proofs.Common.{◌≡◌, ◌<◌, ◌≤◌, ◌+◌, ◌-◌, length, take, drop, get_or, cond, arith, ℕ, Bool, true, false, List, [], ◌∷◌, ◌++◌, Option, Some, None, Result, Ok, Err, map, refl, sym, ap, ◌∙◌, subst}
 use Rattle.task_model.specs.Left.{Left}
 use Rattle.task_model.specs.Text.{Text, same_text}
-use Rattle.task_model.specs.Value.{ValueTerm, unit_value, bool_value, int_value, text_value, pair_value, list_value, no_values, more_values, value_term}
+use Rattle.task_model.specs.Value.{ValueTerm, bool_value, list_value, no_values, more_values, value_term}
 use Rattle.task_model.specs.Operators.{operated}
 use Rattle.task_model.specs.Env.{SlotTerm, plain_slot, place_slot, slot_term, EnvTerm}
 use Rattle.task_model.specs.Host.{HostTerm, HostTerms, as_exprs, call_expr, host_term}
 use Rattle.task_model.specs.Program.{KindTerm, plain_kind, ref_kind, kind_term, ParamTerm, param_term, DefTerm, ProgramTerm}
 use Rattle.task_model.specs.Checked.{CheckedTerm, Function, slot_of, what_nodes, def_in, function_of}
-use Rattle.task_model.specs.Plan.{gives_value, Plan, give, stuck, ask, after, known, work, derives_at}
-use Rattle.task_model.specs.Rules.{bound, as_value, as_place, branch, chosen, matched, bare_name, exprs_of, value_rule, slot_for, slots_for, values_for, rule_of, op_rule}
-use Rattle.task_model.specs.Spends.{Runs}
+use Rattle.task_model.specs.Plan.{gives_value, Plan, give, stuck, ask, after, known}
+use Rattle.task_model.specs.Rules.{bound, as_value, as_place, branch, chosen, matched, bare_name, exprs_of, value_rule, slot_for, slots_for, values_for, op_rule}
 use Rattle.task_model.specs.Calls.{Ran}
 use Rattle.task_model.specs.declared.host.Op.{Op}
 use Rattle.task_model.specs.declared.host.Op.TheVariants as ops

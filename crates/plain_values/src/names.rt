@@ -89,12 +89,7 @@ pub fn env_at(alloc: Global, env: &Env, first: u64) -> Result<Env, OutOfMemory>
 }
 
 /// The environment with one name more.
-pub fn bound(
-    alloc: Global,
-    env: &Env,
-    name: &TaskText,
-    slot: Slot,
-) -> Result<Env, OutOfMemory>
+pub fn bound(alloc: Global, env: &Env, name: &TaskText, slot: Slot) -> Result<Env, OutOfMemory>
     ensures { IfOk result (λ e. env_term e ≡ rules.bound (env_term env.now) name.now (slot_term slot)) }
 {
     let mut names = copy_texts(alloc, env.names.as_slice())?;

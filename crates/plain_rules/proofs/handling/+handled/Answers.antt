@@ -1,8 +1,8 @@
-use Rattle.std.proofs.Common.{◌≡◌, [], length, Some, None, map, refl, sym, ap, ◌∙◌, arith}
+use Rattle.std.proofs.Common.{map, refl, sym, ap}
 use Rattle.std.proofs.lemmas.Result.{IfOk-at_ok}
 use Rattle.task_model.specs.Basic.{basic_term}
 use Rattle.task_model.specs.Value.{value_term}
-use Rattle.task_model.specs.Tree.{TreeTerm, tree_term, cont_term, then_tree, next_tree, and_tree, or_tree, at}
+use Rattle.task_model.specs.Tree.{TreeTerm, tree_term, cont_term, then_tree, next_tree, and_tree, or_tree}
 use Rattle.task_model.specs.Input.{act_term}
 use Rattle.task_model.specs.Handling.{handled, rebuilds, at_step}
 use Rattle.task_model.proofs.RanLemmas.{stopped, ran_give, ran_made, ran_after, ran_after_stops}

@@ -1,4 +1,4 @@
-use Rattle.std.proofs.Common.{◌≡◌, Some, None, map, refl, sym, ap, ◌∙◌}
+use Rattle.std.proofs.Common.{Some, map, refl, sym, ap, ◌∙◌}
 use Rattle.task_model.specs.Value.{value_term}
 use Rattle.task_model.specs.Tree.{delay_term}
 use Rattle.task_model.proofs.RanLemmas.{ran_give}

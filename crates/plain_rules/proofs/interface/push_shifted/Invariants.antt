@@ -1,4 +1,4 @@
-use Rattle.std.proofs.Common.{◌≡◌, ◌++◌, ◌∷◌, map, length}
+use Rattle.std.proofs.Common.{◌≡◌, ◌++◌, map, length}
 use Rattle.task_model.specs.Widget.{shifted, widget_term}
 use Rattle.plain_rules.proofs.interface.push_shifted.Given as goal
 

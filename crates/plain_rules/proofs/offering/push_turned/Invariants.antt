@@ -1,4 +1,4 @@
-use Rattle.std.proofs.Common.{◌≡◌, ◌++◌, ◌∷◌, map, length}
+use Rattle.std.proofs.Common.{◌≡◌, ◌++◌, map, length}
 use Rattle.task_model.specs.Offer.{turned, offer_term}
 use Rattle.plain_rules.proofs.offering.push_turned.Given as goal
 

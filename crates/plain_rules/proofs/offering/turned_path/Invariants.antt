@@ -1,4 +1,4 @@
-use Rattle.std.proofs.Common.{◌≡◌, ◌++◌, ◌∷◌, map, length}
+use Rattle.std.proofs.Common.{◌≡◌, ◌++◌, ◌∷◌, length}
 use Rattle.plain_rules.proofs.offering.turned_path.Given as goal
 
 abbrev pub invariant-loop-rest : goal.invariant-loop-rest

@@ -1,4 +1,4 @@
-use Rattle.std.proofs.Common.{◌≡◌, ◌++◌, ◌∷◌, map, length}
+use Rattle.std.proofs.Common.{◌≡◌, ◌++◌, map, length}
 use Rattle.task_model.specs.Offer.{offered, next_offer, offer_term}
 use Rattle.plain_rules.proofs.offering.with_next.Given as goal
 

@@ -1,10 +1,8 @@
-use Rattle.std.proofs.Common.{◌≡◌, ◌++◌, ◌∷◌, [], List, map, ap, ◌∙◌, subst}
+use Rattle.std.proofs.Common.{◌++◌, ◌∷◌, [], List, map, ap, ◌∙◌}
 use Rattle.task_model.specs.Value.{value_term}
-use Rattle.task_model.specs.Env.{SlotTerm, plain_slot, slot_term}
+use Rattle.task_model.specs.Env.{plain_slot, slot_term}
 use Rattle.task_model.specs.Tree.{cont_term}
-use Rattle.task_model.specs.Plan.{give}
-use Rattle.task_model.specs.Rules.{tested, trial}
-use Rattle.task_model.specs.Calls.{Ran}
+use Rattle.task_model.specs.Rules.{trial}
 use Rattle.task_model.specs.declared.env.Slot.{Slot}
 use Rattle.plain_values.specs.Rules.{rules_term}
 use Rattle.plain_rules.proofs.HandlingLemmas.{sign_is, retested}
