@@ -1,5 +1,3 @@
-pub mod Starts
-pub mod Bodies
 pub mod Handled
 pub mod Signs
 pub mod Outcomes

@@ -13,8 +13,10 @@ ghost use Rattle.task_model.specs.Calls.{Ran};
 ghost use Rattle.plain_values.specs.Rules.{rules_term};
 ghost use Rattle.plain_rules.specs.Handled as words;
 
-use crate::engine::{fails_at, normal_body, settle_at};
-use crate::made::{and_tree, next_tree, or_tree, replaced, then_tree, value_of, with_value};
+use plain_tasks::{
+    and_tree, fails_at, next_tree, normal_body, or_tree, replaced, settle_at, then_tree, value_of,
+    with_value,
+};
 use plain_values::{Rules, memory};
 use std::alloc::Global;
 use task_model::{

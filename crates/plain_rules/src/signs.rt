@@ -10,8 +10,7 @@ ghost use Rattle.task_model.specs.Calls.{Ran};
 ghost use Rattle.plain_rules.specs.Signs.{Signed};
 ghost use Rattle.plain_values.specs.Rules.{rules_term};
 
-use crate::engine::{fails_at, normal_body, side_fails};
-use crate::made::{value_of, with_value};
+use plain_tasks::{fails_at, normal_body, side_fails, value_of, with_value};
 use plain_values::{Rules, memory};
 use std::alloc::Global;
 use task_model::{

@@ -6,7 +6,7 @@ use Rattle.task_model.specs.Plan.{give}
 use Rattle.task_model.specs.Rules.{branch}
 use Rattle.task_model.proofs.RanLemmas.{stopped, ran_give, ran_ask, ran_ask_stops}
 use Rattle.plain_values.specs.Rules.{rules_term}
-use Rattle.plain_rules.proofs.EngineLemmas.{ran_tested, ran_tested_stops}
+use Rattle.plain_tasks.proofs.EngineLemmas.{ran_tested, ran_tested_stops}
 use Rattle.plain_rules.proofs.handling.unless_failing.Goals as goal
 
 pub returns-in_err-t-clause-ran : goal.returns-in_err-t-clause-ran

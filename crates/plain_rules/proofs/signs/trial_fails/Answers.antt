@@ -5,7 +5,7 @@ use Rattle.task_model.specs.Tree.{tree_term, at}
 use Rattle.task_model.specs.Plan.{give}
 use Rattle.task_model.proofs.RanLemmas.{stopped, ran_last}
 use Rattle.plain_values.specs.Rules.{rules_term}
-use Rattle.plain_rules.proofs.EngineLemmas.{ran_tested, ran_tested_stops}
+use Rattle.plain_tasks.proofs.EngineLemmas.{ran_tested, ran_tested_stops}
 use Rattle.plain_rules.proofs.signs.trial_fails.Goals as goal
 
 pub returns-in_err-t : goal.returns-in_err-t
