@@ -7,10 +7,7 @@ ghost use Rattle.task_model.specs.Program.{param_term, def_term};
 use task_model::{DefBody, Param, Program, Task, TaskText};
 
 /// The parameters and the body of the task of a name, where its first definition is one.
-pub fn task_named<'a>(
-    program: &'a Program,
-    name: &TaskText,
-) -> Option<(&'a [Param], &'a Task)>
+pub fn task_named<'a>(program: &'a Program, name: &TaskText) -> Option<(&'a [Param], &'a Task)>
     ensures { task_in (map def_term program.now.defs.list) name.now ≡ option_map (λ f. called (map param_term f.0.now) (task_term f.1.now)) result }
 {
     let mut rest = program.defs.as_slice();

@@ -45,12 +45,7 @@ fn copy_cont(alloc: Global, k: &Cont) -> Result<Cont, OutOfMemory>
 }
 
 /// An internal step to a body of the program.
-pub fn then_task(
-    alloc: Global,
-    left: Tree,
-    body: u32,
-    env: &Env,
-) -> Result<Tree, OutOfMemory>
+pub fn then_task(alloc: Global, left: Tree, body: u32, env: &Env) -> Result<Tree, OutOfMemory>
     ensures { IfOk result (λ t. tree_term t ≡ trees.then_tree (tree_term left) (rules.later body (env_term env.now))) }
 {
     let left = boxed(alloc, left)?;
@@ -58,12 +53,7 @@ pub fn then_task(
 }
 
 /// A user step to a body of the program.
-pub fn next_task(
-    alloc: Global,
-    left: Tree,
-    body: u32,
-    env: &Env,
-) -> Result<Tree, OutOfMemory>
+pub fn next_task(alloc: Global, left: Tree, body: u32, env: &Env) -> Result<Tree, OutOfMemory>
     ensures { IfOk result (λ t. tree_term t ≡ trees.next_tree (tree_term left) (rules.later body (env_term env.now))) }
 {
     let left = boxed(alloc, left)?;
@@ -133,11 +123,7 @@ pub fn has_value(t: &Tree, store: &[Value]) -> bool
 }
 
 /// The value that a tree has over a store.
-pub fn value_of(
-    alloc: Global,
-    t: &Tree,
-    store: &[Value],
-) -> Result<Option<Value>, OutOfMemory>
+pub fn value_of(alloc: Global, t: &Tree, store: &[Value]) -> Result<Option<Value>, OutOfMemory>
     ensures { IfOk result (λ v. option_map value_term v ≡ rules.value_of (tree_term t.now) (map value_term store.now)) }
 {
     match t {

@@ -132,11 +132,7 @@ fn what_nodes(alloc: Global, program: &Program, what: &DefBody) -> Result<u64, O
 }
 
 /// How many nodes stand before the first definition of a name.
-pub fn nodes_before(
-    alloc: Global,
-    program: &Program,
-    name: &TaskText,
-) -> Result<u64, OutOfMemory>
+pub fn nodes_before(alloc: Global, program: &Program, name: &TaskText) -> Result<u64, OutOfMemory>
     ensures { IfOk result (λ n. n ≡ words.nodes_before (program_term program.now) 0 (map def_term program.now.defs.list) name.now) }
 {
     let mut first = 0;
