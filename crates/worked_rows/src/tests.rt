@@ -172,28 +172,27 @@ struct World {
     version: u64,
 }
 
-fn opened(alloc: Global, rules: Rules, budget: u32) -> Result<World, Stop> {
+// The state of a program's opening.
+fn first_state(alloc: Global, rules: &Rules, budget: u32) -> Result<(Tree, Row<Value>), Stop> {
+    let mut store = Row::new(alloc);
+    let main = stopped(call(alloc, "main"))?;
+    let tree = normalised(alloc, rules, &main, &mut store, budget)?;
+    Ok((tree, store))
+}
+
+fn normalised(
+    alloc: Global,
+    rules: &Rules,
+    main: &Task,
+    store: &mut Row<Value>,
+    budget: u32,
+) -> Result<Tree, Stop> {
     let env = Env {
         names: Row::new(alloc),
         slots: Row::new(alloc),
         first: 0,
     };
-    let mut store = Row::new(alloc);
-    let main = stopped(call(alloc, "main"))?;
-    let tree = normalise(
-        alloc,
-        &rules,
-        &main,
-        &env,
-        &mut store,
-        &mut Purse::new(budget),
-    )?;
-    Ok(World {
-        rules,
-        tree,
-        store,
-        version: 0,
-    })
+    normalise(alloc, rules, main, &env, store, &mut Purse::new(budget))
 }
 
 fn stopped<T>(made: Result<T, OutOfMemory>) -> Result<T, Stop> {
@@ -289,7 +288,7 @@ fn judged(alloc: Global, world: &mut World, at: &str, act: Act) -> Result<TaskTe
         Outcome::Taken { tree, store } => {
             world.tree = tree;
             world.store = store;
-            world.version += 1;
+            world.version = world.version.saturating_add(1);
             name(alloc, "taken")
         }
         Outcome::NotOffered => name(alloc, "not offered"),
@@ -303,7 +302,13 @@ fn plays(
     rules: Rules,
     deeds: &[(Deed<'_>, &str)],
 ) -> Result<(), OutOfMemory> {
-    let mut world = told(opened(rt.alloc(), rules, BUDGET))?;
+    let (tree, store) = told(first_state(rt.alloc(), &rules, BUDGET))?;
+    let mut world = World {
+        rules,
+        tree,
+        store,
+        version: 0,
+    };
     for (deed, want) in deeds {
         let got = done(rt.alloc(), &mut world, *deed)?;
         assert_eq!(rt; got.as_str(), *want);
@@ -547,7 +552,7 @@ fn three_edits(alloc: Global) -> Result<Rules, OutOfMemory> {
 
 // Whether a program opens within a budget.
 fn opens(alloc: Global, rules: Rules, budget: u32) -> Result<bool, OutOfMemory> {
-    match opened(alloc, rules, budget) {
+    match first_state(alloc, &rules, budget) {
         Ok(_) => Ok(true),
         Err(Stop::Over) => Ok(false),
         Err(Stop::Memory) => Err(OutOfMemory),
@@ -684,8 +689,9 @@ fn boards(rt: HostRuntime) -> Result<(), Fail> {
             ),
         ],
     )?;
-    let w = told(opened(alloc, row_23(alloc)?, BUDGET))?;
-    let offered = offers(alloc, &w.rules, BUDGET, &w.tree, w.store.as_slice())?;
+    let rules = row_23(alloc)?;
+    let (tree, store) = told(first_state(alloc, &rules, BUDGET))?;
+    let offered = offers(alloc, &rules, BUDGET, &tree, store.as_slice())?;
     assert_eq!(rt; offered.as_slice().len(), 2);
     Ok(())
 }
