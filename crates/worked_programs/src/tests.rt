@@ -1,4 +1,4 @@
-//! The worked rows of the rules, on programs built by hand.
+//! Worked programs, built by hand: what their inputs, units and pages come to.
 
 use plain_pages::{html_page, page};
 use plain_rules::{Outcome, judge, offers, widgets};
@@ -15,7 +15,7 @@ use task_model::{
 const BUDGET: u32 = 100_000;
 
 // the HTML page of a text editor with `<b>&"`
-const ROW_19: &str =
+const TEXT_EDITOR: &str =
     "<!DOCTYPE html>\n<html lang=\"en\"><head><meta charset=\"utf-8\"><title>tophat</title></head><body>\n<p>version 0 seat 1</p>\n<p>. edit text</p>\n<form method=\"post\" action=\"/\"><input type=\"hidden\" name=\"path\" value=\".\"><input type=\"hidden\" name=\"act\" value=\"set\"><input type=\"hidden\" name=\"as\" value=\"raw\"><textarea name=\"value\">\n&lt;b&gt;&amp;&quot;</textarea><button>set</button></form>\n</body></html>\n";
 
 fn name(alloc: Global, text: &str) -> Result<TaskText, OutOfMemory> {
@@ -426,7 +426,7 @@ fn steps(rt: HostRuntime) -> Result<(), Fail> {
 }
 
 // `new r = 7 in (enter int >>? x . (r := x ; if x > 0 then edit x else fail int)) <&> share r`
-fn row_5(alloc: Global) -> Result<Rules, OutOfMemory> {
+fn step_that_sets_a_store(alloc: Global) -> Result<Rules, OutOfMemory> {
     let mut m = Maker::new(alloc);
     let step = next(alloc, enter(alloc, Basic::Int)?, 0)?;
     let both = and(alloc, step, share(alloc, "r")?)?;
@@ -438,7 +438,7 @@ fn row_5(alloc: Global) -> Result<Rules, OutOfMemory> {
 }
 
 // `new r = 1 in share r <&> share r`
-fn row_6(alloc: Global) -> Result<Rules, OutOfMemory> {
+fn two_shares(alloc: Global) -> Result<Rules, OutOfMemory> {
     let mut m = Maker::new(alloc);
     let both = and(alloc, share(alloc, "r")?, share(alloc, "r")?)?;
     m.task(alloc, "main", new(alloc, "r", int(alloc, 1)?, both)?)?;
@@ -451,7 +451,7 @@ fn stores(rt: HostRuntime) -> Result<(), Fail> {
     let alloc = rt.alloc();
     plays(
         &rt,
-        row_5(alloc)?,
+        step_that_sets_a_store(alloc)?,
         &[
             (Deed::Int("F", 0), "taken"),
             (Deed::Next("F"), "not offered"),
@@ -469,7 +469,7 @@ fn stores(rt: HostRuntime) -> Result<(), Fail> {
     )?;
     plays(
         &rt,
-        row_6(alloc)?,
+        two_shares(alloc)?,
         &[
             (Deed::Int("F", 9), "taken"),
             (
@@ -482,7 +482,7 @@ fn stores(rt: HostRuntime) -> Result<(), Fail> {
 }
 
 // `edit 1 <?> fail int`
-fn row_7(alloc: Global) -> Result<Rules, OutOfMemory> {
+fn choice_with_a_failing_side(alloc: Global) -> Result<Rules, OutOfMemory> {
     let mut m = Maker::new(alloc);
     m.task(alloc, "main", xor(alloc)?)?;
     m.body(alloc, &[], None, edit(alloc, 1)?)?;
@@ -492,7 +492,7 @@ fn row_7(alloc: Global) -> Result<Rules, OutOfMemory> {
 }
 
 // `enter int <|> enter int`
-fn row_8(alloc: Global) -> Result<Rules, OutOfMemory> {
+fn two_editors(alloc: Global) -> Result<Rules, OutOfMemory> {
     let mut m = Maker::new(alloc);
     let left = enter(alloc, Basic::Int)?;
     let right = enter(alloc, Basic::Int)?;
@@ -501,7 +501,7 @@ fn row_8(alloc: Global) -> Result<Rules, OutOfMemory> {
 }
 
 // `(enter int >>? x . edit x) >>? y . edit (y * 2)`
-fn row_9(alloc: Global) -> Result<Rules, OutOfMemory> {
+fn step_behind_a_step(alloc: Global) -> Result<Rules, OutOfMemory> {
     let mut m = Maker::new(alloc);
     let first = next(alloc, enter(alloc, Basic::Int)?, 0)?;
     m.task(alloc, "main", next(alloc, first, 1)?)?;
@@ -517,7 +517,7 @@ fn choices(rt: HostRuntime) -> Result<(), Fail> {
     let alloc = rt.alloc();
     plays(
         &rt,
-        row_7(alloc)?,
+        choice_with_a_failing_side(alloc)?,
         &[
             (Deed::Show(1), "version 0 seat 1\n. pick left\n"),
             (Deed::Right(""), "not offered"),
@@ -527,7 +527,7 @@ fn choices(rt: HostRuntime) -> Result<(), Fail> {
     )?;
     plays(
         &rt,
-        row_8(alloc)?,
+        two_editors(alloc)?,
         &[
             (Deed::Int("S", 3), "taken"),
             (Deed::Int("S", 4), "not offered"),
@@ -537,7 +537,7 @@ fn choices(rt: HostRuntime) -> Result<(), Fail> {
     )?;
     plays(
         &rt,
-        row_9(alloc)?,
+        step_behind_a_step(alloc)?,
         &[
             (Deed::Int("", 3), "taken"),
             (Deed::Next(""), "taken"),
@@ -549,7 +549,7 @@ fn choices(rt: HostRuntime) -> Result<(), Fail> {
 }
 
 // `task loop() : int = edit 1 >>= x . loop()` and `main() = loop()`
-fn row_10(alloc: Global) -> Result<Rules, OutOfMemory> {
+fn loop_of_one_task(alloc: Global) -> Result<Rules, OutOfMemory> {
     let mut m = Maker::new(alloc);
     m.task(alloc, "loop", then(alloc, edit(alloc, 1)?, 0)?)?;
     m.task(alloc, "main", call(alloc, "loop")?)?;
@@ -559,7 +559,7 @@ fn row_10(alloc: Global) -> Result<Rules, OutOfMemory> {
 }
 
 // `a() = edit 1 >>= x . b()`, `b() = edit 2 >>= x . a()` and `main() = a()`
-fn row_11(alloc: Global) -> Result<Rules, OutOfMemory> {
+fn loop_of_two_tasks(alloc: Global) -> Result<Rules, OutOfMemory> {
     let mut m = Maker::new(alloc);
     m.task(alloc, "a", then(alloc, edit(alloc, 1)?, 0)?)?;
     m.task(alloc, "b", then(alloc, edit(alloc, 2)?, 1)?)?;
@@ -571,7 +571,7 @@ fn row_11(alloc: Global) -> Result<Rules, OutOfMemory> {
 }
 
 // `main() <?> main()`
-fn row_24(alloc: Global) -> Result<Rules, OutOfMemory> {
+fn choice_between_itself(alloc: Global) -> Result<Rules, OutOfMemory> {
     let mut m = Maker::new(alloc);
     m.task(alloc, "main", xor(alloc)?)?;
     m.body(alloc, &[], None, call(alloc, "main")?)?;
@@ -603,16 +603,16 @@ fn budgets(rt: HostRuntime) -> Result<(), Fail> {
     let alloc = rt.alloc();
     // a program without an input
     assert!(rt; opens(alloc, one_step(alloc, true, x_and_one(alloc)?, 1)?, BUDGET)?);
-    assert!(rt; opens(alloc, row_10(alloc)?, 4)?);
-    assert!(rt; !opens(alloc, row_10(alloc)?, 3)?);
-    assert!(rt; !opens(alloc, row_11(alloc)?, BUDGET)?);
-    assert!(rt; !opens(alloc, row_11(alloc)?, 10_000)?);
+    assert!(rt; opens(alloc, loop_of_one_task(alloc)?, 4)?);
+    assert!(rt; !opens(alloc, loop_of_one_task(alloc)?, 3)?);
+    assert!(rt; !opens(alloc, loop_of_two_tasks(alloc)?, BUDGET)?);
+    assert!(rt; !opens(alloc, loop_of_two_tasks(alloc)?, 10_000)?);
     // a unit for `main`, and one for each of the three strides
     assert!(rt; opens(alloc, three_edits(alloc)?, 4)?);
     assert!(rt; !opens(alloc, three_edits(alloc)?, 3)?);
     plays(
         &rt,
-        row_24(alloc)?,
+        choice_between_itself(alloc)?,
         &[
             (Deed::Show(1), "version 0 seat 1\n. pick left? right?\n"),
             (Deed::Left(""), "over budget"),
@@ -661,7 +661,7 @@ fn posted(alloc: Global) -> Result<Box<Task>, OutOfMemory> {
 }
 
 // `post`, and `main() = new log = nil text in post(log) <&> share log`
-fn row_23(alloc: Global) -> Result<Rules, OutOfMemory> {
+fn message_board(alloc: Global) -> Result<Rules, OutOfMemory> {
     let mut m = Maker::new(alloc);
     m.defs.push(post(alloc)?)?;
     let board = call_with(alloc, "post", named(alloc, "log")?)?;
@@ -702,7 +702,7 @@ fn values(rt: HostRuntime) -> Result<(), Fail> {
                 Deed::Show(1),
                 "version 0 seat 1\n. edit text \"<b>&\\\"\"\n",
             ),
-            (Deed::ShowHtml(1), ROW_19),
+            (Deed::ShowHtml(1), TEXT_EDITOR),
         ],
     )?;
     plays(
@@ -721,7 +721,7 @@ fn boards(rt: HostRuntime) -> Result<(), Fail> {
     let alloc = rt.alloc();
     plays(
         &rt,
-        row_23(alloc)?,
+        message_board(alloc)?,
         &[
             (Deed::Text("F", "hello"), "taken"),
             (Deed::Next("F"), "taken"),
@@ -733,7 +733,7 @@ fn boards(rt: HostRuntime) -> Result<(), Fail> {
             ),
         ],
     )?;
-    let rules = row_23(alloc)?;
+    let rules = message_board(alloc)?;
     let (tree, store) = told(first_state(alloc, &rules, BUDGET))?;
     let offered = offers(alloc, &rules, BUDGET, &tree, store.as_slice())?;
     assert_eq!(rt; offered.as_slice().len(), 2);
