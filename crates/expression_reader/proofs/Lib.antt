@@ -1,0 +1,5 @@
+pub mod ReadingLemmas
+pub mod ShownLemmas
+pub mod ListingLemmas
+pub mod AtomLemmas
+pub mod Ranks

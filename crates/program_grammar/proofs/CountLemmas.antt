@@ -1,0 +1,12 @@
+-- A fault's place, by the tokens of the code.
+use Rattle.std.proofs.Common.{◌≡◌, ℕ, List, length, Err, sym, subst}
+use Rattle.std.proofs.lemmas.List.{length-map}
+use Rattle.exact_reading.specs.declared.stop.Kind.{Kind}
+use Rattle.exact_reading.specs.declared.stop.Stop.TheVariants.{Fault}
+use Rattle.exact_reading.specs.Reading.{Language, Right}
+use Rattle.program_grammar.specs.declared.lexeme.Located.{Located}
+use Rattle.program_grammar.specs.Lexemes.{Lexeme}
+use Rattle.program_grammar.specs.Parts.{lexeme, lexemes}
+
+pub counted : {X : Type 0} {A : Language Lexeme X} {F : X → Type 0} {E : List Lexeme → Type 0} {kind : Kind} (tokens : List Located) → Right A F E (lexemes tokens) (Err (Fault kind (length (lexemes tokens)))) → Right A F E (lexemes tokens) (Err (Fault kind (length tokens)))
+counted {A = A} {F = F} {E = E} {kind = kind} tokens right = subst (λ n. Right A F E (lexemes tokens) (Err (Fault kind n))) (length-map tokens lexeme) right

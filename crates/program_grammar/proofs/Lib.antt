@@ -1,0 +1,15 @@
+pub mod GrammarLemmas
+pub mod RuleLemmas
+pub mod TypeRules
+pub mod SeriesLemmas
+pub mod PassingLemmas
+pub mod OptionalLemmas
+pub mod CountLemmas
+pub mod ExpressionRules
+pub mod OperatorLemmas
+pub mod AtomRules
+pub mod EnclosedRules
+pub mod NoOperators
+pub mod FaultLemmas
+pub mod ReadingLemmas
+pub mod RowTerms

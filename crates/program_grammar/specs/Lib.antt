@@ -1,0 +1,9 @@
+pub mod Lexemes
+pub mod Grammar
+pub mod Meaning
+pub mod Nodes
+pub mod ProgramText
+pub mod Faults
+pub mod Languages
+pub mod Parts
+pub mod Prefixes

@@ -1,0 +1,13 @@
+-- Operators before an operand, and comparisons, as the grammar's.
+use Rattle.std.specs.Prelude.{◌≡◌}
+use Rattle.task_model.specs.declared.host.Op.{Op}
+use Rattle.program_grammar.specs.declared.prefixes.Prefix.{Prefix}
+use Rattle.program_grammar.specs.declared.prefixes.Prefix.TheVariants as codes
+use Rattle.program_grammar.specs.Grammar as grammar
+
+abbrev pub prefix_term : Prefix → grammar.Prefix
+prefix_term codes.Negative = grammar.negative
+prefix_term codes.Not = grammar.not
+prefix_term codes.First = grammar.fst
+prefix_term codes.Second = grammar.snd
+prefix_term codes.Length = grammar.len

@@ -1,0 +1,37 @@
+ghost use Rattle.std.specs.Prelude.{◌≡◌, pos};
+ghost use Rattle.task_model.specs.Token.{number_from};
+
+use task_model::TaskText;
+use task_syntax::{Keyword, Symbol};
+
+/// The digits of a number, and its value.
+#[derive(Clone, Copy)]
+pub struct Digits<'s> {
+    pub digits: &'s [u8],
+    pub value: i64,
+    ghost right: { value ≡ pos (number_from 0 digits.now) },
+}
+
+/// A text as it is spelled, and its content.
+#[derive(Clone, Copy)]
+pub struct Quote<'s> {
+    pub spelling: &'s [u8],
+    pub content: &'s TaskText,
+}
+
+/// A token as the grammar takes it.
+#[derive(Clone, Copy)]
+pub enum Lexeme<'s> {
+    Word(Keyword),
+    Sign(Symbol),
+    Name(&'s str),
+    Number(Digits<'s>),
+    Quote(Quote<'s>),
+}
+
+/// A token and the place of its first byte.
+#[derive(Clone, Copy)]
+pub struct Located<'s> {
+    pub lexeme: Lexeme<'s>,
+    pub from: u64,
+}

@@ -1,0 +1,77 @@
+ghost use Rattle.std.specs.Prelude.{MatchOption};
+ghost use Rattle.program_grammar.specs.Grammar as grammar;
+ghost use Rattle.program_grammar.specs.Parts.{lexemes, series_of, NoOperator, Operated};
+
+use crate::lexeme::Located;
+use crate::steps::{strip_sign, strip_word};
+use task_model::Op;
+use task_syntax::{Keyword, Symbol};
+
+/// Operators that group to the left, from the loosest to the tightest.
+#[derive(Clone, Copy, Debug, PartialEq, Eq)]
+pub enum Level {
+    Either,
+    Both,
+    Sum,
+    Product,
+}
+
+/// The operator of this level that stands first, if one does, and what stands after it.
+pub fn operator<'t>(level: Level, tokens: &'t [Located<'t>]) -> Option<(Op, &'t [Located<'t>])>
+    ensures { MatchOption result (NoOperator (series_of level) (lexemes tokens.now)) (λ r. Operated (series_of level) (lexemes tokens.now) r.0 (lexemes r.1.now)) }
+{
+    match level {
+        Level::Either => either(tokens),
+        Level::Both => both(tokens),
+        Level::Sum => sum(tokens),
+        Level::Product => product(tokens),
+    }
+}
+
+fn either<'t>(tokens: &'t [Located<'t>]) -> Option<(Op, &'t [Located<'t>])>
+    ensures { MatchOption result (NoOperator grammar.either (lexemes tokens.now)) (λ r. Operated grammar.either (lexemes tokens.now) r.0 (lexemes r.1.now)) }
+{
+    if let Some((_, rest)) = strip_sign(tokens, Symbol::Or) {
+        return Some((Op::Or, rest));
+    }
+    None
+}
+
+fn both<'t>(tokens: &'t [Located<'t>]) -> Option<(Op, &'t [Located<'t>])>
+    ensures { MatchOption result (NoOperator grammar.both (lexemes tokens.now)) (λ r. Operated grammar.both (lexemes tokens.now) r.0 (lexemes r.1.now)) }
+{
+    if let Some((_, rest)) = strip_sign(tokens, Symbol::And) {
+        return Some((Op::And, rest));
+    }
+    None
+}
+
+fn sum<'t>(tokens: &'t [Located<'t>]) -> Option<(Op, &'t [Located<'t>])>
+    ensures { MatchOption result (NoOperator grammar.sum (lexemes tokens.now)) (λ r. Operated grammar.sum (lexemes tokens.now) r.0 (lexemes r.1.now)) }
+{
+    if let Some((_, rest)) = strip_sign(tokens, Symbol::Plus) {
+        return Some((Op::Add, rest));
+    }
+    if let Some((_, rest)) = strip_sign(tokens, Symbol::Minus) {
+        return Some((Op::Sub, rest));
+    }
+    if let Some((_, rest)) = strip_sign(tokens, Symbol::Join) {
+        return Some((Op::Join, rest));
+    }
+    None
+}
+
+fn product<'t>(tokens: &'t [Located<'t>]) -> Option<(Op, &'t [Located<'t>])>
+    ensures { MatchOption result (NoOperator grammar.product (lexemes tokens.now)) (λ r. Operated grammar.product (lexemes tokens.now) r.0 (lexemes r.1.now)) }
+{
+    if let Some((_, rest)) = strip_sign(tokens, Symbol::Star) {
+        return Some((Op::Mul, rest));
+    }
+    if let Some((_, rest)) = strip_word(tokens, Keyword::Quot) {
+        return Some((Op::Quot, rest));
+    }
+    if let Some((_, rest)) = strip_word(tokens, Keyword::Rem) {
+        return Some((Op::Rem, rest));
+    }
+    None
+}
