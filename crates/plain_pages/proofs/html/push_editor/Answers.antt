@@ -1,0 +1,23 @@
+use Rattle.std.proofs.Common.{◌++◌, codes, ap, ◌∙◌}
+use Rattle.task_model.specs.Text.{Text}
+use Rattle.task_model.specs.Basic.{basic_term}
+use Rattle.task_model.specs.Literal.{basic_text}
+use Rattle.task_model.specs.Page.{path_text}
+use Rattle.task_model.specs.Html.{paragraph, form_text, editor_fields}
+use Rattle.plain_pages.specs.Forms.{form_start, form_end}
+use Rattle.plain_pages.proofs.Pieces.{on_ok, more, form_parts}
+use Rattle.plain_pages.proofs.html.push_editor.Goals as goal
+
+pub returns : goal.returns
+returns c =
+    let path = path_text c.args.path.now in
+    let b = basic_term c.args.b.now in
+    let line = paragraph (path ++ codes " " ++ c.args.word.now ++ codes " " ++ basic_text b) in
+    let start = form_start path (codes "set") in
+    let fields = editor_fields b c.args.shown.now in
+    let x = c.push_editor_line.new.text.list in
+    let form = more x start fields c.in_ok-push_form.ensures c.in_ok-push_fields.ensures in
+    on_ok c.push_button.result
+    (λ last. more c.args.text.now.list line (form_text path (codes "set") fields (codes "set")) c.in_ok-push_editor_line.ensures
+    (more x (start ++ fields) (form_end (codes "set")) form last ∙ ap (λ (l : Text). x ++ l) (form_parts path (codes "set") fields (codes "set"))))
+    c.push_button.ensures

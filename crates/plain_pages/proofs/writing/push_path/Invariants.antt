@@ -1,0 +1,9 @@
+use Rattle.std.proofs.Common.{◌≡◌, ◌++◌, length}
+use Rattle.task_model.specs.Page.{turns_text}
+use Rattle.plain_pages.proofs.writing.push_path.Given as goal
+
+abbrev pub invariant-loop-rest : goal.invariant-loop-rest
+invariant-loop-rest l = l.text.list ++ turns_text l.rest ≡ l.initial.text.list ++ turns_text l.turns
+
+abbrev pub decreases-loop-rest : goal.decreases-loop-rest
+decreases-loop-rest l = length l.rest

@@ -1,0 +1,2 @@
+pub mod HandlingLemmas
+pub mod OutcomeLemmas

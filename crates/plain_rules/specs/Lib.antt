@@ -1,0 +1,3 @@
+pub mod Handled
+pub mod Signs
+pub mod Outcomes

@@ -1,0 +1,3 @@
+pub mod TermLemmas
+pub mod TaskLemmas
+pub mod EngineLemmas

@@ -1,0 +1,16 @@
+use Rattle.std.proofs.Common.{refl}
+use Rattle.std.proofs.lemmas.Result.{IfOk-at_ok}
+use Rattle.task_model.specs.Task.{BodyTerm}
+use Rattle.task_model.specs.declared.purse.Stop.TheVariants.{Over}
+use Rattle.task_model.proofs.RanLemmas.{ran_last}
+use Rattle.plain_values.proofs.RunLemmas.{ran_known_ok, ran_known_stops}
+use Rattle.plain_tasks.proofs.TaskLemmas.{asked_task}
+use Rattle.plain_tasks.proofs.engine.applied.Goals as goal
+
+pub returns-in-None-clause-ran : goal.returns-in-None-clause-ran
+returns-in-None-clause-ran c = ran_known_stops {X = BodyTerm} _ (λ b. b) Over _ c.in-None.ensures
+
+pub returns-in_ok-inner-in-Some-clause-ran : goal.returns-in_ok-inner-in-Some-clause-ran
+returns-in_ok-inner-in-Some-clause-ran c =
+    let inner = IfOk-at_ok _ c.in_ok-inner-in-Some.ensures.ok c.opened_env.ensures in
+    ran_known_ok _ c.in-Some.ensures (ran_last _ (asked_task inner refl c.evaluate_at.ensures.asked))

@@ -1,0 +1,6 @@
+pub mod ListLemmas
+pub mod TermLemmas
+pub mod CharacterLemmas
+pub mod KnownLemmas
+pub mod EqualLemmas
+pub mod RunLemmas

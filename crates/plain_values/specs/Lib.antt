@@ -1,0 +1,3 @@
+pub mod Rules
+pub mod Known
+pub mod Words
