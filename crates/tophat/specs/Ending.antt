@@ -3,10 +3,15 @@ use Rattle.std.specs.Prelude.{ℕ, [], ◌++◌, codes, decimal}
 use Rattle.task_model.specs.Text.{Text}
 use Rattle.line_frame.specs.declared.finish.Finish.{Finish}
 use Rattle.line_frame.specs.declared.finish.Finish.TheVariants.{Done, Refused, Usage, Bad, OverBudget, FileFault, ReadFault, WriteFault, Absent, FileTooLong, InputTooLong, Memory}
+use Rattle.line_frame.specs.declared.refusal.Refusal.{Refusal}
+use Rattle.line_frame.specs.declared.refusal.Refusal.TheVariants.{Read, NotBuilt}
+use Rattle.program_grammar.specs.declared.stop.ReadKind.TheVariants.{TooLong, NotUtf8, Lex, Unexpected, TooNested}
+use Rattle.task_syntax.specs.declared.stop.LexKind.{LexKind}
+use Rattle.task_syntax.specs.declared.stop.LexKind.TheVariants.{BadChar, BadEscape, OpenText, LongText, WideNumber}
 
 abbrev pub status_of : Finish → ℕ
 status_of Done = 0
-status_of Refused = 1
+status_of (Refused place refusal) = 1
 status_of Usage = 2
 status_of (Bad line column) = 3
 status_of OverBudget = 4
@@ -25,9 +30,29 @@ of_file name what = codes "tophat: " ++ name ++ (what ++ codes "\n")
 abbrev pub usage : Text
 usage = codes "usage: tophat run FILE [--budget N] | check FILE | soak N SEED | drill SEATS N | serve FILE [--budget N] [--seats N] [--workers N] [--port N] [--connections N]\n"
 
+-- the name of a refusal, and the number of its token, if it has one
+abbrev pub lex_word : LexKind → Text
+lex_word BadChar = codes "BadChar"
+lex_word BadEscape = codes "BadEscape"
+lex_word OpenText = codes "OpenText"
+lex_word LongText = codes "LongText"
+lex_word WideNumber = codes "WideNumber"
+
+abbrev pub refusal_word : Refusal → Text
+refusal_word (Read TooLong) = codes "TooLong"
+refusal_word (Read NotUtf8) = codes "NotUtf8"
+refusal_word (Read (Lex kind)) = lex_word kind
+refusal_word (Read (Unexpected token)) = codes "Unexpected token "
+refusal_word (Read TooNested) = codes "TooNested"
+refusal_word NotBuilt = codes "NotBuilt"
+
+abbrev pub refusal_number : Refusal → Text
+refusal_number (Read (Unexpected token)) = decimal token
+refusal_number refusal = []
+
 abbrev pub text_of : Text → Finish → Text
 text_of name Done = []
-text_of name Refused = of_file name (codes ": byte 0: NotBuilt")
+text_of name (Refused place refusal) = codes "tophat: " ++ name ++ (codes ": byte " ++ decimal place) ++ (codes ": " ++ refusal_word refusal ++ (refusal_number refusal ++ codes "\n"))
 text_of name Usage = usage
 text_of name (Bad line column) = codes "tophat: line " ++ decimal line ++ (codes " column " ++ decimal column) ++ codes "\n"
 text_of name OverBudget = codes "tophat: opening over budget\n"
