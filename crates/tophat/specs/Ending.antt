@@ -1,5 +1,5 @@
 -- The status of each end, and its text on the error sink (docs/FORMATS.md, "Statuses").
-use Rattle.std.specs.Prelude.{ℕ, [], ◌++◌, codes, decimal}
+use Rattle.std.specs.Prelude.{ℕ, Option, None, Some, [], ◌++◌, codes, decimal}
 use Rattle.task_model.specs.Text.{Text}
 use Rattle.line_frame.specs.declared.finish.Finish.{Finish}
 use Rattle.line_frame.specs.declared.finish.Finish.TheVariants.{Done, Refused, Usage, Bad, OverBudget, FileFault, ReadFault, WriteFault, Absent, FileTooLong, InputTooLong, Memory}
@@ -30,7 +30,7 @@ of_file name what = codes "tophat: " ++ name ++ (what ++ codes "\n")
 abbrev pub usage : Text
 usage = codes "usage: tophat run FILE [--budget N] | check FILE | soak N SEED | drill SEATS N | serve FILE [--budget N] [--seats N] [--workers N] [--port N] [--connections N]\n"
 
--- the name of a refusal, and the number of its token, if it has one
+-- the name of a refusal
 abbrev pub lex_word : LexKind → Text
 lex_word BadChar = codes "BadChar"
 lex_word BadEscape = codes "BadEscape"
@@ -46,13 +46,22 @@ refusal_word (Read (Unexpected token)) = codes "Unexpected token "
 refusal_word (Read TooNested) = codes "TooNested"
 refusal_word NotBuilt = codes "NotBuilt"
 
-abbrev pub refusal_number : Refusal → Text
-refusal_number (Read (Unexpected token)) = decimal token
-refusal_number refusal = []
+-- the token that a refusal names
+abbrev pub refusal_token : Refusal → Option ℕ
+refusal_token (Read TooLong) = None
+refusal_token (Read NotUtf8) = None
+refusal_token (Read (Lex kind)) = None
+refusal_token (Read (Unexpected token)) = Some token
+refusal_token (Read TooNested) = None
+refusal_token NotBuilt = None
+
+abbrev pub number_text : Option ℕ → Text
+number_text None = []
+number_text (Some n) = decimal n
 
 abbrev pub text_of : Text → Finish → Text
 text_of name Done = []
-text_of name (Refused place refusal) = codes "tophat: " ++ name ++ (codes ": byte " ++ decimal place) ++ (codes ": " ++ refusal_word refusal ++ (refusal_number refusal ++ codes "\n"))
+text_of name (Refused place refusal) = codes "tophat: " ++ name ++ (codes ": byte " ++ decimal place) ++ (codes ": " ++ refusal_word refusal ++ (number_text (refusal_token refusal) ++ codes "\n"))
 text_of name Usage = usage
 text_of name (Bad line column) = codes "tophat: line " ++ decimal line ++ (codes " column " ++ decimal column) ++ codes "\n"
 text_of name OverBudget = codes "tophat: opening over budget\n"

@@ -1,7 +1,7 @@
 ghost use Rattle.std.specs.Prelude.{◌≡◌, ◌≤◌, ◌++◌, codes, decimal};
 ghost use Rattle.outer_io.specs.Causes.{Rose};
 ghost use Rattle.outer_io.specs.Sink.{Wrote};
-ghost use Rattle.tophat.specs.Ending.{lex_word, refusal_word, refusal_number, text_of};
+ghost use Rattle.tophat.specs.Ending.{lex_word, refusal_word, refusal_token, number_text, text_of};
 ghost use Rattle.line_frame.specs.declared.finish.Finish.TheVariants as finishes;
 
 use itoa::Buffer;
@@ -35,18 +35,34 @@ fn word(refusal: Refusal) -> &'static [u8]
     }
 }
 
+// The token that a refusal names.
+fn token(refusal: Refusal) -> Option<u64>
+    ensures { result ≡ refusal_token refusal }
+{
+    match refusal {
+        Refusal::Read(ReadKind::TooLong) => None,
+        Refusal::Read(ReadKind::NotUtf8) => None,
+        Refusal::Read(ReadKind::Lex(_)) => None,
+        Refusal::Read(ReadKind::Unexpected { token }) => Some(token),
+        Refusal::Read(ReadKind::TooNested) => None,
+        Refusal::NotBuilt => None,
+    }
+}
+
 // Writes what is wrong with a program, and an LF. It takes no memory.
 fn write_cause<E: Sink>(err: &mut E, refusal: Refusal) -> Written
-    ensures text { Wrote (E.taken err.old) (E.taken err.new) (codes ": " ++ refusal_word refusal ++ (refusal_number refusal ++ codes "\n")) result }
+    ensures text { Wrote (E.taken err.old) (E.taken err.new) (codes ": " ++ refusal_word refusal ++ (number_text (refusal_token refusal) ++ codes "\n")) result }
     ensures count { E.faults err.old ≤ E.faults err.new }
     ensures failed { result ≡ Written.Failed → Rose (E.faults err.old) (E.faults err.new) }
 {
-    let mut tokens = Buffer::new();
-    let number: &[u8] = match refusal {
-        Refusal::Read(ReadKind::Unexpected { token }) => tokens.format(token).as_bytes(),
-        _ => b"",
-    };
-    write_four(err, b": ", word(refusal), number, b"\n")
+    match token(refusal) {
+        Some(token) => {
+            let mut tokens = Buffer::new();
+            let number = tokens.format(token).as_bytes();
+            write_four(err, b": ", word(refusal), number, b"\n")
+        }
+        None => write_four(err, b": ", word(refusal), b"", b"\n"),
+    }
 }
 
 /// Writes why and where the program in this file is refused. It takes no memory.

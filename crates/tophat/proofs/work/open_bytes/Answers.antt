@@ -10,7 +10,8 @@ returns-in-Ok-clause-opened g c =
     read_opens limits.budget c.args.bytes.now (program_term c.in-Ok.read.program) c.in-Ok.read.places.list c.open_read.result c.in-Ok.ensures.found (λ q places h. c.in-Ok.ensures.only q places h) c.open_read.ensures.opened
 
 pub returns-in-Err-Fault-clause-opened : goal.returns-in-Err-Fault-clause-opened
-returns-in-Err-Fault-clause-opened g c = refuses limits.budget c.args.bytes.now c.in-Err-Fault.kind c.in-Err-Fault.place (subst (IsStop c.args.bytes.now) c.in-Err-Fault.field-0-is c.in-Err-Fault.ensures.fault)
+returns-in-Err-Fault-clause-opened g c =
+    rw c.in-Err-Fault.field-0-is (refuses limits.budget c.args.bytes.now c.in-Err-Fault.kind c.in-Err-Fault.place (subst (IsStop c.args.bytes.now) c.in-Err-Fault.field-0-is c.in-Err-Fault.ensures.fault))
 
 pub returns-in-Err-Memory-clause-opened : goal.returns-in-Err-Memory-clause-opened
 returns-in-Err-Memory-clause-opened g c = λ reading h told. ((by_program limits.budget reading told).output, refl)
