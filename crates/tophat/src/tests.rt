@@ -154,7 +154,7 @@ fn wrong_words(rt: HostRuntime) -> Result<(), Fail> {
 
 #[test]
 fn refusals(rt: HostRuntime) -> Result<(), Fail> {
-    let table: [(&[u8], &[u8]); 12] = [
+    let table: [(&[u8], &[u8]); 11] = [
         (b"", b"tophat: p.th: byte 0: NotBuilt\n"),
         (
             b"task main() : int = fail int",
@@ -162,11 +162,7 @@ fn refusals(rt: HostRuntime) -> Result<(), Fail> {
         ),
         (
             b"task main() : int = (edit -5)",
-            b"tophat: p.th: byte 26: Unexpected token 8\n",
-        ),
-        (
-            b"task main() : int = edit (1)",
-            b"tophat: p.th: byte 0: NotBuilt\n",
+            b"tophat: p.th: byte 26: Unexpected token 9\n",
         ),
         (
             b"task main() : (int, int) = edit 1",
