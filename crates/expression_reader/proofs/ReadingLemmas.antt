@@ -41,14 +41,17 @@ sign_read {s = s} {p = p} {rest = rest} e = at_tokens e (record { by = record { 
         let q_is : q ≡ p = cc in
         (h ∙ ap (λ n. sign s n ∷ []) q_is, q_is)
 
--- what was read has no more levels than there was room for
-pub levels_within : (f : Form) {room : ℕ} {ts rest : List Lexeme} {s : Shown (Meaning f)} → Reads f shown room ts (Ok (s, rest)) → s.levels ≤ room
-levels_within f h =
+-- what was read has no more levels than there was room for, by what the code keeps of them
+pub count_within : {f : Form} {Y : Type 0} (show : Parse f → Y) (count : Y → ℕ) → ((d : Parse f) → count (show d) ≡ levels d) → {room : ℕ} {ts rest : List Lexeme} {y : Y} → Reads f show room ts (Ok (y, rest)) → count y ≤ room
+count_within show count same h =
     let (x, shows, right) = h.by in
     let fits = right.by.fits in
-    let same = right.by.found.1 in
-    let e = ap (λ q. q.levels) shows in
-    omega (arith, fits, same, e)
+    let are = right.by.found.1 in
+    let counted = sym (same x.0) ∙ ap count shows in
+    omega (arith, fits, are, counted)
+
+pub levels_within : (f : Form) {room : ℕ} {ts rest : List Lexeme} {s : Shown (Meaning f)} → Reads f shown room ts (Ok (s, rest)) → s.levels ≤ room
+levels_within f h = count_within {f = f} shown (λ s. s.levels) (λ d. refl) h
 
 -- a form that is another one is read as that one is
 pub passed : {f g : Form} {room : ℕ} {ts : List Lexeme} (P : Passing f g ts) {Y : Type 0} (show : Parse f → Y) (show' : Parse g → Y) → ((d : Parse g) → show (P.pass d) ≡ show' d) → (r : Result (Y × List Lexeme) Stop) → Reads g show' room ts r → Reads f show room ts r

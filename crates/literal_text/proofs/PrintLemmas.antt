@@ -136,7 +136,8 @@ some_append : (ds : Text) (d : ℕ) → ds ++ (d ∷ []) ≢ []
 some_append [] d e = cc
 some_append (c ∷ ds) d e = cc
 
-decimal_is : (n : ℕ) → n < 2 ^ 64 → IsNumber (decimal n) n
+-- a number is printed as itself
+pub decimal_is : (n : ℕ) → n < 2 ^ 64 → IsNumber (decimal n) n
 decimal_is n h = decimal_by_steps (λ n ds. IsNumber ds n)
     (λ n lt. ((λ e. cc), ((omega arith, omega arith), tt), (omega arith)))
     (λ n ds le is. (some_append ds (48 + n % 10), digits-append ds (48 + n % 10) is.1 (omega arith, omega arith), let e = is.2 in let m = number-append 0 ds (48 + n % 10) in omega (arith, e, m))) n h

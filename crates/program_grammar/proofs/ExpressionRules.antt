@@ -174,16 +174,19 @@ comparison_cases (compared a o p b) = inr (a, (o, p), (b, tt), refl)
 
 abbrev pub comparisons : Optional comparison listed
 comparisons = record {
+  Among = λ d. Unit {0};
   bare = uncompared;
+  bare_among = λ d. tt;
   bare_tokens = λ d. refl;
   bare_levels = λ d. refl;
   Lead = Related;
   lead = related;
   symbols = listed_symbols;
   build = λ d l vs. compared d l.0 l.1 vs.0;
+  build_among = λ d l vs. tt;
   tokens_are = λ d l vs. refl;
   levels_are = λ d l vs. omega arith;
-  cases = comparison_cases;
+  cases = λ d among. comparison_cases d;
   reaches = omega arith;
   past = related_past;
   goes_on = related_goes_on;
@@ -197,16 +200,19 @@ listed_cases (cons a p b) = inr (a, p, (b, tt), refl)
 
 abbrev pub listings : Optional listed (series sum)
 listings = record {
+  Among = λ d. Unit {0};
   bare = unlisted;
+  bare_among = λ d. tt;
   bare_tokens = λ d. refl;
   bare_levels = λ d. refl;
   Lead = ℕ;
   lead = λ p. sign signs.Cons p;
   symbols = listed_symbols;
   build = λ d p vs. cons d p vs.0;
+  build_among = λ d l vs. tt;
   tokens_are = λ d l vs. refl;
   levels_are = λ d l vs. omega arith;
-  cases = listed_cases;
+  cases = λ d among. listed_cases d;
   reaches = omega arith;
   past = λ l. refl;
   goes_on = λ l. refl;

@@ -1,4 +1,5 @@
--- A form that is another one, and then perhaps a token and more: comparisons, lists with one more element in front, steps.
+-- Parses of a form that are another form, and then perhaps a token and more: comparisons, lists with one more element in front, and of
+-- the parses of tasks the steps.
 use Rattle.std.proofs.Common.{◌≡◌, ℕ, zero, suc, ◌+◌, ◌-◌, ◌≤◌, ◌<◌, max, Bool, true, false, List, [], ◌∷◌, ◌++◌, length, Ok, Err, refl, sym, ap, ◌∙◌, subst, arith, append_assoc}
 use Rattle.exact_reading.specs.declared.stop.Stop.{Stop}
 use Rattle.exact_reading.specs.declared.stop.Stop.TheVariants.{Fault}
@@ -15,22 +16,30 @@ use Rattle.program_grammar.proofs.GrammarLemmas.{grammar, stops_within}
 use Rattle.program_grammar.proofs.RuleLemmas.{tokens_of, most_of, Built, built, build_up}
 
 pub record Optional (f g : Form) : Type 1 where
+  -- which parses these are
+  pub Among : Parse f → Type 0
   pub bare : Parse g → Parse f
+  pub bare_among : (d : Parse g) → Among (bare d)
   pub bare_tokens : (d : Parse g) → tokens (bare d) ≡ tokens d
   pub bare_levels : (d : Parse g) → levels (bare d) ≡ levels d
   pub Lead : Type 0
   pub lead : Lead → Lexeme
   pub symbols : List (Sym grammar)
   pub build : Parse g → Lead → Values grammar symbols → Parse f
+  pub build_among : (d : Parse g) (l : Lead) (vs : Values grammar symbols) → Among (build d l vs)
   pub tokens_are : (d : Parse g) (l : Lead) (vs : Values grammar symbols) → tokens (build d l vs) ≡ tokens d ++ (lead l ∷ tokens_of symbols vs)
   pub levels_are : (d : Parse g) (l : Lead) (vs : Values grammar symbols) → levels (build d l vs) ≡ 1 + most_of symbols vs (levels d)
-  pub cases : (d : Parse f) → ((e : Parse g) × (bare e ≡ d)) ⊎ ((e : Parse g) × (l : Lead) × (vs : Values grammar symbols) × (build e l vs ≡ d))
+  pub cases : (d : Parse f) → Among d → ((e : Parse g) × (bare e ≡ d)) ⊎ ((e : Parse g) × (l : Lead) × (vs : Values grammar symbols) × (build e l vs ≡ d))
   pub reaches : reach g ≤ reach f
   pub past : (l : Lead) → stops_at (reach g) (rank (lead l)) ≡ true
   pub goes_on : (l : Lead) → stops_at (reach f) (rank (lead l)) ≡ false
   pub apart : (l m : Lead) → lead l ≡ lead m → l ≡ m
 
 module _ {f g : Form} (O : Optional f g) where
+  -- these parses, as a language
+  abbrev pub Those : Language Lexeme (Parse f × ℕ)
+  Those ts y = Of f ts y × O.Among y.0
+
   abbrev pub Going : Parse g × ℕ → O.Lead → Language Lexeme (Parse f × ℕ)
   Going x l = Seq grammar 1 O.symbols (O.build x.0 l) x.1
 
@@ -61,27 +70,33 @@ module _ {f g : Form} (O : Optional f g) where
       go (inl k) = subst (λ t. Stops g (t ++ z)) (sym k.none) (stops_within g f O.reaches z hz)
       go (inr (l, k)) = subst (λ t. Stops g (t ++ z)) (sym (k.split ∙ ap (λ t. t ++ k.back) k.first)) (O.past l)
 
-  whole_in : (a : List Lexeme) (y : Parse f × ℕ) → Whole a y → Of f a y
+  whole_in : (a : List Lexeme) (y : Parse f × ℕ) → Whole a y → Those a y
   whole_in a y h = go h.next.by
     where
-      go : (Done (O.bare h.value.0, h.value.1) h.back y ⊎ ((l : O.Lead) × Led h.value l h.back y)) → Of f a y
+      go : (Done (O.bare h.value.0, h.value.1) h.back y ⊎ ((l : O.Lead) × Led h.value l h.back y)) → Those a y
       go (inl k) =
           let e0 : y.0 ≡ O.bare h.value.0 = ap (λ q. q.0) k.same in
           let e1 : y.1 ≡ h.value.1 = ap (λ q. q.1) k.same in (
-            ap (λ q. tokens q) e0 ∙ O.bare_tokens h.value.0 ∙ h.first.0 ∙ sym (h.split ∙ ap (λ l. h.front ++ l) k.none ∙ append_nil h.front),
-            ap (λ q. levels q) e0 ∙ O.bare_levels h.value.0 ∙ h.first.1 ∙ sym e1,
+            (
+              ap (λ q. tokens q) e0 ∙ O.bare_tokens h.value.0 ∙ h.first.0 ∙ sym (h.split ∙ ap (λ l. h.front ++ l) k.none ∙ append_nil h.front),
+              ap (λ q. levels q) e0 ∙ O.bare_levels h.value.0 ∙ h.first.1 ∙ sym e1,
+            ),
+            subst O.Among (sym e0) (O.bare_among h.value.0),
           )
       go (inr (l, k)) =
           let b = built 1 O.symbols (O.build h.value.0 l) h.value.1 k.back y k.next in
           let e0 : y.0 ≡ O.build h.value.0 l b.parts = ap (λ q. q.0) b.is in
           let e1 : y.1 ≡ 1 + most_of O.symbols b.parts h.value.1 = ap (λ q. q.1) b.is in (
-            ap (λ q. tokens q) e0 ∙ O.tokens_are h.value.0 l b.parts ∙ ap (λ t. t ++ (O.lead l ∷ tokens_of O.symbols b.parts)) h.first.0
-                ∙ sym (h.split ∙ ap (λ t. h.front ++ t) (k.split ∙ ap (λ t. t ++ k.back) k.first ∙ ap (λ t. O.lead l ∷ t) b.are)),
-            ap (λ q. levels q) e0 ∙ O.levels_are h.value.0 l b.parts ∙ ap (λ n. 1 + most_of O.symbols b.parts n) h.first.1 ∙ sym e1,
+            (
+              ap (λ q. tokens q) e0 ∙ O.tokens_are h.value.0 l b.parts ∙ ap (λ t. t ++ (O.lead l ∷ tokens_of O.symbols b.parts)) h.first.0
+                  ∙ sym (h.split ∙ ap (λ t. h.front ++ t) (k.split ∙ ap (λ t. t ++ k.back) k.first ∙ ap (λ t. O.lead l ∷ t) b.are)),
+              ap (λ q. levels q) e0 ∙ O.levels_are h.value.0 l b.parts ∙ ap (λ n. 1 + most_of O.symbols b.parts n) h.first.1 ∙ sym e1,
+            ),
+            subst O.Among (sym e0) (O.build_among h.value.0 l b.parts),
           )
 
-  whole_out : (a : List Lexeme) (y : Parse f × ℕ) → Of f a y → Whole a y
-  whole_out a y h = go (O.cases y.0)
+  whole_out : (a : List Lexeme) (y : Parse f × ℕ) → Those a y → Whole a y
+  whole_out a y (h, among) = go (O.cases y.0 among)
     where
       go : (((e : Parse g) × (O.bare e ≡ y.0)) ⊎ ((e : Parse g) × (l : O.Lead) × (vs : Values grammar O.symbols) × (O.build e l vs ≡ y.0))) → Whole a y
       go (inl (e, same)) = record {
@@ -115,17 +130,27 @@ module _ {f g : Form} (O : Optional f g) where
             };
           }
 
-  pub first_stop : {room : ℕ} {ts : List Lexeme} {e : Stop} → Right (Of g) (Within room) (Stops g) ts (Err e) → Right (Of f) (Within room) (Stops f) ts (Err e)
+  pub first_stop : {room : ℕ} {ts : List Lexeme} {e : Stop} → Right (Of g) (Within room) (Stops g) ts (Err e) → Right Those (Within room) (Stops f) ts (Err e)
   first_stop {room = room} right =
-      same_language Whole (Of f) whole_in whole_out
+      same_language Whole Those whole_in whole_out
       (bind_stop {B = Behind} behind_follow
       (λ x b y h fits. let n = (least_behind x).above b y h in omega (arith, n, fits))
       (λ a x h fits. least_alive x.1 room (Behind x) fits (least_behind x))
       (λ a x h. least_ever x.1 (Behind x) (least_behind x)) right)
 
-  pub first_found : {room : ℕ} {x : Parse g × ℕ} {ts rest : List Lexeme} {r : Answer Lexeme (Parse f × ℕ)} → Right (Of g) (Within room) (Stops g) ts (Ok (x, rest)) → Right (Behind x) (Within room) (Stops f) rest r → Right (Of f) (Within room) (Stops f) ts r
+  pub first_found : {room : ℕ} {x : Parse g × ℕ} {ts rest : List Lexeme} {r : Answer Lexeme (Parse f × ℕ)} → Right (Of g) (Within room) (Stops g) ts (Ok (x, rest)) → Right (Behind x) (Within room) (Stops f) rest r → Right Those (Within room) (Stops f) ts r
   first_found {room = room} {x = x} found right =
-      same_language Whole (Of f) whole_in whole_out (bind_right {B = Behind} behind_follow (least_alive x.1 room (Behind x) found.by.fits (least_behind x)) found right)
+      same_language Whole Those whole_in whole_out (bind_right {B = Behind} behind_follow (least_alive x.1 room (Behind x) found.by.fits (least_behind x)) found right)
+
+  of_all : ((d : Parse f) → O.Among d) → {room : ℕ} {ts : List Lexeme} {r : Answer Lexeme (Parse f × ℕ)} → Right Those (Within room) (Stops f) ts r → Right (Of f) (Within room) (Stops f) ts r
+  of_all all right = same_language Those (Of f) (λ a y h. h.0) (λ a y h. (h, all y.0)) right
+
+  -- the same where these are all parses of the form
+  pub all_stop : ((d : Parse f) → O.Among d) → {room : ℕ} {ts : List Lexeme} {e : Stop} → Right (Of g) (Within room) (Stops g) ts (Err e) → Right (Of f) (Within room) (Stops f) ts (Err e)
+  all_stop all right = of_all all (first_stop right)
+
+  pub all_found : ((d : Parse f) → O.Among d) → {room : ℕ} {x : Parse g × ℕ} {ts rest : List Lexeme} {r : Answer Lexeme (Parse f × ℕ)} → Right (Of g) (Within room) (Stops g) ts (Ok (x, rest)) → Right (Behind x) (Within room) (Stops f) rest r → Right (Of f) (Within room) (Stops f) ts r
+  all_found all found right = of_all all (first_found found right)
 
   led_out : (x : Parse g × ℕ) (l : O.Lead) (rest a : List Lexeme) (y : Parse f × ℕ) (z : List Lexeme) → Behind x a y → Stops f z → Begins [] (O.lead l ∷ rest) (a ++ z) → Led x l a y
   led_out x l rest a y z h hz b = go h.by

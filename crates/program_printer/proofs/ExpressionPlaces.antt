@@ -30,11 +30,12 @@ up_one (suc (suc (suc (suc (suc (suc zero)))))) s = pass (λ d. grammar.single g
 up_one (suc (suc (suc (suc (suc (suc (suc zero))))))) s = pass (λ d. grammar.plain d) (λ d. refl) (λ d e. e) (λ d. refl) s
 up_one (suc (suc (suc (suc (suc (suc (suc (suc p)))))))) s = s
 
-abbrev climbed : ℕ → ℕ → ℕ
+-- as many places further
+abbrev pub climbed : ℕ → ℕ → ℕ
 climbed zero p = p
 climbed (suc k) p = climbed k (suc p)
 
-climbed_sum : (k p : ℕ) → climbed k p ≡ k + p
+pub climbed_sum : (k p : ℕ) → climbed k p ≡ k + p
 climbed_sum zero p = omega arith
 climbed_sum (suc k) p = let e = climbed_sum k (suc p) in omega (arith, e)
 

@@ -2,38 +2,20 @@
 use Rattle.std.proofs.Common.{◌≡◌, ◌≢◌, ℕ, zero, suc, ◌+◌, ◌-◌, ◌*◌, ◌%◌, ◌^◌, ◌<◌, ◌≤◌, [], ◌∷◌, ◌++◌, refl, sym, ap, ◌∙◌, subst, arith, append-nil}
 use Rattle.std.specs.Fmt.{decimal}
 use Rattle.std.specs.Str.{IsUtf8}
-use Rattle.std.proofs.lemmas.Fmt.{decimal_by_steps}
 use Rattle.task_model.specs.Text.{Text}
-use Rattle.task_model.specs.Token.{IsDigit, AreDigits, number_from, IsNumber, IsText}
+use Rattle.task_model.specs.Token.{number_from, IsText}
 use Rattle.task_model.specs.Value.{text_value}
 use Rattle.task_model.specs.Literal.{value_text, escaped_all}
 use Rattle.literal_text.specs.Literals.{Parse, literal, unit, bool, int, text, pair, empty, list, bytes, value, spaces}
-use Rattle.literal_text.proofs.PrintLemmas.{parse_of}
+use Rattle.literal_text.proofs.PrintLemmas.{parse_of, decimal_is}
 use Rattle.program_grammar.specs.Lexemes.{number, quote}
 use Rattle.program_printer.proofs.Placing.{IsSpelled}
 use Rattle.program_printer.proofs.TokenLines.{parts_utf8}
 
 -- ---- numbers
-digits_more : (ds : Text) (d : ℕ) → AreDigits ds → IsDigit d → AreDigits (ds ++ (d ∷ []))
-digits_more [] d is h = (h, tt)
-digits_more (c ∷ ds) d is h = (is.0, digits_more ds d is.1 h)
-
-number_more : (n : ℕ) (ds : Text) (d : ℕ) → number_from n (ds ++ (d ∷ [])) ≡ number_from n ds * 10 + (d - 48)
-number_more n [] d = refl
-number_more n (c ∷ ds) d = number_more (n * 10 + (c - 48)) ds d
-
-some_more : (ds : Text) (d : ℕ) → ds ++ (d ∷ []) ≢ []
-some_more [] d e = cc
-some_more (c ∷ ds) d e = cc
-
-number_printed : (n : ℕ) → n < 2 ^ 64 → IsNumber (decimal n) n
-number_printed n h = decimal_by_steps (λ n ds. IsNumber ds n)
-    (λ n lt. ((λ e. cc), ((omega arith, omega arith), tt), (omega arith)))
-    (λ n ds le is. (some_more ds (48 + n % 10), digits_more ds (48 + n % 10) is.1 (omega arith, omega arith), let e = is.2 in let m = number_more 0 ds (48 + n % 10) in omega (arith, e, m))) n h
-
 pub number_again : (n : ℕ) → n ≤ 9223372036854775807 → IsSpelled (number (decimal n) 0) × (number_from 0 (decimal n) ≡ n)
 number_again n le =
-    let is = number_printed n (omega (arith, le)) in
+    let is = decimal_is n (omega (arith, le)) in
     let same : number_from 0 (decimal n) ≡ n = sym is.2 in
     (((is.0, is.1, refl), omega (arith, same, le)), same)
 

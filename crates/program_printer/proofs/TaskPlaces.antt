@@ -11,6 +11,7 @@ use Rattle.program_grammar.specs.Grammar.{Form, Parse, tokens, levels}
 use Rattle.program_grammar.specs.Meaning.{meaning, bodies, bodies_of}
 use Rattle.program_printer.specs.Places.{task_form}
 use Rattle.program_printer.specs.Printed.{BodyText, body_numbered, body_text, body_texts, task_rank, task_tokens, task_at}
+use Rattle.program_printer.proofs.ExpressionPlaces.{climbed, climbed_sum}
 use Rattle.program_printer.proofs.BodyLemmas.{numbered_there}
 use Rattle.program_printer.proofs.Showing.{Shown, looser, pass, enclose, sign_spelled}
 
@@ -60,14 +61,6 @@ module _ (scope : List Text) (next : ℕ) where
   up_one (suc zero) v k ts s = pass (λ d. grammar.single grammar.choice d) (λ d. refl) (λ d e. e) (λ d. refl) s
   up_one (suc (suc zero)) v k ts s = pass (λ d. grammar.task_plain d) (λ d. refl) (λ d e. e) (λ d. refl) s
   up_one (suc (suc (suc p))) v k ts s = s
-
-  abbrev climbed : ℕ → ℕ → ℕ
-  climbed zero p = p
-  climbed (suc k) p = climbed k (suc p)
-
-  climbed_sum : (k p : ℕ) → climbed k p ≡ k + p
-  climbed_sum zero p = omega arith
-  climbed_sum (suc k) p = let e = climbed_sum k (suc p) in omega (arith, e)
 
   up : (n p : ℕ) (v : TaskMeaning) (k : ℕ) (ts : List Text) → IsShown p v k ts → IsShown (climbed n p) v k ts
   up zero p v k ts s = s

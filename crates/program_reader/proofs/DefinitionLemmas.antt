@@ -3,16 +3,15 @@ use Rattle.std.proofs.Common.{◌≡◌, ℕ, suc, ◌+◌, ◌≤◌, max, List
 use Rattle.task_model.specs.Text.{Text}
 use Rattle.task_model.specs.Basic.{BasicTerm}
 use Rattle.task_model.specs.Host.{HostTerm}
-use Rattle.task_model.specs.Task.{BodyTerm}
-use Rattle.task_model.specs.Program.{ParamTerm, param_term, fun_body, task_body}
+use Rattle.task_model.specs.Program.{ParamTerm, param_term}
 use Rattle.task_model.specs.declared.program.Param.{Param}
 use Rattle.exact_reading.specs.declared.stop.Stop.{Stop}
 use Rattle.exact_reading.specs.Reading.{Within, Answer, Right}
 use Rattle.program_grammar.specs.Lexemes.{Lexeme, word}
-use Rattle.program_grammar.specs.Grammar.{Form, program, definition, basic, task, expression, enclosed, parameters, Parse, no_definitions, more_definitions, function, task_named, levels}
+use Rattle.program_grammar.specs.Grammar.{program, definition, basic, task, expression, enclosed, parameters, Parse, no_definitions, more_definitions, function, task_named}
 use Rattle.program_grammar.specs.Meaning.{meaning, bodies, bodies_of}
 use Rattle.program_grammar.specs.Nodes.{places}
-use Rattle.program_grammar.specs.Languages.{Of, Stops, Reading, Reads}
+use Rattle.program_grammar.specs.Languages.{Of, Stops, Reads}
 use Rattle.program_grammar.specs.Parts.{Shown, shown, shown_type, lexeme, lexemes}
 use Rattle.std.proofs.lemmas.List.{length-map}
 use Rattle.program_grammar.specs.declared.lexeme.Located.{Located}

@@ -1,19 +1,18 @@
 -- The productions of parameters and definitions.
-use Rattle.std.proofs.Common.{◌⊎◌, inl, inr, ◌≡◌, ℕ, zero, suc, ◌+◌, ◌-◌, ◌≤◌, ◌<◌, max, Bool, true, false, List, [], ◌∷◌, ◌++◌, length, Ok, Err, refl, sym, ap, ◌∙◌, subst, arith, append_assoc}
+use Rattle.std.proofs.Common.{◌≡◌, ℕ, ◌+◌, ◌≤◌, max, true, false, List, [], ◌∷◌, ◌++◌, length, Err, refl, sym, ap, ◌∙◌, subst, arith, append_assoc}
 use Rattle.task_model.specs.Text.{Text}
 use Rattle.task_syntax.specs.declared.keyword.Keyword.TheVariants as words
 use Rattle.task_syntax.specs.declared.symbol.Symbol.TheVariants as signs
-use Rattle.exact_reading.specs.declared.stop.Stop.{Stop}
 use Rattle.exact_reading.specs.declared.stop.Stop.TheVariants.{Fault}
-use Rattle.exact_reading.specs.declared.stop.Kind.TheVariants.{Unexpected, TooNested}
-use Rattle.exact_reading.specs.Reading.{Language, Within, Begins, Alive, Always, Anything, Answer, Right, Tok}
-use Rattle.exact_reading.proofs.Productions.{refused_first, by_production}
+use Rattle.exact_reading.specs.declared.stop.Kind.TheVariants.{Unexpected}
+use Rattle.exact_reading.specs.Reading.{Language, Within, Begins, Answer, Right}
+use Rattle.exact_reading.proofs.Productions.{by_production}
 use Rattle.exact_reading.proofs.Starts.{After, after_right, starts_none}
 use Rattle.exact_reading.proofs.Symbols.{Sym, one, part, Values, Seq, Sequence, Led, led_right, open_up}
 use Rattle.program_grammar.specs.Lexemes.{Lexeme, word, sign, name}
-use Rattle.program_grammar.specs.Grammar.{Form, definition, parameter, basic, task, expression, enclosed, parameters, Parse, function, task_named, value_named, reference_named, tokens, levels}
+use Rattle.program_grammar.specs.Grammar.{definition, parameter, basic, task, expression, enclosed, parameters, Parse, function, task_named, value_named, reference_named, tokens, levels}
 use Rattle.program_grammar.specs.Languages.{Of, Stops}
-use Rattle.program_grammar.proofs.GrammarLemmas.{grammar, head, head_first, head_starts, starts, smallest, a_word, a_sign, a_name}
+use Rattle.program_grammar.proofs.GrammarLemmas.{grammar, head, head_first, head_starts, starts, smallest, a_sign, a_name}
 use Rattle.program_grammar.proofs.RuleLemmas.{Rule, tokens_of, built, build_up}
 
 -- ---- definitions

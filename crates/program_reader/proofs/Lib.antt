@@ -1,5 +1,4 @@
 pub mod TaskRules
-pub mod TailLemmas
 pub mod StepRules
 pub mod NumberLemmas
 pub mod WorkSeries

@@ -3,11 +3,10 @@ use Rattle.std.proofs.Common.{◌≡◌, ℕ, suc, ◌+◌, List, [], ◌∷◌,
 use Rattle.std.specs.Prelude.{Option, None, Some}
 use Rattle.std.proofs.lemmas.List.{map-append}
 use Rattle.task_model.specs.Text.{Text}
-use Rattle.task_model.specs.Host.{HostTerm}
 use Rattle.task_model.specs.Task.{TaskTerm, share, BodyTerm}
 use Rattle.task_model.specs.Task as tasks
-use Rattle.program_grammar.specs.Grammar.{Form, task, task_atom, series, choice, chain, Series, internal, external, Step, by_itself, by_user, Parse, no_definitions, more_definitions, task_named, task_let, task_if, task_case, task_new, task_put, task_plain, task_step, task_edit, task_enter, task_share, task_fail, task_call, task_group, single, joined}
-use Rattle.program_grammar.specs.Meaning.{Meaning, meaning, bodies, bodies_of, step_of}
+use Rattle.program_grammar.specs.Grammar.{Form, task, task_atom, series, choice, chain, internal, external, by_itself, by_user, Parse, more_definitions, task_named, task_let, task_if, task_case, task_new, task_put, task_plain, task_step, task_group, single, joined}
+use Rattle.program_grammar.specs.Meaning.{Meaning, meaning, bodies, bodies_of}
 use Rattle.program_reader.specs.Numbers.{renumbered, body_renumbered}
 
 two : {A : Type 0} (xs ys : List A) {n m : ℕ} → length xs ≡ n → length ys ≡ m → length (xs ++ ys) ≡ n + m

@@ -1,5 +1,5 @@
 -- Parameters, as the loop over them goes on, and in parentheses.
-use Rattle.std.proofs.Common.{◌≡◌, ℕ, zero, suc, ◌+◌, ◌-◌, ◌≤◌, ◌<◌, max, List, [], ◌∷◌, ◌++◌, length, Ok, Err, refl, sym, ap, ◌∙◌, subst, arith}
+use Rattle.std.proofs.Common.{◌≡◌, ℕ, ◌+◌, ◌≤◌, max, List, [], ◌∷◌, ◌++◌, length, Ok, Err, refl, sym, ap, ◌∙◌, arith}
 use Rattle.task_model.specs.Text.{Text}
 use Rattle.task_model.specs.Basic.{BasicTerm}
 use Rattle.task_model.specs.Program.{ParamTerm, plain_kind, ref_kind}
@@ -10,10 +10,10 @@ use Rattle.exact_reading.specs.declared.stop.Kind.TheVariants.{Unexpected}
 use Rattle.exact_reading.specs.Reading.{Within, Answer, Right}
 use Rattle.exact_reading.proofs.Productions.{refused_first}
 use Rattle.program_grammar.specs.Lexemes.{Lexeme, sign}
-use Rattle.program_grammar.specs.Grammar.{Form, basic, parameter, series, list, enclosed, parameters, Operator, comma, operator, Parse, value_named, reference_named, single, joined, empty, full, tokens, levels}
+use Rattle.program_grammar.specs.Grammar.{basic, parameter, series, list, enclosed, parameters, Operator, comma, operator, Parse, value_named, reference_named, single, joined, empty, full}
 use Rattle.program_grammar.specs.Meaning.{meaning}
 use Rattle.program_grammar.specs.Nodes.{start, places}
-use Rattle.program_grammar.specs.Languages.{Of, Stops, Reading, Reads}
+use Rattle.program_grammar.specs.Languages.{Of, Stops, Reads}
 use Rattle.program_grammar.specs.Parts.{shown_type}
 use Rattle.program_grammar.proofs.GrammarLemmas.{head, begins_head, least_levels}
 use Rattle.program_grammar.proofs.SeriesLemmas.{Tail}

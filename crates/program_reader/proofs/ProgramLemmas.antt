@@ -1,14 +1,13 @@
 -- A program: definitions, as many as come.
-use Rattle.std.proofs.Common.{◌⊎◌, inl, inr, ◌≡◌, ℕ, zero, suc, ◌+◌, ◌-◌, ◌≤◌, ◌<◌, max, Bool, true, false, List, [], ◌∷◌, ◌++◌, length, Ok, Err, refl, sym, ap, ◌∙◌, subst, arith, append_assoc}
-use Rattle.task_syntax.specs.declared.keyword.Keyword.TheVariants as words
+use Rattle.std.proofs.Common.{◌≡◌, ℕ, ◌≤◌, max, List, [], ◌∷◌, ◌++◌, Ok, Err, refl, sym, ap, ◌∙◌, subst, arith, append_assoc}
 use Rattle.exact_reading.specs.declared.stop.Stop.{Stop}
-use Rattle.exact_reading.specs.Reading.{Language, Within, Begins, Alive, Always, Answer, Right}
+use Rattle.exact_reading.specs.Reading.{Language, Within, Begins, Answer, Right}
 use Rattle.exact_reading.proofs.Sequences.{Bind, append_nil}
 use Rattle.exact_reading.proofs.Productions.{Least, least_alive, least_ever, bind_right, bind_stop, by_production, same_language}
 use Rattle.program_grammar.specs.Lexemes.{Lexeme, word}
-use Rattle.program_grammar.specs.Grammar.{Form, program, definition, Parse, no_definitions, more_definitions, function, task_named, tokens, levels}
+use Rattle.program_grammar.specs.Grammar.{program, definition, Parse, no_definitions, more_definitions, function, task_named, tokens, levels}
 use Rattle.program_grammar.specs.Languages.{Of, Stops}
-use Rattle.program_grammar.proofs.GrammarLemmas.{head, head_first, stops_within}
+use Rattle.program_grammar.proofs.GrammarLemmas.{stops_within}
 use Rattle.program_reader.specs.Signs.{word_of}
 use Rattle.program_reader.specs.declared.definition_words.DefinitionWord.{DefinitionWord}
 use Rattle.program_reader.specs.declared.definition_words.DefinitionWord.TheVariants as heads

@@ -1,23 +1,22 @@
 -- Tasks that begin with no word of their own: a choice, perhaps with a step, and a change of a place, which begins with a name too.
-use Rattle.std.proofs.Common.{◌⊎◌, inl, inr, ◌≡◌, ℕ, zero, suc, ◌+◌, ◌-◌, ◌≤◌, ◌<◌, max, Bool, true, false, List, [], ◌∷◌, ◌++◌, length, Ok, Err, refl, sym, ap, ◌∙◌, subst, arith, append_assoc}
+use Rattle.std.proofs.Common.{◌⊎◌, inl, inr, ◌≡◌, ℕ, suc, ◌+◌, ◌≤◌, ◌<◌, max, true, false, List, [], ◌∷◌, ◌++◌, length, Err, refl, sym, ap, ◌∙◌, subst, arith}
 use Rattle.task_model.specs.Text.{Text}
 use Rattle.task_syntax.specs.declared.keyword.Keyword.TheVariants as words
 use Rattle.task_syntax.specs.declared.symbol.Symbol.{Symbol}
 use Rattle.task_syntax.specs.declared.symbol.Symbol.TheVariants as signs
-use Rattle.exact_reading.specs.declared.stop.Stop.{Stop}
 use Rattle.exact_reading.specs.declared.stop.Stop.TheVariants.{Fault}
-use Rattle.exact_reading.specs.declared.stop.Kind.TheVariants.{Unexpected, TooNested}
-use Rattle.exact_reading.specs.Reading.{Language, Within, Begins, Alive, Always, Answer, Right}
+use Rattle.exact_reading.specs.declared.stop.Kind.TheVariants.{TooNested}
+use Rattle.exact_reading.specs.Reading.{Language, Within, Begins, Answer, Right}
 use Rattle.exact_reading.proofs.Sequences.{begins_shorter}
 use Rattle.exact_reading.proofs.Productions.{refused_deep, least_alive, bind_right, tok_right, by_production}
 use Rattle.exact_reading.proofs.Peeking.{peeked}
 use Rattle.exact_reading.proofs.Symbols.{Sym, one, part, Values, Led, Seq, Sequence, least_seq, open_up}
 use Rattle.program_grammar.specs.Lexemes.{Lexeme, word, sign, name}
-use Rattle.program_grammar.specs.Grammar.{Form, task, task_atom, expression, series, chain, choice, enclosed, arguments, Step, by_itself, by_user, step, Parse, task_let, task_if, task_case, task_new, task_put, task_plain, task_step, task_edit, task_enter, task_share, task_fail, task_call, task_group, single, joined, empty, full, tokens, levels}
+use Rattle.program_grammar.specs.Grammar.{task, task_atom, expression, series, chain, choice, enclosed, arguments, Step, by_itself, by_user, step, Parse, task_let, task_if, task_case, task_new, task_put, task_plain, task_step, task_call, single, joined, empty, full, tokens, levels}
 use Rattle.program_grammar.specs.Languages.{Of, Stops, stops_at, rank}
-use Rattle.program_grammar.proofs.GrammarLemmas.{grammar, head, head_first, known_head, begins_head, least_levels, smallest, a_word, a_sign, a_name}
+use Rattle.program_grammar.proofs.GrammarLemmas.{grammar, head, head_first, known_head, begins_head, least_levels, smallest, a_sign, a_name}
 use Rattle.program_grammar.proofs.RuleLemmas.{tokens_of, built, build_up}
-use Rattle.program_reader.proofs.TailLemmas.{Optional, Those}
+use Rattle.program_grammar.proofs.OptionalLemmas.{Optional}
 use Rattle.program_reader.specs.Works.{IsStepping, Stepping}
 
 -- ---- a choice, and then perhaps a step

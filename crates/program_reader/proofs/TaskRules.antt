@@ -1,15 +1,15 @@
 -- The productions of tasks that begin with a word or a parenthesis.
-use Rattle.std.proofs.Common.{◌≡◌, ℕ, zero, suc, ◌+◌, ◌-◌, ◌≤◌, ◌<◌, max, Bool, true, false, List, [], ◌∷◌, ◌++◌, length, Ok, Err, refl, sym, ap, ◌∙◌, subst, arith, append_assoc}
+use Rattle.std.proofs.Common.{◌≡◌, ℕ, true, false, List, [], ◌∷◌, length, Err, refl, sym, ap, ◌∙◌, subst, arith, append_assoc}
 use Rattle.task_model.specs.Text.{Text}
 use Rattle.task_syntax.specs.declared.keyword.Keyword.TheVariants as words
 use Rattle.task_syntax.specs.declared.symbol.Symbol.TheVariants as signs
 use Rattle.exact_reading.specs.declared.stop.Stop.TheVariants.{Fault}
 use Rattle.exact_reading.specs.declared.stop.Kind.TheVariants.{Unexpected}
-use Rattle.exact_reading.specs.Reading.{Within, Begins, Right}
+use Rattle.exact_reading.specs.Reading.{Within, Right}
 use Rattle.exact_reading.proofs.Productions.{refused_first}
 use Rattle.exact_reading.proofs.Symbols.{Sym, one, part, Values}
 use Rattle.program_grammar.specs.Lexemes.{Lexeme, word, sign, name}
-use Rattle.program_grammar.specs.Grammar.{Form, basic, task, task_atom, expression, atom, series, enclosed, arguments, choice, Parse, task_let, task_if, task_case, task_new, task_put, task_plain, task_step, task_edit, task_enter, task_share, task_fail, task_call, task_group, tokens, levels}
+use Rattle.program_grammar.specs.Grammar.{basic, task, task_atom, expression, atom, series, enclosed, arguments, choice, Parse, task_let, task_if, task_case, task_new, task_plain, task_step, task_edit, task_enter, task_share, task_fail, task_call, task_group, tokens}
 use Rattle.program_grammar.specs.Languages.{Of, Stops}
 use Rattle.program_grammar.proofs.GrammarLemmas.{grammar, head, begins_head, head_starts, starts, a_word, a_sign, a_name}
 use Rattle.program_grammar.proofs.RuleLemmas.{Rule, tokens_of}

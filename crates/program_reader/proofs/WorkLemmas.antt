@@ -1,20 +1,20 @@
 -- What the productions of tasks show, from what their parts do.
-use Rattle.std.proofs.Common.{◌≡◌, ℕ, suc, ◌+◌, ◌-◌, ◌≤◌, ◌<◌, max, List, [], ◌∷◌, ◌++◌, length, map, Ok, Err, refl, sym, ap, ◌∙◌, subst, arith, append_assoc}
-use Rattle.std.specs.Prelude.{Option, None, Some}
+use Rattle.std.proofs.Common.{◌≡◌, ℕ, suc, ◌+◌, ◌≤◌, max, List, [], ◌∷◌, ◌++◌, length, map, Ok, refl, sym, ap, ◌∙◌, arith}
+use Rattle.std.specs.Prelude.{None, Some}
 use Rattle.task_model.specs.Text.{Text}
 use Rattle.task_model.specs.Host.{HostTerm}
 use Rattle.task_model.specs.Basic.{BasicTerm}
 use Rattle.task_model.specs.Task.{TaskTerm, BodyTerm}
 use Rattle.task_model.specs.Task as tasks
-use Rattle.exact_reading.specs.Reading.{Language, Within, Right}
 use Rattle.program_grammar.specs.Lexemes.{Lexeme}
-use Rattle.program_grammar.specs.Grammar.{Form, task, task_atom, series, choice, chain, expression, Operator, internal, external, together, Step, Parse, task_let, task_if, task_case, task_new, task_put, task_plain, task_step, task_edit, task_enter, task_fail, task_call, task_group, atom, basic, enclosed, arguments, single, joined, levels}
+use Rattle.program_grammar.specs.Grammar.{Form, task, task_atom, series, choice, chain, expression, Operator, internal, external, Step, Parse, task_let, task_if, task_case, task_new, task_put, task_step, task_edit, task_enter, task_fail, task_call, task_group, atom, basic, enclosed, arguments, joined, levels}
 use Rattle.program_grammar.specs.Meaning.{meaning, bodies, bodies_of, step_of}
-use Rattle.program_grammar.specs.Languages.{Of, Stops, Reading, Reads}
+use Rattle.program_grammar.specs.Languages.{Reads}
 use Rattle.program_grammar.specs.Parts.{Shown, shown, shown_type, Listed, shown_list}
 use Rattle.program_reader.specs.Numbers.{renumbered, body_renumbered}
 use Rattle.program_reader.specs.Works.{ShownWork, work, shown_task, shown_atom, shown_chain, shown_choice, over_works, offered_work, chosen_work, choice_number, step_work, after_work, either_work, group_work, edit_work, type_work, call_work}
 use Rattle.program_reader.proofs.NumberLemmas.{bodies_count, term_next, bodies_next}
+use Rattle.expression_reader.proofs.ReadingLemmas.{count_within}
 
 -- the number behind the bodies of a task
 behind : {f : Form} (d : Parse f) (scope : List Text) (next : ℕ) (t : TaskTerm) {left : ShownWork} {number : ℕ} → work t scope next d ≡ left → number ≡ next + length left.bodies → number ≡ next + bodies d
@@ -135,9 +135,4 @@ module _ (scope : List Text) (next : ℕ) where
 
 -- a part's levels fit its room
 pub levels_within : {f : Form} {room : ℕ} {ts rest : List Lexeme} {left : ShownWork} (show : Parse f → ShownWork) → ((d : Parse f) → (show d).levels ≡ levels d) → Reads f show room ts (Ok (left, rest)) → left.levels ≤ room
-levels_within show same h =
-    let (x, shows, right) = h.by in
-    let fits = right.by.fits in
-    let are = right.by.found.1 in
-    let shown_levels : levels x.0 ≡ _ = sym (same x.0) ∙ ap (λ q. q.levels) shows in
-    omega (arith, fits, are, shown_levels)
+levels_within show same h = count_within show (λ s. s.levels) same h

@@ -1,13 +1,13 @@
 -- Tasks with signs between them that group to the left, as the loops over them go on.
-use Rattle.std.proofs.Common.{◌≡◌, ℕ, zero, suc, ◌+◌, ◌-◌, ◌≤◌, ◌<◌, max, List, [], ◌∷◌, ◌++◌, length, Ok, Err, refl, sym, ap, ◌∙◌, subst, arith}
+use Rattle.std.proofs.Common.{◌≡◌, ℕ, ◌+◌, ◌-◌, ◌≤◌, ◌<◌, max, List, ◌∷◌, length, Ok, Err, sym, ap, ◌∙◌, arith}
 use Rattle.exact_reading.specs.declared.stop.Stop.{Stop}
 use Rattle.exact_reading.specs.declared.stop.Stop.TheVariants.{Fault}
 use Rattle.exact_reading.specs.declared.stop.Kind.TheVariants.{TooNested}
 use Rattle.exact_reading.specs.Reading.{Within, Answer, Right}
 use Rattle.program_grammar.specs.Lexemes.{Lexeme}
-use Rattle.program_grammar.specs.Grammar.{Series, Form, series, Operator, operator, part_of, above, Parse, single, joined, levels}
-use Rattle.program_grammar.specs.Languages.{Of, Stops, Reading, Reads}
-use Rattle.program_grammar.proofs.GrammarLemmas.{least, least_levels}
+use Rattle.program_grammar.specs.Grammar.{Series, series, Operator, operator, part_of, above, Parse, single, joined, levels}
+use Rattle.program_grammar.specs.Languages.{Of, Stops, Reads}
+use Rattle.program_grammar.proofs.GrammarLemmas.{least_levels}
 use Rattle.program_grammar.proofs.SeriesLemmas.{Tail, part_alive}
 use Rattle.program_grammar.proofs.SeriesLemmas as chains
 use Rattle.program_grammar.proofs.ExpressionRules.{operators_apart}

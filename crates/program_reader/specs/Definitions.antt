@@ -1,5 +1,5 @@
 -- Definitions and programs as their readers hand them on.
-use Rattle.std.specs.Prelude.{◌≡◌, ℕ, ◌+◌, List, [], ◌∷◌, ◌++◌, map}
+use Rattle.std.specs.Prelude.{ℕ, List, [], ◌∷◌, ◌++◌, map}
 use Rattle.task_model.specs.Task.{BodyTerm, body_term}
 use Rattle.task_model.specs.Text.{Text}
 use Rattle.task_model.specs.Basic.{BasicTerm}
@@ -10,8 +10,8 @@ use Rattle.program_reader.specs.Works.{ShownWork}
 use Rattle.program_reader.specs.declared.parameters.Parameters.{Parameters}
 use Rattle.program_reader.specs.declared.definition.ReadDefinition.{ReadDefinition}
 use Rattle.program_reader.specs.declared.program.Definitions.{Definitions}
-use Rattle.program_grammar.specs.Grammar.{Form, program, definition, parameter, series, list, enclosed, parameters, Parse}
-use Rattle.program_grammar.specs.Meaning.{meaning, bodies, bodies_of}
+use Rattle.program_grammar.specs.Grammar.{program, definition, parameter, series, list, enclosed, parameters, Parse}
+use Rattle.program_grammar.specs.Meaning.{meaning, bodies_of}
 use Rattle.program_grammar.specs.Nodes.{start, places}
 
 -- ---- parameters, with their places

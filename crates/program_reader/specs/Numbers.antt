@@ -1,6 +1,6 @@
 -- Tasks and bodies whose bodies all have the next number.
 use Rattle.std.specs.Prelude.{suc}
-use Rattle.task_model.specs.Task.{TaskTerm, edit, enter, share, fail, call_task, then_task, next_task, and_task, or_task, xor_task, let_task, if_task, case_task, new_task, put_task, BodyTerm}
+use Rattle.task_model.specs.Task.{TaskTerm, then_task, next_task, and_task, or_task, xor_task, let_task, if_task, case_task, new_task, put_task, BodyTerm}
 
 abbrev pub renumbered : TaskTerm → TaskTerm
 renumbered (then_task t i) = then_task (renumbered t) (suc i)

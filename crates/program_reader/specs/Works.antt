@@ -1,5 +1,5 @@
 -- Tasks as their readers hand them on: with their levels, their places and their bodies.
-use Rattle.std.specs.Prelude.{◌≡◌, ℕ, suc, ◌+◌, max, Option, None, Some, List, [], ◌∷◌, ◌++◌, length, map, Result}
+use Rattle.std.specs.Prelude.{◌≡◌, ℕ, suc, ◌+◌, max, None, Some, List, [], ◌∷◌, ◌++◌, length, map, Result}
 use Rattle.task_model.specs.Text.{Text}
 use Rattle.task_model.specs.Basic.{BasicTerm}
 use Rattle.task_model.specs.Host.{HostTerm}

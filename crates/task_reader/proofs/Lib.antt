@@ -1,8 +1,2 @@
-pub mod AtomLemmas
-pub mod ChainLemmas
-pub mod MarkLemmas
-pub mod ProgramLemmas
-pub mod SpotLemmas
-pub mod TokenLemmas
-pub mod TypeLemmas
-pub mod WholeLemmas
+pub mod BuiltLemmas
+pub mod WrittenLemmas

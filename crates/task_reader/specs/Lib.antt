@@ -1,6 +1,1 @@
-pub mod Answer
-pub mod PlainText
-pub mod Marks
-pub mod Plain
-pub mod Reads
-pub mod Spots
+pub mod Built

@@ -1,17 +1,15 @@
-//! Programs from their texts.
+//! Programs from their texts and as text, and what of them isn't built yet.
 #![tactic(auto)]
 
-mod front;
-mod mark;
-mod part;
-mod program;
+mod plain;
+mod print;
 mod read;
-mod spot;
-mod tasks;
 #[cfg(test)]
 mod tests;
-mod tokens;
-mod typed;
-mod types;
+mod unbuilt;
 
-pub use read::{Read, ReadKind, ReadStop, read_program};
+pub use print::print_program;
+pub use program_grammar::{ReadKind, ReadStop};
+pub use program_reader::Read;
+pub use read::read_program;
+pub use unbuilt::built;

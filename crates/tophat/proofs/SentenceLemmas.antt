@@ -21,3 +21,23 @@ pair_part old new a x b y d e p q one =
     let text : List ℕ = a ++ x ++ (b ++ y) in
     let same : text ≡ a ++ d ++ (b ++ e) = ap (λ z. a ++ z ++ (b ++ y)) p ∙ ap (λ z. a ++ d ++ (b ++ z)) q in
     subst (λ (z : List ℕ). Wrote old new (z ++ 10 ∷ []) Failed) same (wrote_part old new text (10 ∷ []) one)
+
+-- a word, a name, a word and a number were written, and then the rest
+pub rest_then : (old mid new : Option (List ℕ)) (a x b y e more : List ℕ) (r : Written) → y ≡ e → Appends old mid (a ++ x ++ (b ++ y)) → Wrote mid new more r
+    → Wrote old new (a ++ x ++ (b ++ e) ++ more) r
+rest_then old mid new a x b y e more r q one two =
+    let text : List ℕ = a ++ x ++ (b ++ y) in
+    let same : text ≡ a ++ x ++ (b ++ e) = ap (λ z. a ++ x ++ (b ++ z)) q in
+    subst (λ (z : List ℕ). Wrote old new (z ++ more) r) same (wrote_then old mid new text more r one two)
+
+-- of these the first part was written
+pub rest_part : (old new : Option (List ℕ)) (a x b y e more : List ℕ) → y ≡ e → Wrote old new (a ++ x ++ (b ++ y)) Failed
+    → Wrote old new (a ++ x ++ (b ++ e) ++ more) Failed
+rest_part old new a x b y e more q one =
+    let text : List ℕ = a ++ x ++ (b ++ y) in
+    let same : text ≡ a ++ x ++ (b ++ e) = ap (λ z. a ++ x ++ (b ++ z)) q in
+    subst (λ (z : List ℕ). Wrote old new (z ++ more) Failed) same (wrote_part old new text more one)
+
+-- the same with other names of a word and a number
+pub as_named : (old new : Option (List ℕ)) (a x d y e b : List ℕ) (r : Written) → x ≡ d → y ≡ e → Wrote old new (a ++ x ++ (y ++ b)) r → Wrote old new (a ++ d ++ (e ++ b)) r
+as_named old new a x d y e b r p q one = subst (λ (z : List ℕ). Wrote old new z r) (ap (λ z. a ++ z ++ (y ++ b)) p ∙ ap (λ z. a ++ d ++ (z ++ b)) q) one

@@ -26,7 +26,14 @@ use Rattle.std.specs.Prelude.{if◌then◌else◌, Result, Ok, Err}
 use Rattle.std.proofs.Common.{append-nil}
 use Rattle.std.proofs.lemmas.List.{length-replicate}
 use Rattle.std.proofs.KnownBytes.{Appends-nil, Consumes-nil}
-use Rattle.task_reader.specs.PlainText.{IsPlainText}
+use Rattle.task_model.specs.Accepted.{IsPlain}
+use Rattle.program_grammar.specs.ProgramText.{IsProgramText}
+use Rattle.program_grammar.specs.Faults.{IsFaultOf}
+use Rattle.program_grammar.specs.declared.stop.ReadKind.{ReadKind}
+use Rattle.program_grammar.proofs.ReadingLemmas.{fault_once, fault_apart}
+use Rattle.line_frame.specs.declared.refusal.Refusal.TheVariants.{Read, NotBuilt}
+use Rattle.task_reader.specs.Built.{IsBuilt}
+use Rattle.tophat.specs.Reading.{Reading, accepted, refused}
 use Rattle.tophat.specs.Ending.{status_of}
 use Rattle.tophat.specs.Session.{tells_from}
 use Rattle.tophat.specs.Top.{Limits, world_at, ends, by_opening, by_program, by_file}
@@ -35,7 +42,7 @@ use Rattle.tophat.specs.Words.{begins_with_minus, file_of, name_of}
 use Rattle.task_model.specs.Text.{same_text}
 use Rattle.std.proofs.Common.{Bool, true, false}
 use Rattle.std.specs.Prelude.{codes}
-use Rattle.tophat.specs.Worked.{IsFile, OpensBytes, Opening, Worked}
+use Rattle.tophat.specs.Worked.{IsFile, OpensBytes, OpensRead, Opening, Worked}
 use Rattle.tophat.specs.Worked.{Opens as WorldOpens}
 
 -- ---- openings
@@ -61,15 +68,34 @@ never_opened c budget none told = by (opening_decided c budget)
 
 -- ---- programs
 -- the bytes have this program and no other
-pub read_opens : (budget : ℕ) (bytes : Text) (p : ProgramTerm) (places : List ℕ) (result : Result SeenWorld Finish) → IsPlainText bytes p places → ((q : ProgramTerm) (places : List ℕ) → IsPlainText bytes q places → q ≡ p)
-    → WorldOpens (by_program budget (Some p)) result → OpensBytes budget bytes result
-read_opens budget bytes p places result h only o None none = absurd (none p places h)
-read_opens budget bytes p places result h only o (Some q) k = subst (λ (z : ProgramTerm). WorldOpens (by_program budget (Some z)) result) (sym (only q k.0 k.1)) o
+pub read_opens : (budget : ℕ) (bytes : Text) (p : ProgramTerm) (places : List ℕ) (result : Result SeenWorld Finish) → IsProgramText bytes p places
+    → ((q : ProgramTerm) (others : List ℕ) → IsProgramText bytes q others → (q ≡ p) × (others ≡ places)) → OpensRead budget p places result → OpensBytes budget bytes result
+read_opens budget bytes p places result h only o (accepted q) (others, text, plain) =
+    let same = (only q others text).0 in
+    subst (λ (z : ProgramTerm). WorldOpens (by_program budget (accepted z)) result) (sym same) (o.0 (subst IsPlain same plain))
+read_opens budget bytes p places result h only o (refused place (Read kind)) fault = absurd (fault_apart bytes kind place p places fault h)
+read_opens budget bytes p places result h only o (refused place NotBuilt) (q, others, text, unbuilt) =
+    let same = only q others text in
+    o.1 place (subst (λ z. IsBuilt p z (Some place)) same.1 (subst (λ z. IsBuilt z others (Some place)) same.0 unbuilt))
 
--- the bytes have no program
-pub refuses : (budget : ℕ) (bytes : Text) → ((p : ProgramTerm) (places : List ℕ) → IsPlainText bytes p places → ⊥) → OpensBytes budget bytes (Err Refused)
-refuses budget bytes none None h = λ told. refl
-refuses budget bytes none (Some q) k = absurd (none q k.0 k.1)
+-- the bytes have this fault
+pub refuses : (budget : ℕ) (bytes : Text) (kind : ReadKind) (place : ℕ) → IsFaultOf bytes kind place → OpensBytes budget bytes (Err (Refused place (Read kind)))
+refuses budget bytes kind place fault (accepted q) (others, text, plain) = absurd (fault_apart bytes kind place q others fault text)
+refuses budget bytes kind place fault (refused other (Read cause)) h =
+    let same = fault_once bytes cause kind other place h fault in
+    subst (λ k. WorldOpens (by_program budget (refused other (Read cause))) (Err (Refused place (Read k)))) same.0
+    (subst (λ n. WorldOpens (by_program budget (refused other (Read cause))) (Err (Refused n (Read cause)))) same.1 (λ told. refl))
+refuses budget bytes kind place fault (refused other NotBuilt) (q, others, text, unbuilt) = absurd (fault_apart bytes kind place q others fault text)
+
+-- the program isn't plain, and this is the place of its first node that isn't built
+pub unbuilt_refused : (budget : ℕ) (p : ProgramTerm) (places : List ℕ) (place : ℕ) → IsBuilt p places (Some place) → OpensRead budget p places (Err (Refused place NotBuilt))
+unbuilt_refused budget p places place h = (
+  λ plain. absurd (h.0 plain),
+  λ other also. subst (λ n. WorldOpens (by_program budget (refused other NotBuilt)) (Err (Refused n NotBuilt))) (also.1 ∙ sym h.1) (λ told. refl),
+)
+
+pub plain_opens : (budget : ℕ) (p : ProgramTerm) (places : List ℕ) (result : Result SeenWorld Finish) → IsPlain p → WorldOpens (by_program budget (accepted p)) result → OpensRead budget p places result
+plain_opens budget p places result plain o = (λ h. o, λ place h. absurd (h.0 plain))
 
 -- ---- files
 -- a file that is known, or any
@@ -94,7 +120,7 @@ opening_bytes l holds bytes result found le o = record {
   opens = λ reading h. subst (λ b. WorldOpens (λ told. if b then by_program l.budget reading told else ends FileTooLong) result) (sym (is_within (length bytes.list) l.file le)) (o reading h);
 }
 
-over_opens : (l : Limits) (bytes : Text) (reading : Option ProgramTerm) → l.file < length bytes → (told : WorldTerm → Told) → by_file l (Some bytes) reading told ≡ ends FileTooLong
+over_opens : (l : Limits) (bytes : Text) (reading : Reading) → l.file < length bytes → (told : WorldTerm → Told) → by_file l (Some bytes) reading told ≡ ends FileTooLong
 over_opens l bytes reading lt told = ap (λ b. if b then by_program l.budget reading told else ends FileTooLong) (is_over (length bytes) l.file lt)
 
 pub opening_over : (l : Limits) (holds : Option (Option Text)) → Found holds l.file TooLong → Opening l holds (Err FileTooLong)

@@ -2,10 +2,9 @@
 use Rattle.std.specs.Prelude.{ℕ, ◌≡◌, ◌⊎◌, ◌++◌, Option, Some, ⊤}
 use Rattle.outer_io.specs.Sink.{IsStart}
 use Rattle.task_model.specs.Text.{Text}
-use Rattle.task_model.specs.Program.{ProgramTerm}
 use Rattle.line_frame.specs.Told.{Told}
 use Rattle.tophat.specs.Ending.{status_of}
-use Rattle.tophat.specs.Reading.{IsReadingOf}
+use Rattle.tophat.specs.Reading.{Reading, IsReadingOf}
 use Rattle.tophat.specs.Top.{Limits, top_text}
 
 -- the statuses of faults and of want of memory
@@ -21,5 +20,5 @@ WritesTold told before now status =
 -- Where file, script and what was taken before are told: by every reading of the file, that is written which is told by it.
 abbrev pub Promised : Limits → Option Text → Option (Option Text) → Option Text → Option Text → Option Text → ℕ → Type 0
 Promised l named (Some file) (Some script) (Some before) now status =
-    (reading : Option ProgramTerm) → IsReadingOf file reading → WritesTold (top_text l named file reading script) before now status
+    (reading : Reading) → IsReadingOf file reading → WritesTold (top_text l named file reading script) before now status
 Promised l named holds left taken now status = ⊤

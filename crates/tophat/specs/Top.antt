@@ -12,6 +12,7 @@ use Rattle.line_frame.specs.Told.{Told}
 use Rattle.line_frame.specs.Script.{whole_of, cut_of}
 use Rattle.line_frame.specs.declared.finish.Finish.{Finish}
 use Rattle.line_frame.specs.declared.finish.Finish.TheVariants.{Refused, Usage, OverBudget, ReadFault, Absent, FileTooLong}
+use Rattle.tophat.specs.Reading.{Reading, accepted, refused}
 use Rattle.tophat.specs.Session.{tells_from}
 
 -- the limits of a program's file, of a line and of a script in bytes, and the budget in units
@@ -41,21 +42,21 @@ abbrev pub by_opening : (c : CheckedTerm) (budget : ℕ) → Opens c budget → 
 by_opening c budget (opens s o) told = told (world_at c budget s)
 by_opening c budget (never_opens none) told = ends OverBudget
 
--- what is told of a file's program, if it has one
-abbrev pub by_program : ℕ → Option ProgramTerm → (WorldTerm → Told) → Told
-by_program budget None told = ends Refused
-by_program budget (Some p) told = by_opening (checked_of p) budget (opening_decided (checked_of p) budget) told
+-- what is told of what a file is read as
+abbrev pub by_program : ℕ → Reading → (WorldTerm → Told) → Told
+by_program budget (refused place refusal) told = ends (Refused place refusal)
+by_program budget (accepted p) told = by_opening (checked_of p) budget (opening_decided (checked_of p) budget) told
 
 -- what is told of a file, if it is there and within the limit
-abbrev pub by_file : Limits → Option Text → Option ProgramTerm → (WorldTerm → Told) → Told
+abbrev pub by_file : Limits → Option Text → Reading → (WorldTerm → Told) → Told
 by_file l None reading told = ends Absent
 by_file l (Some bytes) reading told = if nat_le (length bytes) l.file then by_program l.budget reading told else ends FileTooLong
 
 -- what is told of words that name a file, or of words outside the grammar
-abbrev pub top_text : Limits → Option Text → Option Text → Option ProgramTerm → Text → Told
+abbrev pub top_text : Limits → Option Text → Option Text → Reading → Text → Told
 top_text l None file reading script = ends Usage
 top_text l (Some name) file reading script = by_file l file reading (λ w. whole_of (tells_from l.line w 1) l.script script)
 
 -- what is told of the lines that end within the bytes that were read, where nothing but a fault of reading ends the run
-abbrev pub so_far : Limits → Option Text → Option ProgramTerm → Text → Told
+abbrev pub so_far : Limits → Option Text → Reading → Text → Told
 so_far l file reading read = by_file l file reading (λ w. tells_from l.line w 1 (cut_of read).lines ReadFault)

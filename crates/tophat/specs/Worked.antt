@@ -1,5 +1,5 @@
 -- What a run did.
-use Rattle.std.specs.Prelude.{ℕ, ◌≡◌, [], Option, None, Some, Result, Ok, Err, ⊤}
+use Rattle.std.specs.Prelude.{ℕ, ◌≡◌, List, [], Option, None, Some, Result, Ok, Err, ⊤}
 use Rattle.std.specs.Io.KnownBytes.{Appends, Consumes}
 use Rattle.outer_io.specs.Sink.{IsStart}
 use Rattle.task_model.specs.Text.{Text}
@@ -9,7 +9,10 @@ use Rattle.line_frame.specs.Told.{Told, Comes}
 use Rattle.line_frame.specs.Drove.{IsTold}
 use Rattle.line_frame.specs.declared.finish.Finish.{Finish}
 use Rattle.line_frame.specs.declared.finish.Finish.TheVariants.{ReadFault}
-use Rattle.tophat.specs.Reading.{IsReading, IsReadingOf}
+use Rattle.tophat.specs.Reading.{Reading, accepted, refused, IsReading, IsReadingOf}
+use Rattle.line_frame.specs.declared.refusal.Refusal.TheVariants.{NotBuilt}
+use Rattle.task_model.specs.Accepted.{IsPlain}
+use Rattle.task_reader.specs.Built.{IsBuilt}
 use Rattle.tophat.specs.Top.{Limits, by_program, by_file, top_text, so_far}
 
 -- the known file is this
@@ -30,8 +33,8 @@ pub record Worked (l : Limits) (named : Option Text) (holds : Option (Option Tex
   pub begins : IsStart read script
   pub consumed : Consumes left_old left_new read
   pub took : Appends taken_old taken_new written
-  pub comes : (reading : Option ProgramTerm) → IsReadingOf file reading → Comes (top_text l named file reading script) written finish
-  pub answered : (reading : Option ProgramTerm) → IsReadingOf file reading → finish ≡ ReadFault → so_far l file reading read ≡ record { output = written; finish = ReadFault }
+  pub comes : (reading : Reading) → IsReadingOf file reading → Comes (top_text l named file reading script) written finish
+  pub answered : (reading : Reading) → IsReadingOf file reading → finish ≡ ReadFault → so_far l file reading read ≡ record { output = written; finish = ReadFault }
 
 -- a world was opened where this is told of every way to go on, or the end comes with nothing written
 abbrev pub Opens : ((WorldTerm → Told) → Told) → Result SeenWorld Finish → Type 0
@@ -40,10 +43,16 @@ Opens told_by (Err finish) = (told : WorldTerm → Told) → Comes (told_by told
 
 -- the same of bytes, by the program that they have
 abbrev pub OpensBytes : ℕ → Text → Result SeenWorld Finish → Type 0
-OpensBytes budget bytes result = (reading : Option ProgramTerm) → IsReading bytes reading → Opens (by_program budget reading) result
+OpensBytes budget bytes result = (reading : Reading) → IsReading bytes reading → Opens (by_program budget reading) result
+
+-- the same of a program that was read, with its places
+abbrev pub OpensRead : ℕ → ProgramTerm → List ℕ → Result SeenWorld Finish → Type 0
+OpensRead budget p places result =
+    (IsPlain p → Opens (by_program budget (accepted p)) result)
+    × ((place : ℕ) → IsBuilt p places (Some place) → Opens (by_program budget (refused place NotBuilt)) result)
 
 -- the same of the file that was found
 pub record Opening (l : Limits) (holds : Option (Option Text)) (result : Result SeenWorld Finish) : Type 0 where
   pub file : Option Text
   pub file_told : IsFile holds file
-  pub opens : (reading : Option ProgramTerm) → IsReadingOf file reading → Opens (by_file l file reading) result
+  pub opens : (reading : Reading) → IsReadingOf file reading → Opens (by_file l file reading) result

@@ -3,6 +3,7 @@ ghost use Rattle.outer_io.specs.Causes.{Rose};
 ghost use Rattle.outer_io.specs.Sink.{Wrote};
 ghost use Rattle.tophat.specs.Ending.{status_of, text_of};
 
+use crate::refusals::write_refusal;
 use crate::sentence::write_pair;
 use line_frame::Finish;
 use outer_io::{Sink, Written, write_all, write_four};
@@ -16,7 +17,7 @@ pub(crate) fn status(finish: Finish) -> u8
 {
     match finish {
         Finish::Done => 0,
-        Finish::Refused => 1,
+        Finish::Refused { .. } => 1,
         Finish::Usage => 2,
         Finish::Bad { .. } => 3,
         Finish::OverBudget => 4,
@@ -38,7 +39,7 @@ pub(crate) fn tell<E: Sink>(err: &mut E, name: &[u8], finish: Finish) -> Written
 {
     match finish {
         Finish::Done => Written::Whole,
-        Finish::Refused => write_four(err, b"tophat: ", name, b": byte 0: NotBuilt", b"\n"),
+        Finish::Refused { place, refusal } => write_refusal(err, name, place, refusal),
         Finish::Usage => write_all(err, USAGE),
         Finish::Bad { line, column } => {
             write_pair(err, b"tophat: line ", line, b" column ", column)

@@ -6,6 +6,7 @@ mod check;
 mod ending;
 mod line;
 mod line_parts;
+mod refusals;
 mod runner;
 mod sentence;
 #[cfg(test)]

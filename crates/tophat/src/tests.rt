@@ -136,37 +136,66 @@ fn scripts(rt: HostRuntime) -> Result<(), Fail> {
 const USAGE: &[u8] =
     b"usage: tophat run FILE [--budget N] | check FILE | soak N SEED | drill SEATS N | serve FILE [--budget N] [--seats N] [--workers N] [--port N] [--connections N]\n";
 
-const NOT_BUILT: &[u8] = b"tophat: p.th: byte 0: NotBuilt\n";
+#[test]
+fn wrong_words(rt: HostRuntime) -> Result<(), Fail> {
+    let table: [(&[&str], u8, &[u8]); 6] = [
+        (&[], 2, USAGE),
+        (&["run"], 2, USAGE),
+        (&["run", "-p"], 2, USAGE),
+        (&["run", "p.th", "q"], 2, USAGE),
+        (&["check", "p.th"], 2, USAGE),
+        (&["run", "none.th"], 7, b"tophat: none.th: no such file\n"),
+    ];
+    for (words, status, err) in table {
+        expect(&rt, &Case { words, ..RUN }, 5, (status, b"", err))?;
+    }
+    Ok(())
+}
 
 #[test]
 fn refusals(rt: HostRuntime) -> Result<(), Fail> {
-    let table: [(&[&str], &[u8], u8, &[u8]); 8] = [
-        (&[], PAIR, 2, USAGE),
-        (&["run"], PAIR, 2, USAGE),
-        (&["run", "-p"], PAIR, 2, USAGE),
-        (&["run", "p.th", "q"], PAIR, 2, USAGE),
-        (&["check", "p.th"], PAIR, 2, USAGE),
+    let table: [(&[u8], &[u8]); 11] = [
+        (b"", b"tophat: p.th: byte 0: NotBuilt\n"),
         (
-            &["run", "none.th"],
-            PAIR,
-            7,
-            b"tophat: none.th: no such file\n",
-        ),
-        (
-            &["run", "p.th"],
             b"task main() : int = fail int",
-            1,
-            NOT_BUILT,
+            b"tophat: p.th: byte 20: NotBuilt\n",
         ),
-        (&["run", "p.th"], b"\xff", 1, NOT_BUILT),
+        (
+            b"task main() : int = (edit -5)",
+            b"tophat: p.th: byte 26: Unexpected token 9\n",
+        ),
+        (
+            b"task main() : (int, int) = edit 1",
+            b"tophat: p.th: byte 0: NotBuilt\n",
+        ),
+        (
+            b"task main() : (int, int) = edit 1 <&> edit \"a\"",
+            b"tophat: p.th: byte 38: NotBuilt\n",
+        ),
+        (
+            b"task main() : int = edit 1 +",
+            b"tophat: p.th: byte 27: Unexpected token 9\n",
+        ),
+        (
+            b"task main() : int = edit",
+            b"tophat: p.th: byte 24: Unexpected token 8\n",
+        ),
+        (
+            b"task main() : int = edit 9223372036854775808",
+            b"tophat: p.th: byte 25: WideNumber\n",
+        ),
+        (
+            b"task main() : int = edit \"\\q\"",
+            b"tophat: p.th: byte 26: BadEscape\n",
+        ),
+        (b"task \xff", b"tophat: p.th: byte 5: NotUtf8\n"),
+        (
+            b"task _main() : int = edit 1",
+            b"tophat: p.th: byte 5: BadChar\n",
+        ),
     ];
-    for (words, program, status, err) in table {
-        let case = Case {
-            words,
-            program,
-            ..RUN
-        };
-        expect(&rt, &case, 5, (status, b"", err))?;
+    for (program, err) in table {
+        expect(&rt, &Case { program, ..RUN }, 5, (1, b"", err))?;
     }
     Ok(())
 }
@@ -223,7 +252,10 @@ fn between(
 fn levels(rt: HostRuntime) -> Result<(), Fail> {
     let alloc = rt.alloc();
     let shown = b"version 0 seat 1\n. edit int 5\n".as_slice();
-    let table: [(usize, u8, &[u8], &[u8]); 2] = [(198, 0, shown, b""), (199, 1, b"", NOT_BUILT)];
+    let table: [(usize, u8, &[u8], &[u8]); 2] = [
+        (198, 0, shown, b""),
+        (199, 1, b"", b"tophat: p.th: byte 219: TooNested\n"),
+    ];
     for (count, status, out, err) in table {
         let body = between(alloc, b"edit 5", (b'(', count), (b')', count))?;
         let mut program = bytes(alloc, b"task main() : int = ")?;

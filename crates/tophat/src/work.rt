@@ -4,17 +4,18 @@ ghost use Rattle.task_model.specs.Program.{program_term};
 ghost use Rattle.task_model.specs.Accepted.{IsPlain};
 ghost use Rattle.tophat.specs.Top.{limits, by_program};
 ghost use Rattle.tophat.specs.Words as grammar;
-ghost use Rattle.tophat.specs.Worked.{Worked, Opens, OpensBytes, Opening};
+ghost use Rattle.tophat.specs.Reading.{accepted};
+ghost use Rattle.tophat.specs.Worked.{Worked, Opens, OpensBytes, OpensRead, Opening};
 
 use crate::check::check;
 use crate::runner::Runner;
 use crate::words::file_of;
-use line_frame::{Finish, drive};
+use line_frame::{Finish, Refusal, drive};
 use outer_io::{FileAnswer, Files, Sink, Source};
 use std::alloc::Global;
 use std::sync::ledger::{Blank, Ledger};
 use task_model::{OutOfMemory, Program, Steps, TaskText};
-use task_reader::{ReadStop, read_program};
+use task_reader::{Read, ReadStop, built, read_program};
 use world_core::{OpenStop, World};
 
 // The limits of a program's file and of a script in bytes, and the budget in units.
@@ -99,9 +100,28 @@ fn open_bytes<L: Ledger>(alloc: Global, bytes: &[u8], steps: &mut Steps<L>) -> R
     ensures write { result ≡ Err Finish.WriteFault → ⊥ }
 {
     match read_program(alloc, bytes) {
-        Ok(read) => open_program(alloc, read.program, steps),
-        Err(ReadStop::Fault { .. }) => Err(Finish::Refused),
+        Ok(read) => open_read(alloc, read, steps),
+        Err(ReadStop::Fault { place, kind }) => Err(Finish::Refused {
+            place,
+            refusal: Refusal::Read(kind),
+        }),
         Err(ReadStop::Memory) => Err(Finish::Memory),
+    }
+}
+
+// Opens a program that was read, if it is plain.
+fn open_read<L: Ledger>(alloc: Global, read: Read, steps: &mut Steps<L>) -> Result<World, Finish>
+    ensures opened { OpensRead limits.budget (program_term read.program) read.places.list result }
+    ensures file { result ≡ Err Finish.FileFault → ⊥ }
+    ensures read { result ≡ Err Finish.ReadFault → ⊥ }
+    ensures write { result ≡ Err Finish.WriteFault → ⊥ }
+{
+    match built(&read) {
+        Some(place) => Err(Finish::Refused {
+            place,
+            refusal: Refusal::NotBuilt,
+        }),
+        None => open_program(alloc, read.program, steps),
     }
 }
 
@@ -112,7 +132,7 @@ fn open_program<L: Ledger>(
     steps: &mut Steps<L>,
 ) -> Result<World, Finish>
     requires { IsPlain (program_term program) }
-    ensures opened { Opens (by_program limits.budget (Some (program_term program))) result }
+    ensures opened { Opens (by_program limits.budget (accepted (program_term program))) result }
     ensures file { result ≡ Err Finish.FileFault → ⊥ }
     ensures read { result ≡ Err Finish.ReadFault → ⊥ }
     ensures write { result ≡ Err Finish.WriteFault → ⊥ }

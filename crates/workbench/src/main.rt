@@ -1,4 +1,4 @@
-//! Reads one source over and over, so that bench/run can time it. The words: `text`, `list` or `program`, a size, and how often.
+//! Reads one source over and over, so that bench/run can time it. The words: `text`, `list`, `tokens` or `program`, a size, and how often.
 #![tactic(auto)]
 
 mod work;
@@ -9,10 +9,12 @@ use work::Work;
 fn main(rt: HostRuntime) -> io::Result<()> {
     let mut words = env::args(&rt)?.skip(1);
     let (Some(work), Some(size), Some(times)) = (words.next(), words.next(), words.next()) else {
-        return rt.println("workbench: the words are text, list or program, a size, and how often");
+        return rt.println(
+            "workbench: the words are text, list, tokens or program, a size, and how often",
+        );
     };
     let Some(work) = Work::named(work.as_str()) else {
-        return rt.println("workbench: the first word is text, list or program");
+        return rt.println("workbench: the first word is text, list, tokens or program");
     };
     let (Ok(size), Ok(times)) = (
         size.as_str().parse::<usize>(),

@@ -1,5 +1,6 @@
 use literal_text::read_any;
 use std::alloc::{AllocError, Global};
+use task_reader::read_program;
 use task_syntax::lex;
 
 /// A definition that has tokens of every sort.
@@ -14,6 +15,8 @@ pub(crate) enum Work {
     /// The literal of a list of so many texts of 60 letters each.
     List,
     /// The tokens of a program of so many bytes.
+    Tokens,
+    /// A program of so many bytes.
     Program,
 }
 
@@ -22,6 +25,7 @@ impl Work {
         match word {
             "text" => Some(Work::Text),
             "list" => Some(Work::List),
+            "tokens" => Some(Work::Tokens),
             "program" => Some(Work::Program),
             _ => None,
         }
@@ -32,7 +36,7 @@ impl Work {
         match self {
             Work::Text => text_of(alloc, size),
             Work::List => list_of(alloc, size),
-            Work::Program => program_of(alloc, size),
+            Work::Tokens | Work::Program => program_of(alloc, size),
         }
     }
 
@@ -50,7 +54,8 @@ impl Work {
     fn is_read(self, alloc: Global, source: &str) -> bool {
         match self {
             Work::Text | Work::List => read_any(alloc, source.as_bytes()).is_ok(),
-            Work::Program => lex(alloc, source).is_ok(),
+            Work::Tokens => lex(alloc, source).is_ok(),
+            Work::Program => read_program(alloc, source.as_bytes()).is_ok(),
         }
     }
 }

@@ -12,7 +12,7 @@ use Rattle.program_grammar.proofs.CountLemmas.{counted}
 use Rattle.program_grammar.proofs.RuleLemmas.{by_rule, too_deep}
 use Rattle.program_grammar.proofs.ExpressionRules.{prefix_rule, as_atom, as_series, comparisons, listings}
 use Rattle.program_grammar.proofs.ExpressionRules as rules
-use Rattle.program_grammar.proofs.OptionalLemmas.{first_stop, first_found, led, led_too_deep, bare_found}
+use Rattle.program_grammar.proofs.OptionalLemmas.{all_stop, all_found, led, led_too_deep, bare_found}
 use Rattle.program_grammar.proofs.OperatorLemmas as operators
 use Rattle.program_grammar.proofs.AtomRules as atoms
 use Rattle.program_grammar.proofs.EnclosedRules as enclosing
@@ -351,12 +351,12 @@ operators::part-returns-in-Product t c = at_level c.in-Product.is c.operand.ensu
 pub operators::comparison-returns-in_err-left : goal.operators::comparison-returns-in_err-left
 operators::comparison-returns-in_err-left t c =
     let p = err_from_is_err_and c.from_residual.result c.from_residual.ensures.1 in
-    rw (p.1, p.2) (record { by = first_stop comparisons c.in_err-left.ensures.by })
+    rw (p.1, p.2) (record { by = all_stop comparisons (λ _. tt) c.in_err-left.ensures.by })
 
 pub operators::comparison-returns-in_default : goal.operators::comparison-returns-in_default
 operators::comparison-returns-in_default t c =
     let (x, sx, fx) = c.in_ok-left.ensures.by in
-    record { by = ((uncompared x.0, x.1), sx, first_found comparisons fx (bare_found comparisons (λ l s e. c.in_default.ensures l.0 l.1 s e) fx.by.fits)) }
+    record { by = ((uncompared x.0, x.1), sx, all_found comparisons (λ _. tt) fx (bare_found comparisons (λ l s e. c.in_default.ensures l.0 l.1 s e) fx.by.fits)) }
 
 pub operators::comparison-returns-then-left-room : goal.operators::comparison-returns-then-left-room
 operators::comparison-returns-then-left-room t c =
@@ -366,7 +366,7 @@ operators::comparison-returns-then-left-room t c =
     let few = least_levels x.0 in
     let count = ap (λ q. q.levels) sx in
     let (o, q, e, is) = c.in-Some.ensures in
-    rw c.too_nested.ensures (record { by = first_found comparisons fx (counted _ (led_too_deep comparisons (o, q) e (omega (arith, same, few, count)))) })
+    rw c.too_nested.ensures (record { by = all_found comparisons (λ _. tt) fx (counted _ (led_too_deep comparisons (o, q) e (omega (arith, same, few, count)))) })
 
 pub operators::comparison-returns-in_err-right : goal.operators::comparison-returns-in_err-right
 operators::comparison-returns-in_err-right t c =
@@ -379,7 +379,7 @@ operators::comparison-returns-in_err-right t c =
     let (o, q, e, is) = c.in-Some.ensures in
     let le : 1 + max x.1 1 ≤ c.args.room = omega (arith, same, few, count) in
     let up : 1 + (c.args.room - 1) ≡ c.args.room = omega (arith, le) in
-    rw (p.1, p.2) (record { by = first_found comparisons fx (led comparisons (o, q) e le (seq_part_stop grammar 1 (λ z h. stops_within listed comparison (omega arith) z h) (omega (arith, le)) up c.in_err-right.ensures.by)) })
+    rw (p.1, p.2) (record { by = all_found comparisons (λ _. tt) fx (led comparisons (o, q) e le (seq_part_stop grammar 1 (λ z h. stops_within listed comparison (omega arith) z h) (omega (arith, le)) up c.in_err-right.ensures.by)) })
 
 pub operators::comparison-returns : goal.operators::comparison-returns
 operators::comparison-returns t c =
@@ -393,19 +393,19 @@ operators::comparison-returns t c =
     let up : 1 + (c.args.room - 1) ≡ c.args.room = omega (arith, le) in
     let (y, sy, fy) = c.in_ok-right.ensures.by in
     let fits' = fy.by.fits in
-    record { by = (_, operated_is is sx sy c.in_ok-operated.ensures.shown, first_found comparisons fx (led comparisons (o, q) e le (seq_part grammar 1 (λ z h. stops_within listed comparison (omega arith) z h) (omega (arith, le)) up fy (seq_done grammar 1 (omega (arith, le, fits, fits')))))) }
+    record { by = (_, operated_is is sx sy c.in_ok-operated.ensures.shown, all_found comparisons (λ _. tt) fx (led comparisons (o, q) e le (seq_part grammar 1 (λ z h. stops_within listed comparison (omega arith) z h) (omega (arith, le)) up fy (seq_done grammar 1 (omega (arith, le, fits, fits')))))) }
 
 -- ---- listed
 
 pub operators::listed-returns-in_err-left : goal.operators::listed-returns-in_err-left
 operators::listed-returns-in_err-left t c =
     let p = err_from_is_err_and c.from_residual.result c.from_residual.ensures.1 in
-    rw (p.1, p.2) (record { by = first_stop listings c.in_err-left.ensures.by })
+    rw (p.1, p.2) (record { by = all_stop listings (λ _. tt) c.in_err-left.ensures.by })
 
 pub operators::listed-returns-in_default : goal.operators::listed-returns-in_default
 operators::listed-returns-in_default t c =
     let (x, sx, fx) = c.in_ok-left.ensures.by in
-    record { by = ((unlisted x.0, x.1), sx, first_found listings fx (bare_found listings c.in_default.ensures fx.by.fits)) }
+    record { by = ((unlisted x.0, x.1), sx, all_found listings (λ _. tt) fx (bare_found listings c.in_default.ensures fx.by.fits)) }
 
 pub operators::listed-returns-then-left-room : goal.operators::listed-returns-then-left-room
 operators::listed-returns-then-left-room t c =
@@ -414,7 +414,7 @@ operators::listed-returns-then-left-room t c =
     let same = fx.by.found.1 in
     let few = least_levels x.0 in
     let count = ap (λ q. q.levels) sx in
-    rw c.too_nested.ensures (record { by = first_found listings fx (counted _ (led_too_deep listings _ c.in-Some.ensures (omega (arith, same, few, count)))) })
+    rw c.too_nested.ensures (record { by = all_found listings (λ _. tt) fx (counted _ (led_too_deep listings _ c.in-Some.ensures (omega (arith, same, few, count)))) })
 
 pub operators::listed-returns-in_err-right : goal.operators::listed-returns-in_err-right
 operators::listed-returns-in_err-right t c =
@@ -426,7 +426,7 @@ operators::listed-returns-in_err-right t c =
     let count = ap (λ q. q.levels) sx in
     let le : 1 + max x.1 1 ≤ c.args.room = omega (arith, same, few, count) in
     let up : 1 + (c.args.room - 1) ≡ c.args.room = omega (arith, le) in
-    rw (p.1, p.2) (record { by = first_found listings fx (led listings _ c.in-Some.ensures le (seq_part_stop grammar 1 (λ z h. h) (omega (arith, le)) up c.in_err-right.ensures.by)) })
+    rw (p.1, p.2) (record { by = all_found listings (λ _. tt) fx (led listings _ c.in-Some.ensures le (seq_part_stop grammar 1 (λ z h. h) (omega (arith, le)) up c.in_err-right.ensures.by)) })
 
 pub operators::listed-returns : goal.operators::listed-returns
 operators::listed-returns t c =
@@ -439,7 +439,7 @@ operators::listed-returns t c =
     let up : 1 + (c.args.room - 1) ≡ c.args.room = omega (arith, le) in
     let (y, sy, fy) = c.in_ok-right.ensures.by in
     let fits' = fy.by.fits in
-    record { by = (_, operated_is refl sx sy c.in_ok-operated.ensures.shown, first_found listings fx (led listings _ c.in-Some.ensures le (seq_part grammar 1 (λ z h. h) (omega (arith, le)) up fy (seq_done grammar 1 (omega (arith, le, fits, fits')))))) }
+    record { by = (_, operated_is refl sx sy c.in_ok-operated.ensures.shown, all_found listings (λ _. tt) fx (led listings _ c.in-Some.ensures le (seq_part grammar 1 (λ z h. h) (omega (arith, le)) up fy (seq_done grammar 1 (omega (arith, le, fits, fits')))))) }
 
 -- ---- operand
 

@@ -1,4 +1,4 @@
-use Rattle.std.proofs.Common.{◌≡◌, map, sym, ap, ◌∙◌, subst}
+use Rattle.std.proofs.Common.{map, ap, ◌∙◌, subst}
 use Rattle.exact_reading.specs.Reading.{seen}
 use Rattle.program_grammar.specs.Grammar as grammar
 use Rattle.program_grammar.specs.Languages.{Reads}

@@ -1,13 +1,11 @@
-use Rattle.std.proofs.Common.{◌≡◌, ◌+◌, ◌≤◌, refl, sym, ap, ◌∙◌, arith}
+use Rattle.std.proofs.Common.{◌≡◌, ◌+◌, ◌≤◌, refl, sym, ◌∙◌, arith}
 use Rattle.std.proofs.lemmas.Result.{err_from_is_err_and}
-use Rattle.program_grammar.specs.Grammar.{expression, task, definition}
+use Rattle.program_grammar.specs.Grammar.{task, definition}
 use Rattle.exact_reading.proofs.Symbols.{seq_one, seq_one_stop, seq_part, seq_part_stop, seq_done}
 use Rattle.program_grammar.proofs.GrammarLemmas.{grammar, stops_within}
 use Rattle.program_grammar.proofs.RuleLemmas.{by_rule}
-use Rattle.task_model.specs.Program.{param_term}
 use Rattle.program_reader.proofs.DefinitionRules as rules
-use Rattle.program_reader.proofs.DefinitionLemmas.{function_shown, task_shown}
-use Rattle.std.proofs.Common.{map}
+use Rattle.program_reader.proofs.DefinitionLemmas.{task_shown}
 use Rattle.program_reader.proofs.definition.task_definition.Goals as goal
 
 pub returns-in_err-name : goal.returns-in_err-name

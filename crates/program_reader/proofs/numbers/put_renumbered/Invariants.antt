@@ -1,4 +1,4 @@
-use Rattle.std.proofs.Common.{◌≡◌, ◌++◌, map, take, drop}
+use Rattle.std.proofs.Common.{◌≡◌, ◌++◌, map}
 use Rattle.task_model.specs.Task.{body_term}
 use Rattle.program_reader.specs.Numbers.{body_renumbered}
 use Rattle.program_reader.proofs.numbers.put_renumbered.Given as goal

@@ -1,10 +1,10 @@
-use Rattle.std.proofs.Common.{◌≡◌, ◌+◌, ◌≤◌, refl, sym, ◌∙◌, arith}
+use Rattle.std.proofs.Common.{◌≡◌, ◌+◌, ◌≤◌, refl, sym, arith}
 use Rattle.std.proofs.lemmas.Result.{err_from_is_err_and}
-use Rattle.program_grammar.specs.Grammar.{parameters, empty}
+use Rattle.program_grammar.specs.Grammar.{parameters}
 use Rattle.exact_reading.proofs.Symbols.{seq_one, seq_one_stop, seq_part, seq_part_stop, seq_done}
 use Rattle.program_grammar.proofs.GrammarLemmas.{grammar}
 use Rattle.program_grammar.proofs.EnclosedRules as enclosing
-use Rattle.program_reader.proofs.ReadingLemmas.{counted_at, at_reading}
+use Rattle.expression_reader.proofs.ReadingLemmas.{counted_at, at_reading}
 use Rattle.program_reader.proofs.ParameterLemmas.{no_enclosed}
 use Rattle.program_reader.proofs.parameters.enclosed_parameters.Goals as goal
 

@@ -1,9 +1,9 @@
-use Rattle.std.proofs.Common.{◌≡◌, ◌+◌, ◌≤◌, sym, ◌∙◌, arith}
+use Rattle.std.proofs.Common.{◌≡◌, ◌+◌, ◌≤◌, arith}
 use Rattle.std.proofs.lemmas.Result.{err_from_is_err_and}
 use Rattle.program_grammar.specs.Grammar.{basic, parameter}
 use Rattle.exact_reading.proofs.Symbols.{seq_part, seq_part_stop, seq_done}
 use Rattle.program_grammar.proofs.GrammarLemmas.{grammar, stops_within}
-use Rattle.program_reader.proofs.ReadingLemmas.{counted_at}
+use Rattle.expression_reader.proofs.ReadingLemmas.{counted_at}
 use Rattle.program_reader.proofs.DefinitionRules as rules
 use Rattle.program_reader.proofs.ParameterLemmas.{value_shown, reference_shown}
 use Rattle.program_reader.proofs.parameters.parameter.Goals as goal

@@ -1,7 +1,7 @@
-use Rattle.std.proofs.Common.{◌≡◌, ◌+◌, ◌≤◌, ◌<◌, ◌∷◌, ◌++◌, [], length, sym, ap, ◌∙◌, arith, suc}
+use Rattle.std.proofs.Common.{◌∷◌, ◌++◌, [], ap, ◌∙◌, arith}
 use Rattle.std.proofs.lemmas.Result.{err_from_is_err_and}
 use Rattle.task_model.specs.Program.{param_term}
-use Rattle.program_reader.proofs.ReadingLemmas.{fewer, rest_fewer}
+use Rattle.expression_reader.proofs.ReadingLemmas.{fewer, no_more}
 use Rattle.program_reader.proofs.ParameterLemmas.{begin, begin_stop, next, next_stop, finish}
 use Rattle.program_reader.proofs.parameters.some_parameters.Goals as goal
 
@@ -20,7 +20,7 @@ loop-after-preserved c = next c.loop-after.invariant _ c.in-Some.ensures c.in_ok
 pub loop-after-smaller : goal.loop-after-smaller
 loop-after-smaller c =
     let one = fewer c.loop-after.rest.now c.in-Some.after.now c.in-Some.ensures in
-    let more = rest_fewer c.in-Some.after.now c.in_ok-next.after.now c.in_ok-next.ensures in
+    let more = no_more c.in-Some.after.now c.in_ok-next.after.now c.in_ok-next.ensures in
     omega (arith, one, more)
 
 pub returns : goal.returns

@@ -1,9 +1,4 @@
-use Rattle.std.proofs.Common.{◌≡◌, ℕ, ◌+◌, ◌≤◌, ◌<◌, length, map, sym, ap, ◌∙◌, arith}
-use Rattle.std.proofs.lemmas.List.{length-map}
 use Rattle.std.proofs.lemmas.Result.{err_from_is_err_and}
-use Rattle.task_model.specs.Task.{body_term}
-use Rattle.program_reader.specs.Definitions.{shown_definitions}
-use Rattle.program_reader.proofs.ReadingLemmas.{fewer, rest_fewer, at_reading}
 use Rattle.program_reader.proofs.DefinitionLemmas.{begin, next, next_stop, finish, fewer_behind}
 use Rattle.program_reader.proofs.program.program.Goals as goal
 

@@ -1,17 +1,18 @@
-use Rattle.std.proofs.Common.{◌≡◌, ℕ, ◌+◌, ◌-◌, ◌≤◌, ◌<◌, max, List, [], ◌∷◌, ◌++◌, refl, sym, ap, ◌∙◌, arith, append_assoc}
+use Rattle.std.proofs.Common.{◌≡◌, ℕ, ◌+◌, ◌-◌, ◌≤◌, ◌<◌, List, [], ◌∷◌, ◌++◌, refl, sym, ap, ◌∙◌, arith, append_assoc}
 use Rattle.std.proofs.lemmas.Result.{err_from_is_err_and}
-use Rattle.program_grammar.specs.Grammar.{basic, task, task_atom, expression, atom, enclosed, arguments, series, chain, choice, Operator, together, operator, task_plain}
+use Rattle.program_grammar.specs.Grammar.{chain, choice, Operator, together, operator, task_plain}
 use Rattle.task_syntax.specs.declared.symbol.Symbol.TheVariants as signs
 use Rattle.program_grammar.specs.Lexemes.{Lexeme, sign}
 use Rattle.exact_reading.proofs.Symbols.{seq_one, seq_one_stop, seq_part, seq_part_stop, seq_done}
-use Rattle.program_grammar.proofs.GrammarLemmas.{grammar, stops_within, least_levels}
+use Rattle.program_grammar.proofs.GrammarLemmas.{grammar, least_levels}
 use Rattle.program_grammar.proofs.RuleLemmas.{by_rule, too_deep}
-use Rattle.program_reader.specs.Works.{scope_of, shown_work, shown_task, shown_atom, shown_chain, shown_choice}
+use Rattle.program_reader.specs.Works.{scope_of, shown_task, shown_atom, shown_chain, shown_choice}
 use Rattle.program_reader.specs.Signs.{choice_term, step_term}
-use Rattle.program_reader.proofs.ReadingLemmas.{starved, counted_at, at_reading, onto_language, expression_within, listing_within, type_within}
+use Rattle.expression_reader.proofs.ReadingLemmas.{counted_at, at_reading}
+use Rattle.program_reader.proofs.ReadingLemmas.{onto_language}
 use Rattle.program_reader.proofs.TaskRules as rules
 use Rattle.program_reader.proofs.StepRules as steps
-use Rattle.program_reader.proofs.TailLemmas as tails
+use Rattle.program_grammar.proofs.OptionalLemmas as tails
 use Rattle.program_reader.proofs.WorkSeries as loops
 use Rattle.program_reader.proofs.WorkLemmas as shows
 use Rattle.program_reader.proofs.tasks.+task.Goals as goal

@@ -4,7 +4,7 @@ use Rattle.program_grammar.specs.Grammar.{basic, task_atom, atom, enclosed, argu
 use Rattle.exact_reading.proofs.Symbols.{seq_one, seq_one_stop, seq_part, seq_part_stop, seq_done}
 use Rattle.program_grammar.proofs.GrammarLemmas.{grammar, stops_within}
 use Rattle.program_grammar.proofs.RuleLemmas.{by_rule, too_deep}
-use Rattle.program_reader.proofs.ReadingLemmas.{counted_at}
+use Rattle.expression_reader.proofs.ReadingLemmas.{counted_at}
 use Rattle.program_reader.proofs.TaskRules as rules
 use Rattle.program_reader.proofs.WorkLemmas as shows
 use Rattle.program_reader.proofs.word_atoms.word_atom.Goals as goal

@@ -1,7 +1,7 @@
 use Rattle.tophat.proofs.ending.tell.Goals as goal
 
 pub returns-in-Refused-clause-text : goal.returns-in-Refused-clause-text
-returns-in-Refused-clause-text g c = rw c.in-Refused.is c.write_four.ensures.bytes
+returns-in-Refused-clause-text g c = rw c.in-Refused.is c.write_refusal.ensures.text
 
 pub returns-in-Usage-clause-text : goal.returns-in-Usage-clause-text
 returns-in-Usage-clause-text g c = rw c.in-Usage.is c.write_all.ensures.bytes
@@ -19,7 +19,7 @@ pub returns-in-WriteFault-clause-text : goal.returns-in-WriteFault-clause-text
 returns-in-WriteFault-clause-text g c = rw c.in-WriteFault.is c.write_all-in-WriteFault.ensures.bytes
 
 pub returns-in-Absent-clause-text : goal.returns-in-Absent-clause-text
-returns-in-Absent-clause-text g c = rw c.in-Absent.is c.write_four-in-Absent.ensures.bytes
+returns-in-Absent-clause-text g c = rw c.in-Absent.is c.write_four.ensures.bytes
 
 pub returns-in-InputTooLong-clause-text : goal.returns-in-InputTooLong-clause-text
 returns-in-InputTooLong-clause-text g c = rw c.in-InputTooLong.is c.write_all-in-InputTooLong.ensures.bytes

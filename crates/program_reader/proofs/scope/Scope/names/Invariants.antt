@@ -1,4 +1,4 @@
-use Rattle.std.proofs.Common.{◌≡◌, [], ◌∷◌, ◌++◌, map, take}
+use Rattle.std.proofs.Common.{◌≡◌, ◌++◌, map, take}
 use Rattle.program_reader.proofs.scope.Scope.names.Given as goal
 
 abbrev pub invariant-loop-parameter : goal.invariant-loop-parameter
