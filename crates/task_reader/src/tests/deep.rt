@@ -19,19 +19,20 @@ fn parentheses(alloc: Global, head: &str) -> Result<String, AllocError> {
     Ok(source)
 }
 
-// The longest text of a program with 200 levels: definitions of one deep body each, and blanks.
+// A long program, each definition of which has 200 levels.
 fn deep_definitions(alloc: Global) -> Result<String, AllocError> {
+    let mut definition = String::from_str(alloc, FUNCTION)?;
+    for _ in 0..199 {
+        definition.push('(')?;
+    }
+    definition.push('1')?;
+    for _ in 0..199 {
+        definition.push(')')?;
+    }
+    definition.push('\n')?;
     let mut source = String::new(alloc);
-    while source.len() < MOST_BYTES - 1000 {
-        source.push_str(FUNCTION)?;
-        for _ in 0..199 {
-            source.push('(')?;
-        }
-        source.push('1')?;
-        for _ in 0..199 {
-            source.push(')')?;
-        }
-        source.push('\n')?;
+    for _ in 0..2_500 {
+        source.push_str(definition.as_str())?;
     }
     Ok(source)
 }

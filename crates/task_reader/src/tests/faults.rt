@@ -197,7 +197,11 @@ fn tokens_in_place_of_others(rt: HostRuntime) -> Result<(), Fail> {
     for (at, word, fault) in REPLACED {
         let mut source = String::new(rt.alloc());
         for (number, token) in PROGRAM.split(' ').enumerate() {
-            source.push_str(if number == at { word } else { token })?;
+            if number == at {
+                source.push_str(word)?;
+            } else {
+                source.push_str(token)?;
+            }
             source.push(' ')?;
         }
         match fault {
