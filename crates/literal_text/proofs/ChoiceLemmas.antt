@@ -1,18 +1,16 @@
 -- Which production a literal is read by: the wanted type tells, and else the first byte.
 use Rattle.std.specs.Prelude.{nat_le}
 use Rattle.std.proofs.lemmas.Bool.Decides.{nat_tests}
-use Rattle.std.proofs.Common.{◌≡◌, ◌≢◌, ℕ, zero, suc, ◌+◌, ◌-◌, ◌<◌, ◌≤◌, max, Bool, true, false, Option, None, Some, ◌⊎◌, inl, inr, List, [], ◌∷◌, ◌++◌, length, Ok, Err, refl, sym, ap, ◌∙◌, subst, arith}
+use Rattle.std.proofs.Common.{◌≡◌, ℕ, suc, ◌-◌, ◌<◌, ◌≤◌, max, Bool, true, false, Option, None, Some, ◌⊎◌, inl, inr, [], ◌∷◌, ◌++◌, length, Ok, Err, refl, sym, ap, ◌∙◌, subst, arith}
 use Rattle.task_model.specs.Text.{Text}
 use Rattle.task_model.specs.Basic.{BasicTerm, unit_type, bool_type, int_type, text_type, pair_type, list_type}
-use Rattle.task_model.specs.Value.{ValueTerm, unit_value, bool_value, int_value, text_value, pair_value, list_value, no_values, as_values, value_has}
-use Rattle.task_model.specs.Token.{IsDigit}
+use Rattle.task_model.specs.Value.{ValueTerm, unit_value, bool_value, int_value, text_value, list_value, no_values, as_values, value_has}
 use Rattle.exact_reading.specs.declared.stop.Stop.{Stop}
-use Rattle.exact_reading.specs.Reading.{Language, Begins, Alive, Always, Answer, Right, NoToken}
-use Rattle.exact_reading.proofs.Sequences.{Bind}
+use Rattle.exact_reading.specs.Reading.{Begins, Alive, Always, Answer, Right, NoToken}
 use Rattle.exact_reading.proofs.Productions.{Follows, by_production, same_language, tighter}
 use Rattle.exact_reading.proofs.Starts.{first_token}
 use Rattle.literal_text.specs.Literals.{Parse, literal, unit, bool, int, text, pair, empty, list, bytes, value, spaces, signed, IsWithinLimits, levels_of}
-use Rattle.literal_text.specs.Reads.{NoBlank, Ends, Word, BoolLiteral, IntLiteral, TextLiteral, HasWanted, fewest, Fit, AllFit, Lit, NoElements, Elements, ListLiteral, UnitEnd, UnitLiteral, PairEnd}
+use Rattle.literal_text.specs.Reads.{NoBlank, Ends, Word, BoolLiteral, IntLiteral, TextLiteral, HasWanted, fewest, Fit, Lit, NoElements, Elements, ListLiteral, UnitEnd, UnitLiteral, PairEnd}
 use Rattle.literal_text.proofs.IntLemmas.{signed_fits, fits_signed}
 use Rattle.literal_text.proofs.FitLemmas.{some_level, fit_pair, pair_fit, fit_any_pair, any_pair_fit, list_of, fit_list, list_fit}
 use Rattle.literal_text.proofs.LiteralLemmas.{ends_blank, apart, Marked, marked_are, marked_right, marked_stop, no_blank, pair_alive, pair_head, head_of, Head}

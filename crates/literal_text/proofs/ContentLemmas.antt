@@ -1,16 +1,15 @@
 -- Texts: parts between quotes.
-use Rattle.std.proofs.Common.{◌≡◌, ◌≢◌, ℕ, zero, suc, ◌+◌, ◌-◌, ◌<◌, ◌≤◌, List, [], ◌∷◌, ◌++◌, length, Ok, Err, refl, sym, ap, ◌∙◌, subst, arith, append_assoc, length-append}
+use Rattle.std.proofs.Common.{◌≡◌, ℕ, suc, ◌-◌, ◌<◌, ◌≤◌, List, [], ◌∷◌, ◌++◌, length, Ok, Err, refl, sym, ap, ◌∙◌, subst, arith, append_assoc, length-append}
 use Rattle.task_model.specs.Text.{Text}
 use Rattle.task_model.specs.Value.{ValueTerm, text_value}
-use Rattle.task_model.specs.Token.{TextPart, part_spelling, PartIs, PartsAre, spelled, IsText}
+use Rattle.task_model.specs.Token.{TextPart, part_spelling, PartsAre, spelled}
 use Rattle.exact_reading.specs.declared.stop.Stop.{Stop}
 use Rattle.exact_reading.specs.Reading.{Language, Begins, Alive, Always, Answer, Right, Tok, Anything, NoToken}
 use Rattle.exact_reading.proofs.Sequences.{Bind, Done, append_nil}
-use Rattle.exact_reading.proofs.Productions.{Follows, then_right, then_stop, done_right, by_production, same_language, at_tokens, tok_right, tighter}
+use Rattle.exact_reading.proofs.Productions.{Follows, then_right, then_stop, done_right, by_production, same_language, at_tokens, tok_right}
 use Rattle.exact_reading.proofs.Starts.{first_token}
 use Rattle.literal_text.specs.Literals.{spaces}
 use Rattle.literal_text.specs.Reads.{NoBlank, Gap, TextLiteral, Content, Part}
-use Rattle.literal_text.proofs.WordLemmas.{gap_alive}
 use Rattle.literal_text.proofs.EscapeLemmas.{part_starts}
 
 module _ (so_far : Text) (fits : length so_far ≤ 65536) where

@@ -2,18 +2,18 @@
 use Rattle.std.specs.Prelude.{encode_utf8, ◌==◌, if◌then◌else◌}
 use Rattle.std.specs.Char.{IsScalar}
 use Rattle.std.proofs.lemmas.Bool.Decides.{nat_tests}
-use Rattle.std.proofs.Common.{◌≡◌, ◌≢◌, ℕ, zero, suc, ◌+◌, ◌-◌, ◌*◌, ◌<◌, ◌≤◌, ◌⊎◌, inl, inr, List, [], ◌∷◌, ◌++◌, length, Ok, Err, refl, sym, ap, ◌∙◌, subst, arith}
+use Rattle.std.proofs.Common.{◌≡◌, ◌≢◌, ℕ, suc, ◌+◌, ◌*◌, ◌<◌, ◌≤◌, ◌⊎◌, inl, inr, [], ◌∷◌, ◌++◌, length, Ok, Err, refl, sym, ap, ◌∙◌, subst, arith}
 use Rattle.task_model.specs.Text.{Text}
 use Rattle.task_model.specs.Token.{TextPart, raw, letter, hex, part_spelling, PartIs, Escapes, quote, backslash, line_feed, tab, carriage_return, IsHex, IsDigit, hex_value}
 use Rattle.exact_reading.specs.declared.stop.Stop.{Stop}
 use Rattle.exact_reading.specs.declared.stop.Stop.TheVariants.{Fault}
 use Rattle.exact_reading.specs.declared.stop.Kind.TheVariants.{Unexpected}
-use Rattle.exact_reading.specs.Reading.{Language, Begins, Alive, Always, Answer, Right, Tok, Anything, NoToken}
-use Rattle.exact_reading.proofs.Sequences.{Bind, Done, append_nil}
+use Rattle.exact_reading.specs.Reading.{Language, Begins, Alive, Always, Answer, Right, Tok, Anything}
+use Rattle.exact_reading.proofs.Sequences.{Bind, Done}
 use Rattle.exact_reading.proofs.Productions.{then_right, then_stop, done_right, by_production, same_language, same_answer, at_tokens, refused_first, tok_right}
-use Rattle.exact_reading.proofs.Starts.{One, one_right, one_stop, StartsBy, starts_none, first_token}
+use Rattle.exact_reading.proofs.Starts.{One, one_right, StartsBy, starts_none, first_token}
 use Rattle.literal_text.specs.Reads.{Part, Wide, Escape, HexEnd, HexDigit, IsPlain}
-use Rattle.literal_text.proofs.CharacterLemmas.{only_scalar, is_only_scalar, WideShape, wide_shape, narrow_shape, order}
+use Rattle.literal_text.proofs.CharacterLemmas.{only_scalar, is_only_scalar, wide_shape, narrow_shape, order}
 
 -- ---- hexadecimal digits
 digit_small : (d : ℕ) → IsDigit d → hex_value d ≤ 9

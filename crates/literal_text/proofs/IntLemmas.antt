@@ -1,5 +1,5 @@
 -- Digits and ints.
-use Rattle.std.proofs.Common.{◌≡◌, ◌≢◌, ℕ, zero, suc, ◌+◌, ◌-◌, ◌*◌, ◌/◌, ◌<◌, ◌≤◌, Bool, true, false, List, [], ◌∷◌, ◌++◌, length, Ok, Err, refl, sym, ap, ◌∙◌, subst, arith, append_assoc}
+use Rattle.std.proofs.Common.{◌≡◌, ◌≢◌, ℕ, zero, suc, ◌+◌, ◌-◌, ◌*◌, ◌/◌, ◌<◌, ◌≤◌, Bool, true, false, [], ◌∷◌, ◌++◌, length, Ok, Err, refl, sym, ap, ◌∙◌, subst, arith}
 use Rattle.std.specs.Prelude.{FitsSigned}
 use Rattle.std.specs.Int.{w64}
 use Rattle.task_model.specs.Text.{Text}
@@ -8,13 +8,12 @@ use Rattle.task_model.specs.Token.{IsDigit, AreDigits, number_from, IsNumber}
 use Rattle.exact_reading.specs.declared.stop.Stop.{Stop}
 use Rattle.exact_reading.specs.declared.stop.Stop.TheVariants.{Fault}
 use Rattle.exact_reading.specs.declared.stop.Kind.TheVariants.{Unexpected}
-use Rattle.exact_reading.specs.Reading.{Language, Begins, Alive, Always, Answer, Right, Tok, Anything, NoToken}
+use Rattle.exact_reading.specs.Reading.{Language, Begins, Alive, Always, Answer, Right, Tok, NoToken}
 use Rattle.exact_reading.proofs.Sequences.{Bind, Done, append_nil}
-use Rattle.exact_reading.proofs.Productions.{Follows, then_right, then_stop, done_right, by_production, same_language, at_tokens, refused_first, tok_right}
+use Rattle.exact_reading.proofs.Productions.{Follows, then_right, then_stop, done_right, by_production, at_tokens, refused_first, tok_right}
 use Rattle.exact_reading.proofs.Starts.{StartsBy, starts_none, first_token}
 use Rattle.literal_text.specs.Literals.{spaces, sign_text, signed}
 use Rattle.literal_text.specs.Reads.{NoBlank, NoDigit, Ends, Gap, Digits, Number, most, IntLiteral}
-use Rattle.literal_text.proofs.WordLemmas.{gap_alive}
 
 above : (so_far : ℕ) (t : Text) → so_far ≤ number_from so_far t
 above so_far [] = omega arith

@@ -1,21 +1,18 @@
 -- Literals of several tokens.
-use Rattle.std.proofs.Common.{◌≡◌, ◌≢◌, ℕ, zero, suc, ◌+◌, ◌-◌, ◌<◌, ◌≤◌, Bool, true, false, Option, None, Some, ◌⊎◌, inl, inr, List, [], ◌∷◌, ◌++◌, length, Ok, Err, refl, sym, ap, ◌∙◌, subst, arith, append_assoc, length-append}
+use Rattle.std.proofs.Common.{◌≡◌, ◌≢◌, ℕ, ◌≤◌, Bool, true, false, Option, ◌⊎◌, inl, inr, [], ◌∷◌, ◌++◌, Ok, Err, refl, sym, ap, ◌∙◌, subst, arith, append_assoc}
 use Rattle.task_model.specs.Text.{Text}
-use Rattle.task_model.specs.Basic.{BasicTerm, unit_type, bool_type, int_type, text_type, pair_type, list_type}
-use Rattle.task_model.specs.Value.{ValueTerm, unit_value, bool_value, int_value, text_value, pair_value, list_value, ValueTerms, no_values, more_values, as_values, value_has}
+use Rattle.task_model.specs.Basic.{BasicTerm}
+use Rattle.task_model.specs.Value.{ValueTerm, unit_value, bool_value, pair_value}
 use Rattle.task_model.specs.Literal.{bool_text}
-use Rattle.task_model.specs.Token.{IsDigit, IsNumber, IsText, spelled}
+use Rattle.task_model.specs.Token.{IsDigit}
 use Rattle.exact_reading.specs.declared.stop.Stop.{Stop}
-use Rattle.exact_reading.specs.declared.stop.Stop.TheVariants.{Fault}
-use Rattle.exact_reading.specs.declared.stop.Kind.TheVariants.{Unexpected}
-use Rattle.exact_reading.specs.Reading.{Language, Begins, Alive, Always, Answer, Right, Tok, Anything, NoToken}
+use Rattle.exact_reading.specs.Reading.{Language, Begins, Alive, Always, Answer, Right, NoToken}
 use Rattle.exact_reading.proofs.Sequences.{Bind, Done, append_nil}
-use Rattle.exact_reading.proofs.Productions.{Follows, then_right, then_stop, done_right, by_production, same_language, same_answer, at_tokens, refused_first, tighter}
+use Rattle.exact_reading.proofs.Productions.{Follows, then_right, then_stop, done_right, by_production, same_language}
 use Rattle.exact_reading.proofs.Starts.{first_token}
-use Rattle.literal_text.specs.Literals.{Parse, literal, further, unit, bool, int, text, pair, empty, list, last, more, bytes, value, spaces, sign_text, signed, IsWithinLimits, levels_of}
-use Rattle.literal_text.specs.Reads.{NoBlank, NoDigit, Ends, Word, BoolLiteral, IntLiteral, TextLiteral, HasWanted, fewest, Fit, AllFit, Lit, Further, NoElements, Elements, ListLiteral, UnitEnd, UnitLiteral, PairEnd}
-use Rattle.literal_text.proofs.IntLemmas.{signed_fits, fits_signed}
-use Rattle.literal_text.proofs.FitLemmas.{some_level, fewest_least, fit_pair, pair_fit, fit_any_pair, any_pair_fit, list_of, fit_list, list_fit, least_lit}
+use Rattle.literal_text.specs.Literals.{Parse, literal, unit, bool, int, text, pair, empty, list, bytes, value, spaces}
+use Rattle.literal_text.specs.Reads.{NoBlank, Ends, Word, BoolLiteral, fewest, Fit, Lit, UnitEnd, UnitLiteral, PairEnd}
+use Rattle.literal_text.proofs.FitLemmas.{least_lit}
 
 -- ---- what may follow
 pub ends_blank : (z : Text) → Ends z → NoBlank z

@@ -1,13 +1,12 @@
 -- What is printed, as a parse.
-use Rattle.std.specs.Prelude.{encode_utf8, nat_le, nat_lt, ◌==◌, codes, ℤ, pos, negsuc, FitsSigned, if◌then◌else◌}
-use Rattle.std.specs.Int.{w64}
+use Rattle.std.specs.Prelude.{encode_utf8, nat_le, codes, pos, negsuc}
 use Rattle.std.specs.Char.{IsScalar}
 use Rattle.std.specs.Str.{IsUtf8, encode_utf8_all, all_scalars}
-use Rattle.std.specs.Fmt.{decimal, signed_decimal}
+use Rattle.std.specs.Fmt.{decimal}
 use Rattle.std.proofs.str.Laws as laws
 use Rattle.std.proofs.lemmas.Fmt.{decimal_by_steps}
 use Rattle.std.proofs.lemmas.Bool.Decides.{nat_tests}
-use Rattle.std.proofs.Common.{◌≡◌, ◌≢◌, ℕ, zero, suc, ◌+◌, ◌-◌, ◌*◌, ◌/◌, ◌%◌, ◌^◌, ◌<◌, ◌≤◌, max, Bool, true, false, cond, ◌&&◌, ◌⊎◌, inl, inr, List, [], ◌∷◌, ◌++◌, length, refl, sym, ap, ◌∙◌, subst, arith, append_assoc}
+use Rattle.std.proofs.Common.{◌≡◌, ◌≢◌, ℕ, suc, ◌+◌, ◌-◌, ◌*◌, ◌/◌, ◌%◌, ◌^◌, ◌<◌, ◌≤◌, Bool, true, false, ◌&&◌, ◌⊎◌, inl, inr, List, [], ◌∷◌, ◌++◌, length, refl, sym, ap, ◌∙◌, subst, arith, append_assoc}
 use Rattle.task_model.specs.Text.{Text}
 use Rattle.task_model.specs.Basic.{BasicTerm, unit_type, bool_type, int_type, text_type, pair_type, list_type}
 use Rattle.task_model.specs.Value.{ValueTerm, unit_value, bool_value, int_value, text_value, pair_value, list_value, ValueTerms, no_values, more_values, as_values, count_of, value_has, values_have}
@@ -15,11 +14,11 @@ use Rattle.task_model.specs.Literal.{basic_text, bool_text, hex_digit, escaped, 
 use Rattle.task_model.specs.Accepted.{symbols_of}
 use Rattle.task_model.specs.Token.{TextPart, raw, letter, hex, part_spelling, PartIs, PartsAre, spelled, IsText, Escapes, quote, backslash, line_feed, tab, carriage_return, IsHex, IsDigit, AreDigits, number_from, IsNumber, hex_value}
 use Rattle.exact_reading.proofs.Sequences.{append_nil}
-use Rattle.literal_text.specs.Literals.{Parse, literal, further, unit, bool, int, text, pair, empty, list, last, more, bytes, value, spaces, signed, IsWithinLimits, AreWithinLimits, levels_of, levels_in, IsLiteral, IsLiteralOf}
+use Rattle.literal_text.specs.Literals.{Parse, literal, further, unit, bool, int, text, pair, empty, list, last, more, bytes, value, IsWithinLimits, AreWithinLimits, levels_of, levels_in, IsLiteral, IsLiteralOf}
 use Rattle.literal_text.specs.Types as types
 use Rattle.literal_text.specs.Types.{IsTypeName}
 use Rattle.literal_text.specs.Prints.{IsHeld, AreHeld}
-use Rattle.literal_text.proofs.CharacterLemmas.{order, only_scalar, is_only_scalar, narrow_shape, shape_of}
+use Rattle.literal_text.proofs.CharacterLemmas.{order, is_only_scalar, narrow_shape, shape_of}
 use Rattle.literal_text.proofs.FitLemmas.{both_true}
 
 -- ---- characters

@@ -1,18 +1,16 @@
 -- Whole literals and names of types, with the spaces in front.
-use Rattle.std.proofs.Common.{◌≡◌, ℕ, zero, suc, ◌+◌, ◌-◌, ◌<◌, ◌≤◌, Bool, true, false, ◌==◌, Option, None, Some, List, [], ◌∷◌, ◌++◌, length, Result, Ok, Err, refl, sym, ap, ◌∙◌, subst, arith, append_assoc}
+use Rattle.std.proofs.Common.{◌≡◌, ℕ, suc, ◌≤◌, true, false, ◌==◌, Option, None, Some, [], ◌∷◌, ◌++◌, length, Result, Ok, Err, refl, sym, ap, ◌∙◌, subst, arith}
 use Rattle.std.specs.Prelude.{IfErr}
 use Rattle.std.proofs.lemmas.Bool.Decides.{nat_tests}
 use Rattle.task_model.specs.Text.{Text}
 use Rattle.task_model.specs.Basic.{BasicTerm}
 use Rattle.task_model.specs.Value.{ValueTerm}
-use Rattle.exact_reading.specs.declared.stop.Kind.{Kind}
-use Rattle.exact_reading.specs.declared.stop.Stop.TheVariants.{Fault}
 use Rattle.exact_reading.specs.declared.stop.Kind.TheVariants.{Unexpected}
-use Rattle.exact_reading.specs.Reading.{Language, Begins, Alive, Always, Answer, Right, NoToken}
+use Rattle.exact_reading.specs.Reading.{Language, Alive, Always, Answer, Right}
 use Rattle.exact_reading.specs.Whole.{IsFirstFault, IsFault}
 use Rattle.exact_reading.proofs.Sequences.{Bind}
-use Rattle.exact_reading.proofs.Productions.{Follows, then_right, same_language}
-use Rattle.exact_reading.proofs.Whole.{whole_found, whole_only, trailing, refused, always_unexpected, same_fault, no_words}
+use Rattle.exact_reading.proofs.Productions.{then_right, same_language}
+use Rattle.exact_reading.proofs.Whole.{same_fault}
 use Rattle.literal_text.specs.declared.stop.LiteralStop.{LiteralStop}
 use Rattle.literal_text.specs.declared.stop.LiteralStop.TheVariants.{Bad, Memory}
 use Rattle.literal_text.specs.Literals.{spaces, IsLiteral, IsLiteralOf}
@@ -20,7 +18,7 @@ use Rattle.literal_text.specs.Types.{IsTypeName}
 use Rattle.literal_text.specs.Types as types
 use Rattle.literal_text.specs.Places.{IsStopAt}
 use Rattle.task_model.specs.Accepted.{symbols_of}
-use Rattle.literal_text.specs.Reads.{NoBlank, Ends, Gap, Fit, Lit, Whole, TypeName, fewest}
+use Rattle.literal_text.specs.Reads.{NoBlank, Ends, Gap, Lit, Whole, TypeName, fewest}
 use Rattle.literal_text.proofs.WordLemmas.{gap_right}
 use Rattle.literal_text.proofs.FitLemmas.{least_lit, fewest_least}
 use Rattle.literal_text.proofs.LiteralLemmas.{lit_no_blank}

@@ -1,5 +1,5 @@
 -- Some literal of each type, and some name of a type.
-use Rattle.std.proofs.Common.{◌≡◌, ◌≤◌, Option, None, Some, [], refl, arith}
+use Rattle.std.proofs.Common.{◌≤◌, Option, None, Some, [], refl, arith}
 use Rattle.std.specs.Prelude.{codes}
 use Rattle.task_model.specs.Text.{Text}
 use Rattle.task_model.specs.Basic.{BasicTerm, unit_type, bool_type, int_type, text_type, pair_type, list_type}

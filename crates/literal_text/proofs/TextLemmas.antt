@@ -3,21 +3,18 @@ use Rattle.std.specs.Prelude.{encode_utf8}
 use Rattle.std.specs.Char.{IsScalar}
 use Rattle.std.specs.Str.Lossy.{second_byte_min, second_byte_max}
 use Rattle.std.proofs.lemmas.Bool.Decides.{nat_tests}
-use Rattle.std.proofs.Common.{◌≡◌, ◌≢◌, ℕ, zero, suc, ◌+◌, ◌-◌, ◌*◌, ◌/◌, ◌<◌, ◌≤◌, ◌⊎◌, inl, inr, List, [], ◌∷◌, ◌++◌, length, Ok, Err, refl, sym, ap, ◌∙◌, subst, arith, append_assoc, length-append}
+use Rattle.std.proofs.Common.{◌≡◌, ◌≢◌, ℕ, ◌+◌, ◌-◌, ◌*◌, ◌≤◌, ◌⊎◌, inl, inr, [], ◌∷◌, ◌++◌, length, Ok, Err, refl, sym, ap, ◌∙◌, arith}
 use Rattle.task_model.specs.Text.{Text}
-use Rattle.task_model.specs.Value.{ValueTerm, text_value}
-use Rattle.task_model.specs.Token.{TextPart, raw, letter, hex, part_spelling, PartIs, PartsAre, spelled, IsText, Escapes, quote, backslash, line_feed, tab, carriage_return, IsHex, IsDigit, hex_value}
+use Rattle.task_model.specs.Token.{raw, PartIs}
 use Rattle.exact_reading.specs.declared.stop.Stop.{Stop}
 use Rattle.exact_reading.specs.declared.stop.Stop.TheVariants.{Fault}
 use Rattle.exact_reading.specs.declared.stop.Kind.TheVariants.{Unexpected}
-use Rattle.exact_reading.specs.Reading.{Language, Begins, Alive, Always, Answer, Right, Tok, Anything, NoToken}
-use Rattle.exact_reading.proofs.Sequences.{Bind, Done, append_nil}
-use Rattle.exact_reading.proofs.Productions.{Follows, then_right, then_stop, done_right, by_production, same_language, same_answer, at_tokens, refused_first, tok_right, tighter}
-use Rattle.exact_reading.proofs.Starts.{One, one_right, one_stop, StartsBy, starts_none, first_token}
-use Rattle.literal_text.specs.Literals.{spaces}
-use Rattle.literal_text.specs.Reads.{NoBlank, Gap, TextLiteral, Content, Part, Wide, WideEnd, Escape, HexEnd, HexDigit, InRange, width_of, IsPlain}
-use Rattle.literal_text.proofs.WordLemmas.{gap_alive}
-use Rattle.literal_text.proofs.CharacterLemmas.{only_scalar, is_only_scalar, WideShape, wide_shape, narrow_shape, order, encode_two, decode_two, encode_three, decode_three, encode_four, decode_four, width_two, width_three, width_four, three_second, four_second}
+use Rattle.exact_reading.specs.Reading.{Language, Begins, Alive, Always, Answer, Right, Tok, Anything}
+use Rattle.exact_reading.proofs.Sequences.{Bind, Done}
+use Rattle.exact_reading.proofs.Productions.{then_right, then_stop, done_right, by_production, same_language, same_answer, at_tokens, tok_right}
+use Rattle.exact_reading.proofs.Starts.{StartsBy, starts_none, first_token}
+use Rattle.literal_text.specs.Reads.{Wide, WideEnd, InRange, width_of}
+use Rattle.literal_text.proofs.CharacterLemmas.{only_scalar, is_only_scalar, wide_shape, encode_two, decode_two, encode_three, decode_three, encode_four, decode_four, width_three, width_four}
 
 -- ---- characters of more than one byte
 raw_is : (c : ℕ) → IsScalar c → 128 ≤ c → (t : Text) → t ≡ encode_utf8 c → PartIs (raw c) t

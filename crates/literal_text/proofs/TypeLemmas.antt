@@ -1,5 +1,5 @@
 -- Names of types.
-use Rattle.std.proofs.Common.{◌≡◌, ◌≢◌, ℕ, zero, suc, ◌+◌, ◌-◌, ◌<◌, ◌≤◌, List, [], ◌∷◌, ◌++◌, length, Ok, Err, refl, sym, ap, ◌∙◌, subst, arith, append_assoc}
+use Rattle.std.proofs.Common.{◌≡◌, ◌≢◌, ℕ, suc, ◌+◌, ◌-◌, ◌<◌, ◌≤◌, [], ◌∷◌, ◌++◌, length, Ok, Err, refl, sym, ap, ◌∙◌, subst, arith, append_assoc}
 use Rattle.std.specs.Prelude.{codes}
 use Rattle.task_model.specs.Text.{Text}
 use Rattle.task_model.specs.Basic.{BasicTerm, unit_type, bool_type, int_type, text_type, pair_type, list_type}
@@ -8,13 +8,13 @@ use Rattle.exact_reading.specs.declared.stop.Stop.{Stop}
 use Rattle.exact_reading.specs.declared.stop.Stop.TheVariants.{Fault}
 use Rattle.exact_reading.specs.declared.stop.Kind.TheVariants.{Unexpected}
 use Rattle.exact_reading.specs.Reading.{Language, Begins, Alive, Always, Answer, Right, NoToken}
-use Rattle.exact_reading.proofs.Sequences.{Bind, Done, append_nil}
-use Rattle.exact_reading.proofs.Productions.{Follows, then_right, then_stop, done_right, by_production, same_language, same_answer, refused_first}
+use Rattle.exact_reading.proofs.Sequences.{Bind, Done}
+use Rattle.exact_reading.proofs.Productions.{Follows, then_right, then_stop, by_production, same_language, refused_first}
 use Rattle.exact_reading.proofs.Starts.{first_token}
 use Rattle.literal_text.specs.Literals.{spaces}
 use Rattle.literal_text.specs.Types.{Parse, unit, bool, int, text, pair, list, bytes, basic}
 use Rattle.literal_text.specs.Reads.{NoBlank, Word, TypeName, PairName, ListName}
-use Rattle.literal_text.proofs.LiteralLemmas.{apart, Marked, marked_are, marked_right, marked_stop, word_are, word_is, no_blank, done_follow}
+use Rattle.literal_text.proofs.LiteralLemmas.{Marked, marked_are, marked_right, marked_stop, word_are, word_is, no_blank}
 
 abbrev pub Measured : Type 0
 Measured = BasicTerm × ℕ

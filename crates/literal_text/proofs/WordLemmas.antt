@@ -1,11 +1,10 @@
 -- Words, brackets and the spaces behind them.
-use Rattle.std.proofs.Common.{◌≡◌, ◌≢◌, ℕ, zero, suc, List, [], ◌∷◌, ◌++◌, replicate, Ok, Err, refl, sym, ap, ◌∙◌, subst, append_assoc}
-use Rattle.std.proofs.lemmas.List.{append_cancel_left}
+use Rattle.std.proofs.Common.{◌≡◌, ℕ, zero, suc, [], ◌∷◌, ◌++◌, Ok, Err, refl, sym, ap, ◌∙◌}
 use Rattle.task_model.specs.Text.{Text}
 use Rattle.exact_reading.specs.declared.stop.Stop.{Stop}
-use Rattle.exact_reading.specs.Reading.{Language, Begins, Alive, Always, Answer, Right, Tok, Run, Anything, NoToken}
-use Rattle.exact_reading.proofs.Sequences.{Bind, Done, append_nil}
-use Rattle.exact_reading.proofs.Productions.{Follows, then_right, then_stop, done_right, same_language, at_tokens}
+use Rattle.exact_reading.specs.Reading.{Begins, Alive, Always, Answer, Right, Run, Anything}
+use Rattle.exact_reading.proofs.Sequences.{Bind, append_nil}
+use Rattle.exact_reading.proofs.Productions.{then_right, then_stop, same_language, at_tokens}
 use Rattle.literal_text.specs.Literals.{spaces}
 use Rattle.literal_text.specs.Reads.{NoBlank, Gap, Word}
 

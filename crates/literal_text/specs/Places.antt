@@ -4,7 +4,6 @@ use Rattle.task_model.specs.Text.{Text}
 use Rattle.exact_reading.specs.declared.stop.Kind.TheVariants.{Unexpected}
 use Rattle.exact_reading.specs.Reading.{Language, Always}
 use Rattle.exact_reading.specs.Whole.{IsFirstFault}
-use Rattle.literal_text.specs.declared.stop.BadLiteral.{BadLiteral}
 use Rattle.literal_text.specs.declared.stop.LiteralStop.{LiteralStop}
 use Rattle.literal_text.specs.declared.stop.LiteralStop.TheVariants.{Bad, Memory}
 

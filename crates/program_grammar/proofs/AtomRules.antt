@@ -1,19 +1,14 @@
 -- Atoms that begin alike: a name alone and a call; unit, a group and a pair.
-use Rattle.std.proofs.Common.{◌⊎◌, inl, inr, ◌≡◌, ℕ, suc, ◌+◌, ◌-◌, ◌≤◌, ◌<◌, max, Bool, true, false, List, [], ◌∷◌, ◌++◌, length, Ok, Err, refl, sym, ap, ◌∙◌, subst, arith, append_assoc}
+use Rattle.std.proofs.Common.{◌⊎◌, inl, inr, ◌≡◌, ℕ, suc, ◌+◌, ◌-◌, ◌≤◌, max, true, List, [], ◌∷◌, ◌++◌, Ok, Err, refl, sym, ap, ◌∙◌, subst, arith, append_assoc}
 use Rattle.task_model.specs.Text.{Text}
-use Rattle.task_syntax.specs.declared.keyword.Keyword.{Keyword}
-use Rattle.task_syntax.specs.declared.keyword.Keyword.TheVariants as words
-use Rattle.task_syntax.specs.declared.symbol.Symbol.{Symbol}
 use Rattle.task_syntax.specs.declared.symbol.Symbol.TheVariants as signs
 use Rattle.exact_reading.specs.declared.stop.Stop.{Stop}
-use Rattle.exact_reading.specs.declared.stop.Stop.TheVariants.{Fault}
-use Rattle.exact_reading.specs.declared.stop.Kind.TheVariants.{Unexpected, TooNested}
-use Rattle.exact_reading.specs.Reading.{Language, Within, Begins, Alive, Always, Anything, Answer, Right, Tok}
-use Rattle.program_grammar.specs.Lexemes.{Lexeme, word, sign, name, number, quote}
-use Rattle.program_grammar.specs.Grammar.{Form, expression, atom, series, enclosed, Listing, arguments, list, Parse, truth, digits, quoted, constant, nothing, named, content, call, group, pair, elements, nil, empty, full, tokens, levels}
-use Rattle.program_grammar.specs.Languages.{Of, Stops, stops_at, rank, reach}
+use Rattle.exact_reading.specs.Reading.{Language, Within, Begins, Answer, Right}
+use Rattle.program_grammar.specs.Lexemes.{Lexeme, sign, name}
+use Rattle.program_grammar.specs.Grammar.{expression, atom, enclosed, Listing, arguments, Parse, digits, quoted, constant, nothing, named, content, call, group, pair, elements, nil, empty, full, tokens, levels}
+use Rattle.program_grammar.specs.Languages.{Of, Stops, stops_at}
 use Rattle.exact_reading.proofs.Sequences.{Bind, append_nil, begins_shorter}
-use Rattle.exact_reading.proofs.Productions.{Least, Follows, bind_right, bind_stop, by_production, tok_right, least_alive, least_ever}
+use Rattle.exact_reading.proofs.Productions.{Least, bind_right, bind_stop, by_production, tok_right, least_alive, least_ever}
 use Rattle.exact_reading.proofs.Peeking.{peeked}
 use Rattle.exact_reading.proofs.Starts.{After, after_right}
 use Rattle.exact_reading.proofs.Symbols.{Sym, one, part, Values, Led, Seq, Sequence, size_above, least_seq, open_up}

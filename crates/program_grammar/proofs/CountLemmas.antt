@@ -1,5 +1,5 @@
 -- A fault's place, by the tokens of the code.
-use Rattle.std.proofs.Common.{◌≡◌, ℕ, List, length, Err, sym, subst}
+use Rattle.std.proofs.Common.{List, length, Err, subst}
 use Rattle.std.proofs.lemmas.List.{length-map}
 use Rattle.exact_reading.specs.declared.stop.Kind.{Kind}
 use Rattle.exact_reading.specs.declared.stop.Stop.TheVariants.{Fault}

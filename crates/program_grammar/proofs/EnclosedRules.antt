@@ -1,18 +1,11 @@
 -- Listings in parentheses.
-use Rattle.std.proofs.Common.{◌≡◌, ℕ, zero, suc, ◌+◌, ◌-◌, ◌≤◌, ◌<◌, max, Bool, true, false, List, [], ◌∷◌, ◌++◌, length, Ok, Err, refl, sym, ap, ◌∙◌, subst, arith, append_assoc}
-use Rattle.task_model.specs.Text.{Text}
-use Rattle.task_syntax.specs.declared.keyword.Keyword.{Keyword}
-use Rattle.task_syntax.specs.declared.keyword.Keyword.TheVariants as words
-use Rattle.task_syntax.specs.declared.symbol.Symbol.{Symbol}
+use Rattle.std.proofs.Common.{◌≡◌, ℕ, ◌+◌, max, true, false, List, [], ◌∷◌, ◌++◌, Ok, refl, sym, ap, ◌∙◌, subst, arith, append_assoc}
 use Rattle.task_syntax.specs.declared.symbol.Symbol.TheVariants as signs
-use Rattle.exact_reading.specs.declared.stop.Stop.{Stop}
-use Rattle.exact_reading.specs.declared.stop.Stop.TheVariants.{Fault}
-use Rattle.exact_reading.specs.declared.stop.Kind.TheVariants.{Unexpected, TooNested}
-use Rattle.exact_reading.specs.Reading.{Language, Within, Begins, Alive, Always, Anything, Answer, Right, Tok}
-use Rattle.program_grammar.specs.Lexemes.{Lexeme, word, sign, name, number, quote}
-use Rattle.program_grammar.specs.Grammar.{Form, series, enclosed, Listing, parameters, arguments, list, Parse, empty, full, tokens, levels}
+use Rattle.exact_reading.specs.Reading.{Language, Within, Begins, Answer, Right}
+use Rattle.program_grammar.specs.Lexemes.{Lexeme, sign}
+use Rattle.program_grammar.specs.Grammar.{series, enclosed, Listing, parameters, arguments, list, Parse, empty, full, tokens, levels}
 use Rattle.program_grammar.specs.Languages.{Of, Stops}
-use Rattle.exact_reading.proofs.Sequences.{append_nil, begins_shorter}
+use Rattle.exact_reading.proofs.Sequences.{append_nil}
 use Rattle.exact_reading.proofs.Productions.{by_production}
 use Rattle.exact_reading.proofs.Starts.{After, after_right}
 use Rattle.exact_reading.proofs.Symbols.{Sym, one, part, Values, Seq, Sequence, open_up}

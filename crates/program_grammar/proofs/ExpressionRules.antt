@@ -1,21 +1,15 @@
 -- The productions of expressions.
-use Rattle.std.proofs.Common.{◌≡◌, ℕ, zero, suc, ◌+◌, ◌-◌, ◌≤◌, ◌<◌, max, Bool, true, false, List, [], ◌∷◌, ◌++◌, length, Ok, Err, refl, sym, ap, ◌∙◌, subst, arith, append_assoc, ◌⊎◌, inl, inr}
+use Rattle.std.proofs.Common.{◌≡◌, ℕ, Bool, true, false, List, [], ◌∷◌, refl, sym, ap, ◌∙◌, subst, arith, append_assoc, ◌⊎◌, inl, inr}
 use Rattle.task_model.specs.Text.{Text}
-use Rattle.task_syntax.specs.declared.keyword.Keyword.{Keyword}
 use Rattle.task_syntax.specs.declared.keyword.Keyword.TheVariants as words
 use Rattle.task_syntax.specs.declared.symbol.Symbol.{Symbol}
 use Rattle.task_syntax.specs.declared.symbol.Symbol.TheVariants as signs
-use Rattle.exact_reading.specs.declared.stop.Stop.{Stop}
-use Rattle.exact_reading.specs.declared.stop.Stop.TheVariants.{Fault}
-use Rattle.exact_reading.specs.declared.stop.Kind.TheVariants.{Unexpected, TooNested}
-use Rattle.exact_reading.specs.Reading.{Language, Within, Begins, Alive, Always, Anything, Answer, Right, Tok}
 use Rattle.program_grammar.specs.Lexemes.{Lexeme, word, sign, name, number, quote}
-use Rattle.program_grammar.specs.Grammar.{Form, basic, expression, comparison, listed, operand, atom, series, enclosed, Listing, parameters, arguments, Series, list, choice, chain, either, both, sum, product, Operator, comma, internal, external, together, or, and, plus, minus, join, times, quot, rem, operator, Relation, equal, unequal, less, less_equal, greater, greater_equal, relation, Prefix, negative, not, fst, snd, len, prefix, truth, Parse, let_in, if_then, case_of, plain, uncompared, compared, unlisted, cons, prefixed, unprefixed, digits, quoted, constant, nothing, named, content, call, group, pair, elements, nil, single, joined, empty, full, tokens, levels}
+use Rattle.program_grammar.specs.Grammar.{basic, expression, comparison, listed, operand, atom, series, arguments, Series, list, choice, either, sum, product, Operator, comma, internal, external, together, or, and, plus, minus, join, times, quot, rem, operator, Relation, equal, unequal, less, less_equal, greater, greater_equal, relation, Prefix, negative, not, fst, snd, len, prefix, truth, Parse, let_in, if_then, case_of, plain, uncompared, compared, unlisted, cons, prefixed, unprefixed, digits, quoted, constant, content, elements, nil, tokens}
 use Rattle.program_grammar.specs.Lexemes.{place_of}
-use Rattle.program_grammar.specs.Languages.{Of, Stops, stops_at, rank, reach}
-use Rattle.exact_reading.proofs.Productions.{refused_first}
+use Rattle.program_grammar.specs.Languages.{stops_at, rank}
 use Rattle.exact_reading.proofs.Symbols.{Sym, one, part, Values}
-use Rattle.program_grammar.proofs.GrammarLemmas.{grammar, head, begins_head, head_starts, starts, a_word, a_sign, a_name}
+use Rattle.program_grammar.proofs.GrammarLemmas.{grammar, head, head_starts, starts, a_word, a_sign, a_name}
 use Rattle.program_grammar.proofs.RuleLemmas.{Rule, tokens_of}
 use Rattle.program_grammar.proofs.SeriesLemmas.{Apart}
 use Rattle.program_grammar.proofs.PassingLemmas.{Passing}

@@ -1,5 +1,5 @@
 -- A list of tokens has at most one first fault, where its language has any word.
-use Rattle.std.proofs.Common.{◌⊎◌, inl, inr, ◌≡◌, ℕ, zero, suc, ◌+◌, ◌≤◌, ◌<◌, List, [], ◌∷◌, ◌++◌, length, refl, sym, ap, ◌∙◌, subst, arith, append_assoc}
+use Rattle.std.proofs.Common.{◌≡◌, ℕ, ◌<◌, List, [], ◌∷◌, ◌++◌, length, refl, sym, ap, ◌∙◌, subst, arith, append_assoc}
 use Rattle.exact_reading.specs.declared.stop.Kind.{Kind}
 use Rattle.exact_reading.specs.declared.stop.Kind.TheVariants.{Unexpected, TooNested}
 use Rattle.exact_reading.specs.Reading.{Language, Alive, Always}

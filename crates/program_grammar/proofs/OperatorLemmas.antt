@@ -1,5 +1,5 @@
 -- Operators that group to the left, as the loop over them goes on.
-use Rattle.std.proofs.Common.{◌≡◌, ℕ, zero, suc, ◌+◌, ◌-◌, ◌≤◌, ◌<◌, max, List, [], ◌∷◌, ◌++◌, length, Ok, Err, refl, sym, ap, ◌∙◌, subst, arith}
+use Rattle.std.proofs.Common.{◌≡◌, ℕ, ◌+◌, ◌-◌, ◌≤◌, ◌<◌, max, List, ◌∷◌, ◌++◌, length, Ok, Err, refl, sym, ap, ◌∙◌, arith}
 use Rattle.task_model.specs.Host.{HostTerm, op_expr}
 use Rattle.task_model.specs.declared.host.Op.{Op}
 use Rattle.exact_reading.specs.declared.stop.Stop.{Stop}
@@ -9,11 +9,10 @@ use Rattle.exact_reading.specs.Reading.{Within, Answer, Right}
 use Rattle.program_grammar.specs.Lexemes.{Lexeme}
 use Rattle.program_grammar.specs.declared.series.Level.{Level}
 use Rattle.program_grammar.specs.declared.series.Level.TheVariants as levels_of
-use Rattle.program_grammar.specs.Grammar.{Series, Form, series, Operator, or, and, plus, minus, join, times, quot, rem, operator, part_of, above, Parse, single, joined, levels}
-use Rattle.program_grammar.specs.Nodes.{start, places}
-use Rattle.program_grammar.specs.Languages.{Of, Stops, Reading, Reads}
+use Rattle.program_grammar.specs.Grammar.{series, Operator, or, and, plus, minus, join, times, quot, rem, operator, part_of, above, Parse, single, joined, levels}
+use Rattle.program_grammar.specs.Languages.{Of, Stops, Reads}
 use Rattle.program_grammar.specs.Parts.{series_of, IsOperation, Shown, shown, shown_series, shown_part}
-use Rattle.program_grammar.proofs.GrammarLemmas.{least, least_levels}
+use Rattle.program_grammar.proofs.GrammarLemmas.{least_levels}
 use Rattle.program_grammar.proofs.SeriesLemmas.{Tail, part_alive}
 use Rattle.program_grammar.proofs.SeriesLemmas as chains
 use Rattle.program_grammar.proofs.ExpressionRules.{operators_apart}

@@ -1,19 +1,19 @@
 -- Parses of a form that are another form, and then perhaps a token and more: comparisons, lists with one more element in front, and of
 -- the parses of tasks the steps.
-use Rattle.std.proofs.Common.{◌≡◌, ℕ, zero, suc, ◌+◌, ◌-◌, ◌≤◌, ◌<◌, max, Bool, true, false, List, [], ◌∷◌, ◌++◌, length, Ok, Err, refl, sym, ap, ◌∙◌, subst, arith, append_assoc}
+use Rattle.std.proofs.Common.{◌≡◌, ℕ, ◌+◌, ◌≤◌, ◌<◌, true, false, List, [], ◌∷◌, ◌++◌, length, Ok, Err, refl, sym, ap, ◌∙◌, subst, arith}
 use Rattle.exact_reading.specs.declared.stop.Stop.{Stop}
 use Rattle.exact_reading.specs.declared.stop.Stop.TheVariants.{Fault}
-use Rattle.exact_reading.specs.declared.stop.Kind.TheVariants.{Unexpected, TooNested}
-use Rattle.exact_reading.specs.Reading.{Language, Within, Begins, Alive, Always, Anything, Answer, Right, Tok}
+use Rattle.exact_reading.specs.declared.stop.Kind.TheVariants.{TooNested}
+use Rattle.exact_reading.specs.Reading.{Language, Within, Begins, Answer, Right, Tok}
 use Rattle.program_grammar.specs.Lexemes.{Lexeme}
 use Rattle.std.proofs.Common.{◌⊎◌, inl, inr}
 use Rattle.program_grammar.specs.Grammar.{Form, Parse, tokens, levels}
 use Rattle.program_grammar.specs.Languages.{Of, Stops, stops_at, rank, reach}
 use Rattle.exact_reading.proofs.Sequences.{Bind, Done, append_nil}
-use Rattle.exact_reading.proofs.Productions.{Least, Follows, least_done, least_bind, least_alive, least_ever, bind_right, bind_stop, by_production, same_language, done_right, tok_right, refused_deep, at_tokens}
+use Rattle.exact_reading.proofs.Productions.{Least, least_alive, least_ever, bind_right, bind_stop, by_production, same_language, done_right, tok_right, refused_deep, at_tokens}
 use Rattle.exact_reading.proofs.Symbols.{Sym, Values, Seq, Sequence, size, size_above, least_seq, open_up}
 use Rattle.program_grammar.proofs.GrammarLemmas.{grammar, stops_within}
-use Rattle.program_grammar.proofs.RuleLemmas.{tokens_of, most_of, Built, built, build_up}
+use Rattle.program_grammar.proofs.RuleLemmas.{tokens_of, most_of, built, build_up}
 
 pub record Optional (f g : Form) : Type 1 where
   -- which parses these are

@@ -1,7 +1,7 @@
 -- A form that is another one: the same tokens and the same levels.
-use Rattle.std.proofs.Common.{◌≡◌, ℕ, suc, ◌+◌, ◌≤◌, max, List, [], ◌∷◌, ◌++◌, Ok, Err, refl, sym, ap, ◌∙◌, subst, arith}
+use Rattle.std.proofs.Common.{◌≡◌, ℕ, ◌≤◌, List, [], ◌∷◌, ◌++◌, Ok, Err, refl, sym, ap, ◌∙◌, subst, arith}
 use Rattle.exact_reading.specs.declared.stop.Stop.{Stop}
-use Rattle.exact_reading.specs.Reading.{Language, Within, Begins, Answer, Right}
+use Rattle.exact_reading.specs.Reading.{Language, Within, Begins, Right}
 use Rattle.exact_reading.proofs.Sequences.{Bind, Done, append_nil}
 use Rattle.exact_reading.proofs.Productions.{Follows, least_done, least_alive, least_ever, bind_right, bind_stop, done_right, by_production}
 use Rattle.program_grammar.specs.Lexemes.{Lexeme}

@@ -1,18 +1,15 @@
 -- A source has at most one first fault, and none where it has a program.
-use Rattle.std.proofs.Common.{◌≡◌, ℕ, suc, ◌+◌, ◌≤◌, ◌<◌, List, [], ◌∷◌, length, take, refl, sym, ap, ◌∙◌, subst, arith}
-use Rattle.std.specs.Str.{IsUtf8}
+use Rattle.std.proofs.Common.{◌≡◌, ℕ, ◌+◌, List, [], ◌∷◌, length, refl, sym, ap, ◌∙◌, subst, arith}
 use Rattle.task_model.specs.Text.{Text}
 use Rattle.task_model.specs.Program.{ProgramTerm}
 use Rattle.task_model.specs.Token.{TokenTerm, Piece, blank, comment, lexeme, AreRight, tokens_from, HasTokens}
 use Rattle.task_syntax.proofs.OneReading as lexing
 use Rattle.exact_reading.specs.declared.stop.Kind.{Kind}
-use Rattle.exact_reading.specs.declared.stop.Kind.TheVariants as kinds
 use Rattle.exact_reading.specs.Reading.{Alive, Within}
 use Rattle.exact_reading.specs.Whole.{IsFirstFault}
 use Rattle.exact_reading.proofs.Whole.{no_word}
 use Rattle.program_grammar.specs.declared.stop.ReadKind.{ReadKind}
 use Rattle.program_grammar.specs.declared.stop.ReadKind.TheVariants.{TooLong, NotUtf8, Lex, Unexpected, TooNested}
-use Rattle.program_grammar.specs.Lexemes.{token_terms}
 use Rattle.program_grammar.specs.Grammar.{no_definitions, levels}
 use Rattle.program_grammar.specs.Meaning.{program_of}
 use Rattle.program_grammar.specs.ProgramText.{HasReading, IsProgramText}

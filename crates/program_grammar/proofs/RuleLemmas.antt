@@ -1,20 +1,14 @@
 -- A production of a node: its first token, and its symbols.
-use Rattle.std.proofs.Common.{◌≡◌, ℕ, zero, suc, ◌+◌, ◌-◌, ◌≤◌, ◌<◌, max, Bool, true, false, List, [], ◌∷◌, ◌++◌, length, Ok, Err, refl, sym, ap, ◌∙◌, subst, arith, append_assoc}
-use Rattle.task_model.specs.Text.{Text}
-use Rattle.task_syntax.specs.declared.keyword.Keyword.{Keyword}
-use Rattle.task_syntax.specs.declared.keyword.Keyword.TheVariants as words
-use Rattle.task_syntax.specs.declared.symbol.Symbol.{Symbol}
-use Rattle.task_syntax.specs.declared.symbol.Symbol.TheVariants as signs
-use Rattle.exact_reading.specs.declared.stop.Stop.{Stop}
+use Rattle.std.proofs.Common.{◌≡◌, ℕ, ◌+◌, ◌≤◌, ◌<◌, max, List, [], ◌∷◌, ◌++◌, length, Err, refl, sym, ap, ◌∙◌, subst}
 use Rattle.exact_reading.specs.declared.stop.Stop.TheVariants.{Fault}
-use Rattle.exact_reading.specs.declared.stop.Kind.TheVariants.{Unexpected, TooNested}
-use Rattle.exact_reading.specs.Reading.{Language, Within, Begins, Alive, Always, Anything, Answer, Right, Tok}
-use Rattle.program_grammar.specs.Lexemes.{Lexeme, word, sign, name, number, quote}
+use Rattle.exact_reading.specs.declared.stop.Kind.TheVariants.{TooNested}
+use Rattle.exact_reading.specs.Reading.{Within, Begins, Answer, Right}
+use Rattle.program_grammar.specs.Lexemes.{Lexeme}
 use Rattle.program_grammar.specs.Grammar.{Form, Parse, tokens, levels}
 use Rattle.program_grammar.specs.Languages.{Of, Stops}
-use Rattle.exact_reading.proofs.Sequences.{Bind, Done, append_nil}
-use Rattle.exact_reading.proofs.Symbols.{Forms, Sym, tok, one, part, One, Values, Seq, Sequence, size, Led, led_right, led_deep}
-use Rattle.program_grammar.proofs.GrammarLemmas.{grammar, Some, head, known_head, Class, Payload, class_token}
+use Rattle.exact_reading.proofs.Sequences.{append_nil}
+use Rattle.exact_reading.proofs.Symbols.{Sym, tok, one, part, Values, Seq, Sequence, size, Led, led_right, led_deep}
+use Rattle.program_grammar.proofs.GrammarLemmas.{grammar, Some, head, known_head, class_token}
 
 -- the tokens of symbols with these parts
 abbrev pub tokens_of : (s : List (Sym grammar)) → Values grammar s → List Lexeme

@@ -1,20 +1,15 @@
 -- A series: a part, and then an operator and the part again, as often as they come, grouped to the left.
-use Rattle.std.proofs.Common.{◌≡◌, ℕ, zero, suc, ◌+◌, ◌-◌, ◌≤◌, ◌<◌, max, Bool, true, false, List, [], ◌∷◌, ◌++◌, length, Ok, Err, refl, sym, ap, ◌∙◌, subst, arith, append_assoc}
-use Rattle.task_model.specs.Text.{Text}
-use Rattle.task_syntax.specs.declared.keyword.Keyword.{Keyword}
-use Rattle.task_syntax.specs.declared.keyword.Keyword.TheVariants as words
-use Rattle.task_syntax.specs.declared.symbol.Symbol.{Symbol}
-use Rattle.task_syntax.specs.declared.symbol.Symbol.TheVariants as signs
+use Rattle.std.proofs.Common.{◌≡◌, ℕ, ◌+◌, ◌≤◌, ◌<◌, max, true, false, List, [], ◌∷◌, ◌++◌, length, Ok, Err, refl, sym, ap, ◌∙◌, subst, arith, append_assoc}
 use Rattle.exact_reading.specs.declared.stop.Stop.{Stop}
 use Rattle.exact_reading.specs.declared.stop.Stop.TheVariants.{Fault}
-use Rattle.exact_reading.specs.declared.stop.Kind.TheVariants.{Unexpected, TooNested}
-use Rattle.exact_reading.specs.Reading.{Language, Within, Begins, Alive, Always, Anything, Answer, Right, Tok}
-use Rattle.program_grammar.specs.Lexemes.{Lexeme, word, sign, name, number, quote}
-use Rattle.program_grammar.specs.Grammar.{Listing, parameters, arguments, Series, list, choice, chain, either, both, sum, product, Form, series, Operator, comma, internal, external, together, or, and, plus, minus, join, times, quot, rem, operator, part_of, above, Parse, single, joined, tokens, levels}
+use Rattle.exact_reading.specs.declared.stop.Kind.TheVariants.{TooNested}
+use Rattle.exact_reading.specs.Reading.{Language, Within, Begins, Answer, Right, Tok}
+use Rattle.program_grammar.specs.Lexemes.{Lexeme}
+use Rattle.program_grammar.specs.Grammar.{parameters, arguments, Series, list, choice, chain, either, both, sum, product, series, Operator, comma, internal, external, together, or, and, plus, minus, join, times, quot, rem, operator, part_of, above, Parse, single, joined, tokens, levels}
 use Rattle.program_grammar.specs.Languages.{Of, Stops, stops_at, rank, reach}
 use Rattle.exact_reading.proofs.Sequences.{Bind, append_nil}
-use Rattle.exact_reading.proofs.Productions.{Least, Follows, least_bind, least_alive, least_ever, bind_right, bind_stop, by_production, same_language, tok_right, refused_deep, at_tokens}
-use Rattle.program_grammar.proofs.GrammarLemmas.{least, smallest, least_levels, stops_within}
+use Rattle.exact_reading.proofs.Productions.{Least, least_bind, least_alive, least_ever, bind_right, bind_stop, by_production, same_language, tok_right, refused_deep, at_tokens}
+use Rattle.program_grammar.proofs.GrammarLemmas.{least, smallest, stops_within}
 
 pub record Item (s : Series) : Type 0 where
   pub op : Operator s

@@ -1,15 +1,15 @@
 -- The productions of types.
-use Rattle.std.proofs.Common.{◌≡◌, ℕ, zero, suc, ◌+◌, ◌-◌, ◌≤◌, ◌<◌, max, List, [], ◌∷◌, ◌++◌, length, Ok, Err, refl, sym, ap, ◌∙◌, subst, arith, append_assoc}
+use Rattle.std.proofs.Common.{◌≡◌, ℕ, suc, ◌+◌, max, List, [], ◌∷◌, length, Err, refl, sym, ap, ◌∙◌, arith, append_assoc}
 use Rattle.task_syntax.specs.declared.keyword.Keyword.{Keyword}
 use Rattle.task_syntax.specs.declared.keyword.Keyword.TheVariants as words
 use Rattle.task_syntax.specs.declared.symbol.Symbol.TheVariants as signs
 use Rattle.exact_reading.specs.declared.stop.Stop.TheVariants.{Fault}
 use Rattle.exact_reading.specs.declared.stop.Kind.TheVariants.{Unexpected}
-use Rattle.exact_reading.specs.Reading.{Within, Begins, Right}
+use Rattle.exact_reading.specs.Reading.{Within, Right}
 use Rattle.exact_reading.proofs.Productions.{refused_first}
 use Rattle.exact_reading.proofs.Symbols.{Sym, one, part, Values}
 use Rattle.program_grammar.specs.Lexemes.{Lexeme, word, sign}
-use Rattle.program_grammar.specs.Grammar.{Form, basic, Scalar, unit, bool, int, text, scalar, Parse, scalar_type, pair_type, list_type, tokens, levels}
+use Rattle.program_grammar.specs.Grammar.{basic, Scalar, unit, bool, int, text, scalar, Parse, scalar_type, pair_type, list_type, tokens, levels}
 use Rattle.task_model.specs.Basic.{BasicTerm}
 use Rattle.task_model.specs.Basic as types
 use Rattle.program_grammar.specs.Languages.{Of, Stops}

@@ -7,7 +7,7 @@ use Rattle.task_model.specs.Token.{TokenTerm, HasTokens, Spells, IsWithinLimits}
 use Rattle.task_syntax.specs.Fault.{HasFault}
 use Rattle.exact_reading.specs.declared.stop.Kind.{Kind}
 use Rattle.exact_reading.specs.declared.stop.Kind.TheVariants as kinds
-use Rattle.exact_reading.specs.Reading.{Language, Within}
+use Rattle.exact_reading.specs.Reading.{Within}
 use Rattle.exact_reading.specs.Whole.{IsFirstFault}
 use Rattle.program_grammar.specs.declared.stop.ReadKind.{ReadKind}
 use Rattle.program_grammar.specs.declared.stop.ReadKind.TheVariants.{TooLong, NotUtf8, Lex, Unexpected, TooNested}

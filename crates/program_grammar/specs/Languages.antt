@@ -1,5 +1,5 @@
 -- What the readers inside read: each form of the grammar as a language, and what may follow it.
-use Rattle.std.specs.Prelude.{◌≡◌, ℕ, zero, suc, nat_lt, Bool, true, List, [], ◌∷◌, map, Result, Ok, Err}
+use Rattle.std.specs.Prelude.{◌≡◌, ℕ, zero, suc, nat_lt, Bool, true, List, [], ◌∷◌, Result, Ok, Err}
 use Rattle.task_model.specs.Text.{Text}
 use Rattle.task_syntax.specs.declared.keyword.Keyword.{Keyword}
 use Rattle.task_syntax.specs.declared.keyword.Keyword.TheVariants as words
@@ -8,7 +8,7 @@ use Rattle.task_syntax.specs.declared.symbol.Symbol.TheVariants as signs
 use Rattle.exact_reading.specs.declared.stop.Stop.{Stop}
 use Rattle.exact_reading.specs.Reading.{Language, Within, Right}
 use Rattle.program_grammar.specs.Lexemes.{Lexeme, word, sign, name, number, quote}
-use Rattle.program_grammar.specs.Grammar.{Listing, parameters, arguments, Series, list, choice, chain, either, both, sum, product, Form, program, definition, parameter, basic, task, task_atom, expression, comparison, listed, operand, atom, series, enclosed, Operator, comma, internal, external, together, or, and, plus, minus, join, times, quot, rem, Relation, equal, unequal, less, less_equal, greater, greater_equal, Prefix, negative, not, fst, snd, len, Step, by_itself, by_user, Scalar, unit, bool, int, text, Parse, no_definitions, more_definitions, function, task_named, value_named, reference_named, scalar_type, pair_type, list_type, task_let, task_if, task_case, task_new, task_put, task_plain, task_step, task_edit, task_enter, task_share, task_fail, task_call, task_group, let_in, if_then, case_of, plain, uncompared, compared, unlisted, cons, prefixed, unprefixed, digits, quoted, constant, nothing, named, content, call, group, pair, elements, nil, single, joined, empty, full, tokens, levels}
+use Rattle.program_grammar.specs.Grammar.{list, choice, chain, either, both, sum, product, Form, program, definition, parameter, basic, task, task_atom, expression, comparison, listed, operand, atom, series, enclosed, Parse, tokens, levels}
 
 -- ---- forms
 -- the tokens of a parse stand for it; it comes with its levels

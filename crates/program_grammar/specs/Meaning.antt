@@ -1,5 +1,5 @@
 -- What parses stand for (docs/LANGUAGE.md, "Expressions", "Tasks", "Bodies").
-use Rattle.std.specs.Prelude.{ℕ, pos, suc, ◌+◌, Bool, Option, None, Some, List, [], ◌∷◌, ◌++◌, map}
+use Rattle.std.specs.Prelude.{ℕ, pos, suc, ◌+◌, None, Some, List, [], ◌∷◌, ◌++◌, map}
 use Rattle.task_model.specs.Text.{Text}
 use Rattle.task_model.specs.Token.{number_from}
 use Rattle.task_model.specs.Basic.{BasicTerm}
@@ -11,7 +11,7 @@ use Rattle.task_model.specs.declared.host.Op.TheVariants as ops
 use Rattle.task_model.specs.Task.{TaskTerm, BodyTerm}
 use Rattle.task_model.specs.Task as tasks
 use Rattle.task_model.specs.Program.{ParamTerm, DefTerm, ProgramTerm, plain_kind, ref_kind, fun_body, task_body}
-use Rattle.program_grammar.specs.Grammar.{Listing, parameters, arguments, Series, list, choice, chain, either, both, sum, product, Form, program, definition, parameter, basic, task, task_atom, expression, comparison, listed, operand, atom, series, enclosed, Operator, comma, internal, external, together, or, and, plus, minus, join, times, quot, rem, Relation, equal, unequal, less, less_equal, greater, greater_equal, Prefix, negative, not, fst, snd, len, Step, by_itself, by_user, Scalar, unit, bool, int, text, Parse, no_definitions, more_definitions, function, task_named, value_named, reference_named, scalar_type, pair_type, list_type, task_let, task_if, task_case, task_new, task_put, task_plain, task_step, task_edit, task_enter, task_share, task_fail, task_call, task_group, let_in, if_then, case_of, plain, uncompared, compared, unlisted, cons, prefixed, unprefixed, digits, quoted, constant, nothing, named, content, call, group, pair, elements, nil, single, joined, empty, full}
+use Rattle.program_grammar.specs.Grammar.{Listing, parameters, arguments, list, choice, chain, either, both, sum, product, Form, program, definition, parameter, basic, task, task_atom, expression, comparison, listed, operand, atom, series, enclosed, internal, external, or, and, plus, minus, join, times, quot, rem, Relation, equal, unequal, less, less_equal, greater, greater_equal, Prefix, negative, not, fst, snd, len, Step, by_itself, by_user, Scalar, unit, bool, int, text, Parse, no_definitions, more_definitions, function, task_named, value_named, reference_named, scalar_type, pair_type, list_type, task_let, task_if, task_case, task_new, task_put, task_plain, task_step, task_edit, task_enter, task_share, task_fail, task_call, task_group, let_in, if_then, case_of, plain, uncompared, compared, unlisted, cons, prefixed, unprefixed, digits, quoted, constant, nothing, named, content, call, group, pair, elements, nil, single, joined, empty, full}
 
 -- ---- bodies
 -- how many bodies a parse has: the right side of a step, and both sides of `<?>`

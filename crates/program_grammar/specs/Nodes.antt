@@ -1,6 +1,6 @@
 -- The nodes of a parse and their places (docs/LANGUAGE.md, "Nodes and places").
 use Rattle.std.specs.Prelude.{ℕ, List, [], ◌∷◌, ◌++◌}
-use Rattle.program_grammar.specs.Grammar.{Listing, parameters, arguments, Series, list, choice, chain, either, both, sum, product, Form, program, definition, parameter, basic, task, task_atom, expression, comparison, listed, operand, atom, series, enclosed, Operator, comma, internal, external, together, or, and, plus, minus, join, times, quot, rem, Relation, equal, unequal, less, less_equal, greater, greater_equal, Prefix, negative, not, fst, snd, len, Step, by_itself, by_user, Scalar, unit, bool, int, text, Parse, no_definitions, more_definitions, function, task_named, value_named, reference_named, scalar_type, pair_type, list_type, task_let, task_if, task_case, task_new, task_put, task_plain, task_step, task_edit, task_enter, task_share, task_fail, task_call, task_group, let_in, if_then, case_of, plain, uncompared, compared, unlisted, cons, prefixed, unprefixed, digits, quoted, constant, nothing, named, content, call, group, pair, elements, nil, single, joined, empty, full}
+use Rattle.program_grammar.specs.Grammar.{list, choice, chain, either, both, sum, product, Form, Parse, no_definitions, more_definitions, function, task_named, value_named, reference_named, scalar_type, pair_type, list_type, task_let, task_if, task_case, task_new, task_put, task_plain, task_step, task_edit, task_enter, task_share, task_fail, task_call, task_group, let_in, if_then, case_of, plain, uncompared, compared, unlisted, cons, prefixed, unprefixed, digits, quoted, constant, nothing, named, content, call, group, pair, elements, nil, single, joined, empty, full}
 
 -- the place of the first token of a parse; the text of no definitions has none
 abbrev pub start : {f : Form} → Parse f → ℕ

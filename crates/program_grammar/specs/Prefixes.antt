@@ -1,6 +1,4 @@
 -- Operators before an operand, and comparisons, as the grammar's.
-use Rattle.std.specs.Prelude.{◌≡◌}
-use Rattle.task_model.specs.declared.host.Op.{Op}
 use Rattle.program_grammar.specs.declared.prefixes.Prefix.{Prefix}
 use Rattle.program_grammar.specs.declared.prefixes.Prefix.TheVariants as codes
 use Rattle.program_grammar.specs.Grammar as grammar

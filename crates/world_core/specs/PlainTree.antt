@@ -1,6 +1,6 @@
 -- Plain tasks and trees at work: numbers, environments without names, and the nodes that paths lead to.
 use Rattle.std.specs.Prelude.{◌≡◌, ℕ, suc, ◌+◌, ◌≤◌, List, [], ◌∷◌, length, replicate, Option, Some, None}
-use Rattle.task_model.specs.Basic.{BasicTerm, int_type, pair_type}
+use Rattle.task_model.specs.Basic.{BasicTerm, int_type}
 use Rattle.task_model.specs.Value.{ValueTerm, int_value}
 use Rattle.task_model.specs.Env.{EnvTerm}
 use Rattle.task_model.specs.Host.{HostTerm, int_expr}

@@ -1,4 +1,4 @@
-use Rattle.std.proofs.Common.{◌≤◌, ◌<◌, ◌≡◌, ◌+◌, ◌-◌, ◌*◌, ap, sym, subst, arith}
+use Rattle.std.proofs.Common.{arith}
 use Rattle.literal_text.proofs.IntLemmas.{number_first, digits_more, digits_over, digits_end, no_number, within_limit, over_limit}
 use Rattle.literal_text.proofs.ints.number.Goals as goal
 

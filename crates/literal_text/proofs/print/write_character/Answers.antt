@@ -1,4 +1,3 @@
-use Rattle.std.specs.Prelude.{encode_utf8, string_bytes}
 use Rattle.std.proofs.Common.{◌≤◌, ◌≢◌, arith}
 use Rattle.literal_text.proofs.PrintLemmas.{escaped_raw}
 use Rattle.literal_text.proofs.print.write_character.Goals as goal

@@ -2,7 +2,7 @@ use Rattle.std.proofs.Common.{sym, subst, ap, refl}
 use Rattle.exact_reading.proofs.Whole.{whole_only, trailing, refused, always_unexpected, no_word}
 use Rattle.literal_text.specs.Types.{IsTypeName}
 use Rattle.literal_text.specs.Places.{IsStopAt}
-use Rattle.literal_text.proofs.ReadLemmas.{nothing_blank, is_empty, not_empty, read_named, named_fault}
+use Rattle.literal_text.proofs.ReadLemmas.{nothing_blank, not_empty, read_named, named_fault}
 use Rattle.literal_text.proofs.read.read_basic.Goals as goal
 
 pub returns-then-is_empty-clause-only : goal.returns-then-is_empty-clause-only

@@ -2,7 +2,7 @@ use Rattle.std.proofs.Common.{sym, subst}
 use Rattle.exact_reading.proofs.Whole.{whole_only, trailing, refused, always_unexpected, no_word}
 use Rattle.literal_text.specs.Places.{IsStopAt}
 use Rattle.literal_text.specs.Reads.{Whole, want_of}
-use Rattle.literal_text.proofs.ReadLemmas.{nothing_ends, is_empty, not_empty, read_whole}
+use Rattle.literal_text.proofs.ReadLemmas.{nothing_ends, not_empty, read_whole}
 use Rattle.literal_text.proofs.read.whole.Goals as goal
 
 pub returns-then-is_empty-clause-only : goal.returns-then-is_empty-clause-only

@@ -1,10 +1,7 @@
 use Rattle.std.specs.Prelude.{string_bytes, encode_utf8}
 use Rattle.std.specs.String.{string_len}
-use Rattle.std.proofs.Common.{◌≡◌, ◌≤◌, ◌-◌, ◌<◌, ◌++◌, length, length-append, String, ap, sym, ◌∙◌, subst, arith, rules}
+use Rattle.std.proofs.Common.{◌≡◌, ◌-◌, ◌++◌, length, length-append, String, ap, ◌∙◌, arith, rules}
 use Rattle.std.proofs.lemmas.Result.{err_from_is_err_and}
-use Rattle.exact_reading.specs.Reading.{Right, Always, Anything}
-use Rattle.exact_reading.proofs.Productions.{same_answer}
-use Rattle.literal_text.specs.Reads.{Part, Content}
 use Rattle.literal_text.proofs.ContentLemmas.{content_end, content_more, content_stop, part_shorter}
 use Rattle.literal_text.proofs.texts.content.Goals as goal
 

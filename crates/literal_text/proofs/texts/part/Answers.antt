@@ -1,4 +1,4 @@
-use Rattle.std.proofs.Common.{◌≡◌, true, false, ◌∷◌, ◌≤◌, ◌∙◌, sym, ap, arith}
+use Rattle.std.proofs.Common.{◌≡◌, true, false, ◌∷◌, ◌∙◌, sym, ap, arith}
 use Rattle.literal_text.proofs.EscapeLemmas.{part_none, part_full, part_escaped, part_plain, part_wide}
 use Rattle.literal_text.proofs.texts.part.Goals as goal
 

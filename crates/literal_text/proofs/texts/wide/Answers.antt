@@ -1,4 +1,4 @@
-use Rattle.std.proofs.Common.{◌≡◌, ◌≢◌, ◌∷◌, ◌≤◌, ◌<◌, [], ◌∙◌, sym, ap, subst, arith}
+use Rattle.std.proofs.Common.{◌≡◌, ◌≢◌, ◌∷◌, [], ◌∙◌, sym, ap, arith}
 use Rattle.literal_text.specs.Reads.{width_of}
 use Rattle.literal_text.proofs.TextLemmas.{wide_none, wide_two, wide_three, wide_four, no_width}
 use Rattle.literal_text.proofs.texts.wide.Goals as goal

@@ -1,14 +1,14 @@
-use Rattle.std.proofs.Common.{◌≡◌, ℕ, suc, ◌+◌, ◌-◌, ◌≤◌, ◌<◌, List, [], ◌∷◌, ◌++◌, length, map, length-append, true, false, Option, Some, inl, inr, refl, sym, ap, ◌∙◌, subst, arith}
+use Rattle.std.proofs.Common.{◌≡◌, ℕ, ◌≤◌, ◌<◌, List, [], ◌∷◌, ◌++◌, length, map, length-append, true, false, Option, Some, inl, inr, refl, sym, ap, ◌∙◌, subst, arith}
 use Rattle.std.proofs.lemmas.Result.{err_from_is_err_and}
 use Rattle.std.proofs.lemmas.List.{length-map}
 use Rattle.task_model.specs.Text.{Text}
 use Rattle.task_model.specs.Basic.{BasicTerm, basic_term, pair_type, list_type}
-use Rattle.task_model.specs.Value.{ValueTerm, value_term, pair_value, list_value, as_values}
+use Rattle.task_model.specs.Value.{ValueTerm, value_term, pair_value}
 use Rattle.task_model.specs.declared.value.Value as value_type
 use Rattle.task_model.proofs.RowLemmas.{value_term-List}
 use Rattle.exact_reading.specs.Reading.{Right, Answer, Always}
 use Rattle.exact_reading.proofs.Productions.{same_answer}
-use Rattle.literal_text.specs.Reads.{want_of, fewest, NoBlank, Ends, Lit, Further, Elements}
+use Rattle.literal_text.specs.Reads.{want_of, fewest, NoBlank, Ends, Lit, Further}
 use Rattle.literal_text.proofs.LiteralLemmas as literals
 use Rattle.literal_text.proofs.ListLemmas as lists
 use Rattle.literal_text.proofs.ChoiceLemmas as choices

@@ -1,7 +1,7 @@
-use Rattle.std.proofs.Common.{◌≡◌, ℕ, ◌+◌, ◌-◌, ◌≤◌, ◌<◌, max, refl, sym, ap, ◌∙◌, arith}
+use Rattle.std.proofs.Common.{◌≡◌, ◌+◌, ◌-◌, ◌≤◌, refl, sym, ap, arith}
 use Rattle.std.proofs.lemmas.Result.{err_from_is_err_and}
 use Rattle.task_model.specs.Basic.{basic_term}
-use Rattle.program_grammar.specs.Grammar.{scalar_type, pair_type, list_type}
+use Rattle.program_grammar.specs.Grammar.{scalar_type}
 use Rattle.exact_reading.proofs.Symbols.{seq_one, seq_one_stop, seq_part, seq_part_stop, seq_done}
 use Rattle.program_grammar.proofs.GrammarLemmas.{grammar}
 use Rattle.program_grammar.proofs.CountLemmas.{counted}
