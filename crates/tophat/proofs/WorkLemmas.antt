@@ -12,12 +12,13 @@ use Rattle.line_frame.specs.Told.{Comes}
 use Rattle.line_frame.specs.Drove.{Drove, IsTold}
 use Rattle.line_frame.specs.Script.{whole_of, cut_of}
 use Rattle.line_frame.specs.declared.finish.Finish.{Finish}
-use Rattle.line_frame.specs.declared.finish.Finish.TheVariants.{Refused, Usage, OverBudget, FileFault, ReadFault, WriteFault, FileTooLong}
+use Rattle.line_frame.specs.declared.finish.Finish.TheVariants.{Refused, Usage, OverBudget, FileFault, ReadFault, WriteFault, Absent, FileTooLong, Memory}
 use Rattle.line_frame.proofs.ScriptLemmas.{is_within, is_over}
 use Rattle.outer_io.specs.Causes.{Rose}
 use Rattle.outer_io.specs.Files.{Found}
 use Rattle.outer_io.specs.Sink.{Wrote}
 use Rattle.outer_io.specs.declared.files.FileAnswer.TheVariants.{Bytes, TooLong}
+use Rattle.outer_io.specs.declared.files.FileAnswer.TheVariants as answers
 use Rattle.outer_io.specs.declared.sink.Written.{Written}
 use Rattle.outer_io.specs.declared.sink.Written.TheVariants.{Whole, Failed}
 use Rattle.task_model.specs.Rowed.{Rowed}
@@ -33,7 +34,8 @@ use Rattle.program_grammar.specs.declared.stop.ReadKind.{ReadKind}
 use Rattle.program_grammar.proofs.ReadingLemmas.{fault_once, fault_apart}
 use Rattle.line_frame.specs.declared.refusal.Refusal.TheVariants.{Read, NotBuilt}
 use Rattle.task_reader.specs.Built.{IsBuilt}
-use Rattle.tophat.specs.Reading.{Reading, accepted, refused}
+use Rattle.program_grammar.specs.declared.stop.ReadKind.TheVariants as reads
+use Rattle.tophat.specs.Reading.{Reading, accepted, refused, IsReadable}
 use Rattle.tophat.specs.Ending.{status_of}
 use Rattle.tophat.specs.Session.{tells_from}
 use Rattle.tophat.specs.Top.{Limits, world_at, ends, by_opening, by_program, by_file}
@@ -42,7 +44,7 @@ use Rattle.tophat.specs.Words.{begins_with_minus, file_of, name_of}
 use Rattle.task_model.specs.Text.{same_text}
 use Rattle.std.proofs.Common.{Bool, true, false}
 use Rattle.std.specs.Prelude.{codes}
-use Rattle.tophat.specs.Worked.{IsFile, OpensBytes, OpensRead, Opening, Worked}
+use Rattle.tophat.specs.Worked.{IsFile, OpensBytes, OpensRead, Opening, Worked, IsReadableAt, IsReadableAfter}
 use Rattle.tophat.specs.Worked.{Opens as WorldOpens}
 
 -- ---- openings
@@ -97,6 +99,22 @@ unbuilt_refused budget p places place h = (
 pub plain_opens : (budget : ℕ) (p : ProgramTerm) (places : List ℕ) (result : Result SeenWorld Finish) → IsPlain p → WorldOpens (by_program budget (accepted p)) result → OpensRead budget p places result
 plain_opens budget p places result plain o = (λ h. o, λ place h. absurd (h.0 plain))
 
+-- ---- readings
+pub readable_at : (file : Option Text) (finish : Finish) → IsReadable file → IsReadableAt finish file
+readable_at file Usage r = tt
+readable_at file FileFault r = tt
+readable_at file Memory r = tt
+readable_at file finish r = r
+
+pub readable_after : (file : Option Text) (result : Result SeenWorld Finish) → IsReadable file → IsReadableAfter result file
+readable_after file (Ok w) r = r
+readable_after file (Err finish) r = readable_at file finish r
+
+-- a program that the bytes have is plain, or has a first node that isn't built
+pub readable_program : (bytes : Text) (p : ProgramTerm) (places : List ℕ) → IsProgramText bytes p places → IsPlain p ⊎ ((place : ℕ) × IsBuilt p places (Some place)) → IsReadable (Some bytes)
+readable_program bytes p places h (inl plain) = (accepted p, (places, h, plain))
+readable_program bytes p places h (inr (place, unbuilt)) = (refused place NotBuilt, (p, places, h, unbuilt))
+
 -- ---- files
 -- a file that is known, or any
 pub known_file : (holds : Option (Option Text)) → (file : Option Text) × IsFile holds file
@@ -113,25 +131,36 @@ found_bytes None limit bytes f = tt
 found_bytes (Some known) limit bytes f = f
 
 -- bytes that were found within the limit
-pub opening_bytes : (l : Limits) (holds : Option (Option Text)) (bytes : Rowed ℕ) (result : Result SeenWorld Finish) → Found holds l.file (Bytes bytes) → length bytes.list ≤ l.file → OpensBytes l.budget bytes.list result → Opening l holds result
-opening_bytes l holds bytes result found le o = record {
+pub opening_bytes : (l : Limits) (holds : Option (Option Text)) (bytes : Rowed ℕ) (result : Result SeenWorld Finish) → Found holds l.file (Bytes bytes) → length bytes.list ≤ l.file → OpensBytes l.budget bytes.list result → IsReadableAfter result (Some bytes.list) → Opening l holds result
+opening_bytes l holds bytes result found le o readable = record {
   file = Some bytes.list;
   file_told = found_bytes holds l.file bytes found;
+  readable = readable;
   opens = λ reading h. subst (λ b. WorldOpens (λ told. if b then by_program l.budget reading told else ends FileTooLong) result) (sym (is_within (length bytes.list) l.file le)) (o reading h);
 }
 
 over_opens : (l : Limits) (bytes : Text) (reading : Reading) → l.file < length bytes → (told : WorldTerm → Told) → by_file l (Some bytes) reading told ≡ ends FileTooLong
 over_opens l bytes reading lt told = ap (λ b. if b then by_program l.budget reading told else ends FileTooLong) (is_over (length bytes) l.file lt)
 
-pub opening_over : (l : Limits) (holds : Option (Option Text)) → Found holds l.file TooLong → Opening l holds (Err FileTooLong)
-opening_over l None f =
+-- a file over the limit of programs is too long for one
+over_readable : (bytes : Text) → 1048576 < length bytes → IsReadable (Some bytes)
+over_readable bytes lt = (refused 1048576 (Read reads.TooLong), (lt, refl))
+
+pub opening_over : (l : Limits) (holds : Option (Option Text)) → 1048576 ≤ l.file → Found holds l.file TooLong → Opening l holds (Err FileTooLong)
+opening_over l None le f =
     let bytes : Text = replicate (l.file + 1) 0 in
-    record { file = Some bytes; file_told = tt; opens = λ reading h. over_opens l bytes reading (omega (arith, length-replicate {A = ℕ} (l.file + 1) 0)) }
-opening_over l (Some known) p = record { file = Some p.0; file_told = p.1; opens = λ reading h. over_opens l p.0 reading p.2 }
+    let long = length-replicate {A = ℕ} (l.file + 1) 0 in
+    record { file = Some bytes; file_told = tt; readable = over_readable bytes (omega (arith, long, le)); opens = λ reading h. over_opens l bytes reading (omega (arith, long)) }
+opening_over l (Some known) le p = record { file = Some p.0; file_told = p.1; readable = over_readable p.0 (let lt = p.2 in omega (arith, lt, le)); opens = λ reading h. over_opens l p.0 reading p.2 }
+
+-- there is no such file, and any reading is one of it
+pub opening_absent : (l : Limits) (holds : Option (Option Text)) → Found holds l.file answers.Absent → Opening l holds (Err Absent)
+opening_absent l None f = record { file = None; file_told = tt; readable = (refused 0 NotBuilt, tt); opens = λ reading h told. refl }
+opening_absent l (Some known) f = record { file = None; file_told = f; readable = (refused 0 NotBuilt, tt); opens = λ reading h told. refl }
 
 -- the first part of what is told, which is nothing
-pub opening_failed : (l : Limits) (holds : Option (Option Text)) (finish : Finish) → ((told : Told) → Comes told [] finish) → Opening l holds (Err finish)
-opening_failed l holds finish none = let k = known_file holds in record { file = k.0; file_told = k.1; opens = λ reading h told. none (by_file l k.0 reading told) }
+pub opening_failed : (l : Limits) (holds : Option (Option Text)) (finish : Finish) → ((told : Told) → Comes told [] finish) → ((file : Option Text) → IsReadableAt finish file) → Opening l holds (Err finish)
+opening_failed l holds finish none readable = let k = known_file holds in record { file = k.0; file_told = k.1; readable = readable k.0; opens = λ reading h told. none (by_file l k.0 reading told) }
 
 -- ---- runs
 -- the run ends before the script
@@ -148,6 +177,7 @@ worked_ended l name holds left out finish p other =
       begins = (s.0, refl);
       consumed = Consumes-nil left;
       took = Appends-nil out;
+      readable = p.readable;
       comes = λ reading h. p.opens reading h (λ w. whole_of (tells_from l.line w 1) l.script s.0);
       answered = λ reading h e. absurd (other e);
     }
@@ -165,6 +195,7 @@ worked_drove l name holds w left_old left_new taken_old taken_new finish p d = r
   begins = d.begins;
   consumed = d.consumed;
   took = d.took;
+  readable = readable_at p.file finish p.readable;
   comes = λ reading h. subst (λ t. Comes t d.written finish) (sym (p.opens reading h (λ w. whole_of (tells_from l.line w 1) l.script d.script))) d.comes;
   answered = λ reading h e. p.opens reading h (λ w. tells_from l.line w 1 (cut_of d.read).lines ReadFault) ∙ d.answered e;
 }
@@ -196,6 +227,7 @@ worked_usage l holds left out =
       begins = (s.0, refl);
       consumed = Consumes-nil left;
       took = Appends-nil out;
+      readable = tt;
       comes = λ reading h. refl;
       answered = λ reading h e. absurd (cc);
     }

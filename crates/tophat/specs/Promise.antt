@@ -4,7 +4,7 @@ use Rattle.outer_io.specs.Sink.{IsStart}
 use Rattle.task_model.specs.Text.{Text}
 use Rattle.line_frame.specs.Told.{Told}
 use Rattle.tophat.specs.Ending.{status_of}
-use Rattle.tophat.specs.Reading.{Reading, IsReadingOf}
+use Rattle.tophat.specs.Reading.{Reading, IsReadingOf, IsReadable}
 use Rattle.tophat.specs.Top.{Limits, top_text}
 
 -- the statuses of faults and of want of memory
@@ -17,8 +17,12 @@ WritesTold told before now status =
     ((status ≡ status_of told.finish) × (now ≡ Some (before ++ told.output)))
     ⊎ (IsCutShort status × ((part : Text) × IsStart part told.output × (now ≡ Some (before ++ part))))
 
--- Where file, script and what was taken before are told: by every reading of the file, that is written which is told by it.
+-- the file has a reading, unless the words are outside the grammar, a read failed, or memory ran out
+abbrev pub IsReadableBy : ℕ → Option Text → Type 0
+IsReadableBy status file = ((status ≡ 2) ⊎ ((status ≡ 5) ⊎ (status ≡ 8))) ⊎ IsReadable file
+
+-- Where file, script and what was taken before are told: the file has a reading, and by every reading of it that is written which is told by it.
 abbrev pub Promised : Limits → Option Text → Option (Option Text) → Option Text → Option Text → Option Text → ℕ → Type 0
 Promised l named (Some file) (Some script) (Some before) now status =
-    (reading : Reading) → IsReadingOf file reading → WritesTold (top_text l named file reading script) before now status
+    IsReadableBy status file × ((reading : Reading) → IsReadingOf file reading → WritesTold (top_text l named file reading script) before now status)
 Promised l named holds left taken now status = ⊤

@@ -25,3 +25,7 @@ IsReading bytes (refused place NotBuilt) = (p : ProgramTerm) × (places : List �
 abbrev pub IsReadingOf : Option Text → Reading → Type 0
 IsReadingOf None reading = Unit {0}
 IsReadingOf (Some bytes) reading = IsReading bytes reading
+
+-- the file has a reading
+abbrev pub IsReadable : Option Text → Type 0
+IsReadable file = (reading : Reading) × IsReadingOf file reading

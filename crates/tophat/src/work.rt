@@ -1,11 +1,12 @@
-ghost use Rattle.std.specs.Prelude.{◌≡◌, ◌<◌, Some, Err};
+ghost use Rattle.std.specs.Prelude.{◌≡◌, ◌<◌, ◌⊎◌, ℕ, Some, Err};
 ghost use Rattle.outer_io.specs.Causes.{Rose};
 ghost use Rattle.task_model.specs.Program.{program_term};
 ghost use Rattle.task_model.specs.Accepted.{IsPlain};
 ghost use Rattle.tophat.specs.Top.{limits, by_program};
 ghost use Rattle.tophat.specs.Words as grammar;
 ghost use Rattle.tophat.specs.Reading.{accepted};
-ghost use Rattle.tophat.specs.Worked.{Worked, Opens, OpensBytes, OpensRead, Opening};
+ghost use Rattle.task_reader.specs.Built.{IsBuilt};
+ghost use Rattle.tophat.specs.Worked.{Worked, Opens, OpensBytes, OpensRead, Opening, IsReadableAfter};
 
 use crate::check::check;
 use crate::runner::Runner;
@@ -95,6 +96,7 @@ fn open<F: Files, L: Ledger>(
 // Opens the program of these bytes.
 fn open_bytes<L: Ledger>(alloc: Global, bytes: &[u8], steps: &mut Steps<L>) -> Result<World, Finish>
     ensures opened { OpensBytes limits.budget bytes.now result }
+    ensures readable { IsReadableAfter result (Some bytes.now) }
     ensures file { result ≡ Err Finish.FileFault → ⊥ }
     ensures read { result ≡ Err Finish.ReadFault → ⊥ }
     ensures write { result ≡ Err Finish.WriteFault → ⊥ }
@@ -112,6 +114,7 @@ fn open_bytes<L: Ledger>(alloc: Global, bytes: &[u8], steps: &mut Steps<L>) -> R
 // Opens a program that was read, if it is plain.
 fn open_read<L: Ledger>(alloc: Global, read: Read, steps: &mut Steps<L>) -> Result<World, Finish>
     ensures opened { OpensRead limits.budget (program_term read.program) read.places.list result }
+    ensures decided { IsPlain (program_term read.program) ⊎ ((place : ℕ) × IsBuilt (program_term read.program) read.places.list (Some place)) }
     ensures file { result ≡ Err Finish.FileFault → ⊥ }
     ensures read { result ≡ Err Finish.ReadFault → ⊥ }
     ensures write { result ≡ Err Finish.WriteFault → ⊥ }
