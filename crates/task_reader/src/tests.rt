@@ -10,6 +10,7 @@ use task_syntax::{LexStop, Tokens, lex};
 mod deep;
 mod faults;
 mod levels;
+mod places;
 mod printing;
 
 /// The head of a function, in front of its expression: seven tokens.
