@@ -10,8 +10,6 @@ mod operators;
 mod print;
 mod printer;
 mod tasks;
-#[cfg(test)]
-mod tests;
 mod types;
 
 pub use laws::{parentheses_are_needed, read_is_written};

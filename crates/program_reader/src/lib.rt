@@ -12,8 +12,6 @@ mod read;
 mod scope;
 mod step;
 mod tasks;
-#[cfg(test)]
-mod tests;
 mod tokens;
 mod word_atoms;
 mod work;

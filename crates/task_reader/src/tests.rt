@@ -7,6 +7,7 @@ use std::process::Abort;
 use std::test::Fail;
 use task_syntax::{LexStop, Tokens, lex};
 
+mod bodies;
 mod deep;
 mod faults;
 mod levels;

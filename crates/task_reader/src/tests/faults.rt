@@ -1,9 +1,11 @@
 //! Where a text ends too early, and tokens in place of others.
 
 use super::{FUNCTION, TASK, assert_fault, assert_read, tokens};
-use program_grammar::ReadKind;
+use crate::read_program;
+use program_grammar::{ReadKind, ReadStop};
 use std::process::Abort;
 use std::test::Fail;
+use task_syntax::LexKind;
 
 type Cut = (&'static str, &'static str);
 
@@ -215,4 +217,28 @@ fn tokens_in_place_of_others(rt: HostRuntime) -> Result<(), Fail> {
         }
     }
     Ok(())
+}
+
+// The faults of a source before its grammar, by their bytes.
+#[test]
+fn sources_and_tokens(rt: HostRuntime) {
+    let table: [(&[u8], u64, ReadKind); 6] = [
+        (b"\xff", 0, ReadKind::NotUtf8),
+        (b"# \xc3\xa9\xc3", 4, ReadKind::NotUtf8),
+        (b"task @", 5, ReadKind::Lex(LexKind::BadChar)),
+        (b"task \"\\q", 6, ReadKind::Lex(LexKind::BadEscape)),
+        (b") \"", 2, ReadKind::Lex(LexKind::OpenText)),
+        (
+            b") 9223372036854775808",
+            2,
+            ReadKind::Lex(LexKind::WideNumber),
+        ),
+    ];
+    for (source, place, kind) in table {
+        assert_eq!(rt;
+            read_program(rt.alloc(), source).err(),
+            Some(ReadStop::Fault { place, kind }),
+            "{source:?}"
+        );
+    }
 }
