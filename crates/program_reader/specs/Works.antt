@@ -71,7 +71,7 @@ abbrev pub IsSign : Symbol → List Lexeme → Type 0
 IsSign s ts = (p : ℕ) × (rest : List Lexeme) × (ts ≡ sign s p ∷ rest)
 
 abbrev pub shown_work : Work → ShownWork
-shown_work w = record { term = task_term w.task; levels = w.levels; start = w.start; places = w.places.items; bodies = map body_term w.bodies.items }
+shown_work w = record { term = task_term w.task.value; levels = w.levels; start = w.start; places = w.places.items; bodies = map body_term w.bodies.items }
 
 -- ---- tasks from their parts
 abbrev pub leaf_work : TaskTerm → ℕ → ℕ → ShownWork

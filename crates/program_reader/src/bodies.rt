@@ -71,21 +71,25 @@ impl Work {
         bodies.push(Body {
             scope: left_scope,
             binder: None,
-            task,
+            task: Box::into_inner(task),
         })?;
         put_renumbered(&mut bodies, self.bodies)?;
         bodies.push(Body {
             scope: right_scope,
             binder: None,
-            task: right.task,
+            task: Box::into_inner(right.task),
         })?;
         let mut others = right.bodies;
         bodies.append(&mut others)?;
-        Ok(Work {
-            task: Task::Xor {
+        let task = Box::new(
+            alloc,
+            Task::Xor {
                 left: next,
                 right: other,
             },
+        )?;
+        Ok(Work {
+            task,
             levels,
             start,
             places,
@@ -138,14 +142,14 @@ impl Work {
         bodies.push(Body {
             scope: names,
             binder: Some(binder),
-            task: right.task,
+            task: Box::into_inner(right.task),
         })?;
         let mut others = right.bodies;
         bodies.append(&mut others)?;
-        let left = Box::new(alloc, self.task)?;
+        let left = self.task;
         let task = match step {
-            Step::ByItself => Task::Then { left, body },
-            Step::ByUser => Task::Next { left, body },
+            Step::ByItself => Box::new(alloc, Task::Then { left, body })?,
+            Step::ByUser => Box::new(alloc, Task::Next { left, body })?,
         };
         Ok(Work {
             task,

@@ -97,7 +97,7 @@ impl ReadDefinition {
     /// The definition of a task whose places stand with its body.
     fn titled(name: TaskText, params: Row<Param>, result_type: Basic, body: Work) -> ReadDefinition
         ensures { shown_definition result ≡ record {
-          def = record { name = name; params = map param_term params.list; result = basic_term result_type; what = task_body (task_term body.task) };
+          def = record { name = name; params = map param_term params.list; result = basic_term result_type; what = task_body (task_term body.task.value) };
           places = body.places.items;
           bodies = map body_term body.bodies.items;
         } }
@@ -107,7 +107,7 @@ impl ReadDefinition {
                 name,
                 params,
                 result: result_type,
-                what: DefBody::Task(body.task),
+                what: DefBody::Task(Box::into_inner(body.task)),
             },
             places: body.places,
             bodies: body.bodies,

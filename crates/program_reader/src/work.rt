@@ -9,11 +9,11 @@ use program_grammar::{Items, Measured, Node, joined, name_text, threefold};
 use std::alloc::Global;
 use task_model::{Body, Host, Task};
 
-/// A task that was read, its levels, the place of its first token, the places of its nodes in pre-order, and its bodies in the
-/// order in which their texts begin.
+/// A task that was read, in a box, so that it is cheap to move and to let go, its levels, the place of its first token, the places of its
+/// nodes in pre-order, and its bodies in the order in which their texts begin.
 #[derive(Drop)]
 pub(crate) struct Work {
-    pub(crate) task: Task,
+    pub(crate) task: Box<Task>,
     pub(crate) levels: usize,
     pub(crate) start: u64,
     pub(crate) places: Vec<u64>,
@@ -32,8 +32,9 @@ impl Work {
         let levels = 1 + value.levels;
         let mut places = value.places;
         places.insert(0, place)?;
+        let task = Box::new(alloc, Task::Edit(Box::into_inner(value.term)))?;
         Ok(Work {
-            task: Task::Edit(Box::into_inner(value.term)),
+            task,
             levels,
             start: place,
             places,
@@ -50,8 +51,9 @@ impl Work {
         let levels = 1 + item.levels;
         let mut places = Vec::new(alloc);
         places.push(place)?;
+        let task = Box::new(alloc, Task::Enter(item.basic))?;
         Ok(Work {
-            task: Task::Enter(item.basic),
+            task,
             levels,
             start: place,
             places,
@@ -68,8 +70,9 @@ impl Work {
         let levels = 1 + item.levels;
         let mut places = Vec::new(alloc);
         places.push(place)?;
+        let task = Box::new(alloc, Task::Fail(item.basic))?;
         Ok(Work {
-            task: Task::Fail(item.basic),
+            task,
             levels,
             start: place,
             places,
@@ -85,8 +88,9 @@ impl Work {
         let name = name_text(alloc, name)?;
         let mut places = Vec::new(alloc);
         places.push(place)?;
+        let task = Box::new(alloc, Task::Share(name))?;
         Ok(Work {
-            task: Task::Share(name),
+            task,
             levels: 1,
             start: place,
             places,
@@ -104,11 +108,15 @@ impl Work {
         let mut places = items.places;
         places.insert(0, place)?;
         let name = name_text(alloc, name)?;
-        Ok(Work {
-            task: Task::Call {
+        let task = Box::new(
+            alloc,
+            Task::Call {
                 name,
                 args: items.list,
             },
+        )?;
+        Ok(Work {
+            task,
             levels,
             start: place,
             places,
@@ -141,10 +149,11 @@ impl Work {
         let mut bodies = self.bodies;
         let mut others = right.bodies;
         bodies.append(&mut others)?;
-        let left = Box::new(alloc, self.task)?;
-        let right = Box::new(alloc, right.task)?;
+        let left = self.task;
+        let right = right.task;
+        let task = Box::new(alloc, Task::And(left, right))?;
         Ok(Work {
-            task: Task::And(left, right),
+            task,
             levels,
             start,
             places,
@@ -165,10 +174,11 @@ impl Work {
         let mut bodies = self.bodies;
         let mut others = right.bodies;
         bodies.append(&mut others)?;
-        let left = Box::new(alloc, self.task)?;
-        let right = Box::new(alloc, right.task)?;
+        let left = self.task;
+        let right = right.task;
+        let task = Box::new(alloc, Task::Or(left, right))?;
         Ok(Work {
-            task: Task::Or(left, right),
+            task,
             levels,
             start,
             places,
@@ -191,18 +201,22 @@ impl Work {
     {
         let levels = 1 + value.levels.max(self.levels);
         let name = name_text(alloc, name)?;
-        let task = self.under(place, value.places)?;
-        let rest = Box::new(alloc, task.task)?;
-        Ok(Work {
-            task: Task::Let {
+        let inside = self.under(place, value.places)?;
+        let rest = inside.task;
+        let task = Box::new(
+            alloc,
+            Task::Let {
                 name,
                 bound: Box::into_inner(value.term),
                 rest,
             },
+        )?;
+        Ok(Work {
+            task,
             levels,
             start: place,
-            places: task.places,
-            bodies: task.bodies,
+            places: inside.places,
+            bodies: inside.bodies,
         })
     }
 
@@ -221,18 +235,22 @@ impl Work {
     {
         let levels = 1 + init.levels.max(self.levels);
         let name = name_text(alloc, name)?;
-        let task = self.under(place, init.places)?;
-        let rest = Box::new(alloc, task.task)?;
-        Ok(Work {
-            task: Task::New {
+        let inside = self.under(place, init.places)?;
+        let rest = inside.task;
+        let task = Box::new(
+            alloc,
+            Task::New {
                 name,
                 init: Box::into_inner(init.term),
                 rest,
             },
+        )?;
+        Ok(Work {
+            task,
             levels,
             start: place,
-            places: task.places,
-            bodies: task.bodies,
+            places: inside.places,
+            bodies: inside.bodies,
         })
     }
 
@@ -251,18 +269,22 @@ impl Work {
     {
         let levels = 1 + value.levels.max(self.levels);
         let name = name_text(alloc, name)?;
-        let task = self.under(place, value.places)?;
-        let rest = Box::new(alloc, task.task)?;
-        Ok(Work {
-            task: Task::Put {
+        let inside = self.under(place, value.places)?;
+        let rest = inside.task;
+        let task = Box::new(
+            alloc,
+            Task::Put {
                 name,
                 value: Box::into_inner(value.term),
                 rest,
             },
+        )?;
+        Ok(Work {
+            task,
             levels,
             start: place,
-            places: task.places,
-            bodies: task.bodies,
+            places: inside.places,
+            bodies: inside.bodies,
         })
     }
 
@@ -285,14 +307,18 @@ impl Work {
         let mut bodies = self.bodies;
         let mut others = no.bodies;
         bodies.append(&mut others)?;
-        let yes = Box::new(alloc, self.task)?;
-        let no = Box::new(alloc, no.task)?;
-        Ok(Work {
-            task: Task::If {
+        let yes = self.task;
+        let no = no.task;
+        let task = Box::new(
+            alloc,
+            Task::If {
                 test: Box::into_inner(test.term),
                 yes,
                 no,
             },
+        )?;
+        Ok(Work {
+            task,
             levels,
             start: place,
             places,
@@ -322,16 +348,20 @@ impl Work {
         bodies.append(&mut others)?;
         let head = name_text(alloc, names.0)?;
         let tail = name_text(alloc, names.1)?;
-        let empty = Box::new(alloc, self.task)?;
-        let more = Box::new(alloc, more.task)?;
-        Ok(Work {
-            task: Task::Case {
+        let empty = self.task;
+        let more = more.task;
+        let task = Box::new(
+            alloc,
+            Task::Case {
                 list: Box::into_inner(list.term),
                 empty,
                 head,
                 tail,
                 more,
             },
+        )?;
+        Ok(Work {
+            task,
             levels,
             start: place,
             places,
