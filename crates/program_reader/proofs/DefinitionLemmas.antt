@@ -15,7 +15,7 @@ use Rattle.program_grammar.specs.Languages.{Of, Stops, Reads}
 use Rattle.program_grammar.specs.Parts.{Shown, shown, shown_type, lexeme, lexemes}
 use Rattle.std.proofs.lemmas.List.{length-map}
 use Rattle.program_grammar.specs.declared.lexeme.Located.{Located}
-use Rattle.program_reader.specs.Works.{ShownWork, shown_task}
+use Rattle.task_builder.specs.Works.{ShownWork, shown_task}
 use Rattle.program_reader.specs.Definitions.{shown_enclosed, ShownDefinition, shown_meaning, ShownProgram, shown_program, more_shown, function_definition, task_definition}
 use Rattle.program_reader.specs.Signs.{word_of}
 use Rattle.program_reader.specs.declared.definition_words.DefinitionWord.{DefinitionWord}

@@ -7,7 +7,7 @@ use Rattle.task_model.specs.Task.{TaskTerm, share, BodyTerm}
 use Rattle.task_model.specs.Task as tasks
 use Rattle.program_grammar.specs.Grammar.{Form, task, task_atom, series, choice, chain, internal, external, by_itself, by_user, Parse, more_definitions, task_named, task_let, task_if, task_case, task_new, task_put, task_plain, task_step, task_group, single, joined}
 use Rattle.program_grammar.specs.Meaning.{Meaning, meaning, bodies, bodies_of}
-use Rattle.program_reader.specs.Numbers.{renumbered, body_renumbered}
+use Rattle.task_builder.specs.Numbers.{renumbered, body_renumbered}
 
 two : {A : Type 0} (xs ys : List A) {n m : ℕ} → length xs ≡ n → length ys ≡ m → length (xs ++ ys) ≡ n + m
 two xs ys h k = let e = length-append xs ys in omega (arith, e, h, k)

@@ -17,7 +17,7 @@ use Rattle.program_grammar.specs.Languages.{Of, Stops, stops_at, rank}
 use Rattle.program_grammar.proofs.GrammarLemmas.{grammar, head, head_first, known_head, begins_head, least_levels, smallest, a_sign, a_name}
 use Rattle.program_grammar.proofs.RuleLemmas.{tokens_of, built, build_up}
 use Rattle.program_grammar.proofs.OptionalLemmas.{Optional}
-use Rattle.program_reader.specs.Works.{IsStepping, Stepping}
+use Rattle.task_builder.specs.Works.{IsStepping, Stepping}
 
 -- ---- a choice, and then perhaps a step
 abbrev pub Stepped : Type 0

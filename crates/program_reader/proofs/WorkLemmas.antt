@@ -11,8 +11,8 @@ use Rattle.program_grammar.specs.Grammar.{Form, task, task_atom, series, choice,
 use Rattle.program_grammar.specs.Meaning.{meaning, bodies, bodies_of, step_of}
 use Rattle.program_grammar.specs.Languages.{Reads}
 use Rattle.program_grammar.specs.Parts.{Shown, shown, shown_type, Listed, shown_list}
-use Rattle.program_reader.specs.Numbers.{renumbered, body_renumbered}
-use Rattle.program_reader.specs.Works.{ShownWork, work, shown_task, shown_atom, shown_chain, shown_choice, over_works, offered_work, chosen_work, choice_number, step_work, after_work, either_work, group_work, edit_work, type_work, call_work}
+use Rattle.task_builder.specs.Numbers.{renumbered, body_renumbered}
+use Rattle.task_builder.specs.Works.{ShownWork, work, shown_task, shown_atom, shown_chain, shown_choice, over_works, offered_work, chosen_work, choice_number, step_work, after_work, either_work, group_work, edit_work, type_work, call_work}
 use Rattle.program_reader.proofs.NumberLemmas.{bodies_count, term_next, bodies_next}
 use Rattle.expression_reader.proofs.ReadingLemmas.{count_within}
 

@@ -11,7 +11,7 @@ use Rattle.program_grammar.proofs.GrammarLemmas.{least_levels}
 use Rattle.program_grammar.proofs.SeriesLemmas.{Tail, part_alive}
 use Rattle.program_grammar.proofs.SeriesLemmas as chains
 use Rattle.program_grammar.proofs.ExpressionRules.{operators_apart}
-use Rattle.program_reader.specs.Works.{ShownWork}
+use Rattle.task_builder.specs.Works.{ShownWork}
 
 -- some parts were read, and the rest goes on
 pub record Going (s : Series) (show : Parse (series s) → ShownWork) (room : ℕ) (ts : List Lexeme) (left : ShownWork) (rest : List Lexeme) : Type 0 where

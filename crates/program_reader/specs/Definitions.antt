@@ -6,7 +6,7 @@ use Rattle.task_model.specs.Basic.{BasicTerm}
 use Rattle.task_model.specs.Host.{HostTerm}
 use Rattle.task_model.specs.Program.{ParamTerm, param_term, DefTerm, def_term, fun_body, task_body}
 use Rattle.program_grammar.specs.Parts.{Shown}
-use Rattle.program_reader.specs.Works.{ShownWork}
+use Rattle.task_builder.specs.Works.{ShownWork}
 use Rattle.program_reader.specs.declared.parameters.Parameters.{Parameters}
 use Rattle.program_reader.specs.declared.definition.ReadDefinition.{ReadDefinition}
 use Rattle.program_reader.specs.declared.program.Definitions.{Definitions}
@@ -38,10 +38,6 @@ shown_meaning next d = record { def = meaning d next; places = places d; bodies 
 
 abbrev pub shown_definition : ReadDefinition → ShownDefinition
 shown_definition r = record { def = def_term r.def; places = r.places.items; bodies = map body_term r.bodies.items }
-
--- a task, with this place and others before its own
-abbrev pub under_work : ℕ → List ℕ → ShownWork → ShownWork
-under_work p before t = record { term = t.term; levels = t.levels; start = t.start; places = p ∷ (before ++ t.places); bodies = t.bodies }
 
 -- definitions from their parts
 abbrev pub function_definition : ℕ → Text → List ParamTerm × List ℕ → BasicTerm × ℕ → Shown HostTerm → ShownDefinition

@@ -1,4 +1,2 @@
 pub mod Definitions
-pub mod Numbers
 pub mod Signs
-pub mod Works

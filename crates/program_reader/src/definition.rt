@@ -6,7 +6,7 @@ ghost use Rattle.program_grammar.specs.Grammar as grammar;
 ghost use Rattle.program_grammar.specs.Languages.{Reads};
 ghost use Rattle.program_grammar.specs.Parts.{lexemes, measured, shown_host};
 ghost use Rattle.program_reader.specs.Definitions.{shown_meaning, shown_definition, shown_parameters};
-ghost use Rattle.program_reader.specs.Works.{shown_task, shown_work};
+ghost use Rattle.task_builder.specs.Works.{shown_task, shown_work};
 ghost use Rattle.program_reader.specs.Signs.{word_of};
 ghost use Rattle.task_model.specs.Basic.{basic_term};
 ghost use Rattle.task_model.specs.Task.{task_term, body_term};
@@ -14,15 +14,14 @@ ghost use Rattle.task_model.specs.Program.{param_term, task_body};
 
 use crate::definition_words::DefinitionWord;
 use crate::parameters::{Parameters, enclosed_parameters};
-use crate::scope::Scope;
 use crate::tasks::task;
-use crate::work::Work;
 use exact_reading::Stop;
 use expression_reader::expression;
 use program_grammar::{
     Located, Measured, Node, basic, expect_name, expect_sign, joined, name_text,
 };
 use std::alloc::Global;
+use task_builder::{Scope, Work};
 use task_model::{Basic, Body, Def, DefBody, Host, Param, Row, TaskText};
 use task_syntax::Symbol;
 

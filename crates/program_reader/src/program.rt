@@ -7,10 +7,10 @@ ghost use Rattle.program_reader.specs.Definitions.{shown_definition, shown_progr
 
 use crate::definition::{ReadDefinition, definition};
 use crate::definition_words::definition_word;
-use crate::numbers::number_after;
 use exact_reading::Stop;
 use program_grammar::Located;
 use std::alloc::Global;
+use task_builder::number_after;
 use task_model::{Body, Def, Row};
 
 /// Definitions that were read, the places of their nodes in pre-order, and their bodies in the order in which their texts begin.

@@ -6,19 +6,16 @@ ghost use Rattle.program_grammar.specs.Lexemes as terms;
 ghost use Rattle.program_grammar.specs.Grammar as grammar;
 ghost use Rattle.program_grammar.specs.Languages.{Reads};
 ghost use Rattle.program_grammar.specs.Parts.{lexemes};
-ghost use Rattle.program_reader.specs.Works.{scope_of, shown_work, shown_task, shown_atom, shown_chain, shown_choice, Steps, NoWord, IsSign};
+ghost use Rattle.task_builder.specs.Works.{scope_of, shown_work, shown_task, shown_atom, shown_chain, shown_choice, Steps, NoWord, IsSign};
 
-use crate::choice::choice_sign;
-use crate::scope::Scope;
-use crate::step::step_sign;
 use crate::word_atoms::word_atom;
-use crate::work::Work;
 use exact_reading::{Stop, too_nested};
 use expression_reader::expression;
 use program_grammar::{
     Located, expect_name, expect_sign, expect_word, strip_name, strip_sign, strip_word,
 };
 use std::alloc::Global;
+use task_builder::{Scope, Work, choice_sign, step_sign};
 use task_syntax::{Keyword, Symbol};
 
 /// A task of at most so many levels. Its first body has the number `next`.

@@ -5,13 +5,13 @@ ghost use Rattle.task_syntax.specs.declared.symbol.Symbol.TheVariants as signs;
 ghost use Rattle.program_grammar.specs.Grammar as grammar;
 ghost use Rattle.program_grammar.specs.Languages.{Reads};
 ghost use Rattle.program_grammar.specs.Parts.{lexemes};
-ghost use Rattle.program_reader.specs.Works.{shown_work, shown_atom, NoSign};
+ghost use Rattle.task_builder.specs.Works.{shown_work, shown_atom, NoSign};
 
-use crate::work::Work;
 use exact_reading::{Stop, too_nested, unexpected};
 use expression_reader::{atom, enclosed};
 use program_grammar::{Located, basic, expect_name, strip_name, strip_word};
 use std::alloc::Global;
+use task_builder::Work;
 use task_syntax::Keyword;
 
 /// A task of one word and its part, or a call: it has no bodies.

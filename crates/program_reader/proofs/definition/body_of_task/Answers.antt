@@ -3,7 +3,7 @@ use Rattle.exact_reading.specs.Reading.{seen}
 use Rattle.program_grammar.specs.Grammar as grammar
 use Rattle.program_grammar.specs.Languages.{Reads}
 use Rattle.program_grammar.specs.Parts.{lexemes}
-use Rattle.program_reader.specs.Works.{shown_task, shown_work}
+use Rattle.task_builder.specs.Works.{shown_task, shown_work}
 use Rattle.program_reader.proofs.definition.body_of_task.Goals as goal
 
 pub returns : goal.returns

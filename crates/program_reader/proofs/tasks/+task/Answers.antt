@@ -6,8 +6,8 @@ use Rattle.program_grammar.specs.Lexemes.{Lexeme, sign}
 use Rattle.exact_reading.proofs.Symbols.{seq_one, seq_one_stop, seq_part, seq_part_stop, seq_done}
 use Rattle.program_grammar.proofs.GrammarLemmas.{grammar, least_levels}
 use Rattle.program_grammar.proofs.RuleLemmas.{by_rule, too_deep}
-use Rattle.program_reader.specs.Works.{scope_of, shown_task, shown_atom, shown_chain, shown_choice}
-use Rattle.program_reader.specs.Signs.{choice_term, step_term}
+use Rattle.task_builder.specs.Works.{scope_of, shown_task, shown_atom, shown_chain, shown_choice}
+use Rattle.task_builder.specs.Signs.{choice_term, step_term}
 use Rattle.expression_reader.proofs.ReadingLemmas.{counted_at, at_reading}
 use Rattle.program_reader.proofs.ReadingLemmas.{onto_language}
 use Rattle.program_reader.proofs.TaskRules as rules

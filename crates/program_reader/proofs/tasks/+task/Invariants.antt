@@ -1,7 +1,7 @@
 use Rattle.std.proofs.Common.{◌+◌, ◌-◌, ◌*◌}
 use Rattle.program_grammar.specs.Grammar.{choice, chain}
 use Rattle.program_grammar.specs.Parts.{lexemes}
-use Rattle.program_reader.specs.Works.{scope_of, shown_work, shown_choice, shown_chain}
+use Rattle.task_builder.specs.Works.{scope_of, shown_work, shown_choice, shown_chain}
 use Rattle.program_reader.proofs.WorkSeries.{Going}
 use Rattle.program_reader.proofs.tasks.+task.Given as goal
 

@@ -2,20 +2,22 @@ ghost use Rattle.std.specs.Prelude.{◌≡◌, ℕ, List, ◌∷◌, MatchOption
 ghost use Rattle.program_grammar.specs.Lexemes as terms;
 ghost use Rattle.program_grammar.specs.Grammar as grammar;
 ghost use Rattle.program_grammar.specs.Parts.{lexemes};
-ghost use Rattle.program_reader.specs.Signs.{choice_term};
+ghost use Rattle.task_builder.specs.Signs.{choice_term};
 
 use program_grammar::{Located, strip_sign};
 use task_syntax::Symbol;
 
 /// Who chooses between two tasks: the one that has a value, or the user.
 #[derive(Clone, Copy, Debug, PartialEq, Eq)]
-pub(crate) enum Choice {
+pub enum Choice {
+    /// `<|>`: the one that has a value.
     Internal,
+    /// `<?>`: the user takes one.
     External,
 }
 
 /// The choice that stands first, if one does, its place, and what stands after it.
-pub(crate) fn choice_sign<'t>(tokens: &'t [Located<'t>]) -> Option<(Choice, u64, &'t [Located<'t>])>
+pub fn choice_sign<'t>(tokens: &'t [Located<'t>]) -> Option<(Choice, u64, &'t [Located<'t>])>
     ensures { MatchOption result
         ((o : grammar.Operator grammar.choice) (p : ℕ) (rest : List terms.Lexeme) → lexemes tokens.now ≡ grammar.operator o p ∷ rest → ⊥)
         (λ r. lexemes tokens.now ≡ grammar.operator (choice_term r.0) r.1 ∷ lexemes r.2.now) }

@@ -2,7 +2,7 @@ use Rattle.std.proofs.Common.{◌≡◌, ℕ, List, ◌∷◌}
 use Rattle.task_syntax.specs.declared.symbol.Symbol.TheVariants as signs
 use Rattle.program_grammar.specs.Lexemes.{Lexeme, sign}
 use Rattle.program_grammar.specs.Grammar.{choice, Operator, internal, external, operator}
-use Rattle.program_reader.proofs.choice.choice_sign.Goals as goal
+use Rattle.task_builder.proofs.choice.choice_sign.Goals as goal
 
 neither : (ts : List Lexeme) → ((p : ℕ) (rest : List Lexeme) → ts ≡ sign signs.InternalChoice p ∷ rest → ⊥) → ((p : ℕ) (rest : List Lexeme) → ts ≡ sign signs.ExternalChoice p ∷ rest → ⊥) → (o : Operator choice) (p : ℕ) (rest : List Lexeme) → ts ≡ operator o p ∷ rest → ⊥
 neither ts no_internal no_external internal p rest e = no_internal p rest e

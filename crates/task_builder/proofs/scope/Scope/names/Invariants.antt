@@ -1,5 +1,5 @@
 use Rattle.std.proofs.Common.{◌≡◌, ◌++◌, map, take}
-use Rattle.program_reader.proofs.scope.Scope.names.Given as goal
+use Rattle.task_builder.proofs.scope.Scope.names.Given as goal
 
 abbrev pub invariant-loop-parameter : goal.invariant-loop-parameter
 invariant-loop-parameter l = l.names.list ≡ map (λ q. q.name) (take l.parameter-index l.parameter-items)

@@ -1,6 +1,6 @@
 ghost use Rattle.std.specs.Prelude.{◌≡◌, ◌+◌, ◌<◌, ◌^◌, suc, length, IfOk, IfErr};
-ghost use Rattle.program_reader.specs.Signs.{choice_term, step_term};
-ghost use Rattle.program_reader.specs.Works.{shown_work, scope_of};
+ghost use Rattle.task_builder.specs.Signs.{choice_term, step_term};
+ghost use Rattle.task_builder.specs.Works.{shown_work, scope_of};
 
 use crate::choice::Choice;
 use crate::numbers::{number_after, put_renumbered, renumber};
@@ -13,11 +13,10 @@ use std::alloc::Global;
 use task_model::{Body, Task};
 
 impl Work {
-    ghost use Rattle.program_reader.specs.Works.{offered_work, chosen_work, choice_number, step_work};
-    ghost use Rattle.program_reader.specs.Definitions.{under_work};
+    ghost use Rattle.task_builder.specs.Works.{offered_work, chosen_work, choice_number, step_work, under_work};
 
     /// The number behind this task's bodies, the first of which has this number.
-    pub(crate) fn number_after(&self, next: u32) -> Result<u32, Stop>
+    pub fn number_after(&self, next: u32) -> Result<u32, Stop>
         ensures number { IfOk result (λ number. number ≡ next + length (shown_work self.now).bodies) }
         ensures memory { IfErr result (λ e. e ≡ Stop.Memory) }
     {
@@ -25,7 +24,7 @@ impl Work {
     }
 
     /// The number of the first body in what comes next, whose own number stands before it.
-    pub(crate) fn number_of_step(&self, next: u32) -> Result<u32, Stop>
+    pub fn number_of_step(&self, next: u32) -> Result<u32, Stop>
         ensures number { IfOk result (λ number. number ≡ suc (next + length (shown_work self.now).bodies)) }
         ensures memory { IfErr result (λ e. e ≡ Stop.Memory) }
     {
@@ -34,7 +33,7 @@ impl Work {
     }
 
     /// The number of the first body in the other side of a choice: where both sides are bodies, they have numbers too.
-    pub(crate) fn number_of_choice(&self, next: u32, choice: Choice) -> Result<u32, Stop>
+    pub fn number_of_choice(&self, next: u32, choice: Choice) -> Result<u32, Stop>
         ensures number { IfOk result (λ number. number ≡ choice_number (choice_term choice) next (length (shown_work self.now).bodies)) }
         ensures memory { IfErr result (λ e. e ≡ Stop.Memory) }
     {
@@ -98,7 +97,7 @@ impl Work {
     }
 
     /// This task and another one, of which the first body has this number.
-    pub(crate) fn chosen(
+    pub fn chosen(
         self,
         alloc: Global,
         scope: &Scope<'_, '_>,
@@ -118,7 +117,7 @@ impl Work {
     }
 
     /// This task, whose first body has this number, and what comes next, with the name of this one's value.
-    pub(crate) fn followed(
+    pub fn followed(
         self,
         alloc: Global,
         scope: &Scope<'_, '_>,
@@ -161,7 +160,7 @@ impl Work {
     }
 
     /// The same task, with this place and others before its own.
-    pub(crate) fn under(self, place: u64, before: Vec<u64>) -> Result<Work, Stop>
+    pub fn under(self, place: u64, before: Vec<u64>) -> Result<Work, Stop>
         ensures shown { IfOk result (λ r. shown_work r ≡ under_work place before.items (shown_work self)) }
         ensures memory { IfErr result (λ e. e ≡ Stop.Memory) }
     {

@@ -2,7 +2,7 @@ ghost use Rattle.std.specs.Prelude.{◌≡◌, ◌+◌, ◌<◌, ◌^◌, [], If
 ghost use Rattle.task_model.specs.Task as tasks;
 ghost use Rattle.program_grammar.specs.Grammar.{Step};
 ghost use Rattle.program_grammar.specs.Parts.{measured, shown_host, shown_items};
-ghost use Rattle.program_reader.specs.Works.{shown_work, scope_of};
+ghost use Rattle.task_builder.specs.Works.{shown_work, scope_of};
 
 use exact_reading::Stop;
 use program_grammar::{Items, Measured, Node, joined, name_text, threefold};
@@ -12,19 +12,19 @@ use task_model::{Body, Host, Task};
 /// A task that was read, in a box, so that it is cheap to move and to let go, its levels, the place of its first token, the places of its
 /// nodes in pre-order, and its bodies in the order in which their texts begin.
 #[derive(Drop)]
-pub(crate) struct Work {
-    pub(crate) task: Box<Task>,
-    pub(crate) levels: usize,
-    pub(crate) start: u64,
-    pub(crate) places: Vec<u64>,
-    pub(crate) bodies: Vec<Body>,
+pub struct Work {
+    pub task: Box<Task>,
+    pub levels: usize,
+    pub start: u64,
+    pub places: Vec<u64>,
+    pub bodies: Vec<Body>,
 }
 
 impl Work {
-    ghost use Rattle.program_reader.specs.Works.{leaf_work, edit_work, type_work, call_work, group_work, over_works, after_work, either_work};
+    ghost use Rattle.task_builder.specs.Works.{leaf_work, edit_work, type_work, call_work, group_work, over_works, after_work, either_work};
 
     /// `edit`, which stands here, of this expression.
-    pub(crate) fn edit(alloc: Global, place: u64, value: Node<Host>) -> Result<Work, Stop>
+    pub fn edit(alloc: Global, place: u64, value: Node<Host>) -> Result<Work, Stop>
         requires { value.levels + 1 < 2 ^ 64 }
         ensures shown { IfOk result (λ r. shown_work r ≡ edit_work place (shown_host value)) }
         ensures memory { IfErr result (λ e. e ≡ Stop.Memory) }
@@ -43,7 +43,7 @@ impl Work {
     }
 
     /// `enter`, which stands here, of this type.
-    pub(crate) fn enter(alloc: Global, place: u64, item: Measured) -> Result<Work, Stop>
+    pub fn enter(alloc: Global, place: u64, item: Measured) -> Result<Work, Stop>
         requires { item.levels + 1 < 2 ^ 64 }
         ensures shown { IfOk result (λ r. shown_work r ≡ type_work tasks.enter place (measured item)) }
         ensures memory { IfErr result (λ e. e ≡ Stop.Memory) }
@@ -62,7 +62,7 @@ impl Work {
     }
 
     /// `fail`, which stands here, of this type.
-    pub(crate) fn fail(alloc: Global, place: u64, item: Measured) -> Result<Work, Stop>
+    pub fn fail(alloc: Global, place: u64, item: Measured) -> Result<Work, Stop>
         requires { item.levels + 1 < 2 ^ 64 }
         ensures shown { IfOk result (λ r. shown_work r ≡ type_work tasks.fail place (measured item)) }
         ensures memory { IfErr result (λ e. e ≡ Stop.Memory) }
@@ -81,7 +81,7 @@ impl Work {
     }
 
     /// `share`, which stands here, of this name.
-    pub(crate) fn share(alloc: Global, place: u64, name: &str) -> Result<Work, Stop>
+    pub fn share(alloc: Global, place: u64, name: &str) -> Result<Work, Stop>
         ensures shown { IfOk result (λ r. shown_work r ≡ leaf_work (tasks.share name.now) 1 place) }
         ensures memory { IfErr result (λ e. e ≡ Stop.Memory) }
     {
@@ -99,7 +99,7 @@ impl Work {
     }
 
     /// A call of a task with these arguments, whose name stands here.
-    pub(crate) fn call(alloc: Global, place: u64, name: &str, items: Items) -> Result<Work, Stop>
+    pub fn call(alloc: Global, place: u64, name: &str, items: Items) -> Result<Work, Stop>
         requires { items.levels + 1 < 2 ^ 64 }
         ensures shown { IfOk result (λ r. shown_work r ≡ call_work name.now place (shown_items items)) }
         ensures memory { IfErr result (λ e. e ≡ Stop.Memory) }
@@ -125,7 +125,7 @@ impl Work {
     }
 
     /// This task in parentheses, the first of which stands here.
-    pub(crate) fn group(self, place: u64) -> Work
+    pub fn group(self, place: u64) -> Work
         requires { self.levels + 1 < 2 ^ 64 }
         ensures { shown_work result ≡ group_work place (shown_work self) }
     {
@@ -137,7 +137,7 @@ impl Work {
     }
 
     /// This task and another one, joined by `<&>`.
-    pub(crate) fn and(self, alloc: Global, right: Work) -> Result<Work, Stop>
+    pub fn and(self, alloc: Global, right: Work) -> Result<Work, Stop>
         requires left { self.levels + 1 < 2 ^ 64 }
         requires right { right.levels + 1 < 2 ^ 64 }
         ensures shown { IfOk result (λ r. shown_work r ≡ over_works tasks.and_task (shown_work self) (shown_work right)) }
@@ -162,7 +162,7 @@ impl Work {
     }
 
     /// This task or another one, as `<|>` chooses.
-    pub(crate) fn or(self, alloc: Global, right: Work) -> Result<Work, Stop>
+    pub fn or(self, alloc: Global, right: Work) -> Result<Work, Stop>
         requires left { self.levels + 1 < 2 ^ 64 }
         requires right { right.levels + 1 < 2 ^ 64 }
         ensures shown { IfOk result (λ r. shown_work r ≡ over_works tasks.or_task (shown_work self) (shown_work right)) }
@@ -187,7 +187,7 @@ impl Work {
     }
 
     /// `let`, which stands here, of this value, and this task behind it.
-    pub(crate) fn bound(
+    pub fn bound(
         self,
         alloc: Global,
         place: u64,
@@ -221,13 +221,7 @@ impl Work {
     }
 
     /// `new`, which stands here, with this content, and this task behind it.
-    pub(crate) fn made(
-        self,
-        alloc: Global,
-        place: u64,
-        name: &str,
-        init: Node<Host>,
-    ) -> Result<Work, Stop>
+    pub fn made(self, alloc: Global, place: u64, name: &str, init: Node<Host>) -> Result<Work, Stop>
         requires task { self.levels + 1 < 2 ^ 64 }
         requires init { init.levels + 1 < 2 ^ 64 }
         ensures shown { IfOk result (λ r. shown_work r ≡ after_work (tasks.new_task name.now) place (shown_host init) (shown_work self)) }
@@ -255,7 +249,7 @@ impl Work {
     }
 
     /// A change of the place of this name, which stands here, and this task behind it.
-    pub(crate) fn changed(
+    pub fn changed(
         self,
         alloc: Global,
         place: u64,
@@ -289,13 +283,7 @@ impl Work {
     }
 
     /// `if`, which stands here, and this task where the test holds.
-    pub(crate) fn tested(
-        self,
-        alloc: Global,
-        place: u64,
-        test: Node<Host>,
-        no: Work,
-    ) -> Result<Work, Stop>
+    pub fn tested(self, alloc: Global, place: u64, test: Node<Host>, no: Work) -> Result<Work, Stop>
         requires yes { self.levels + 1 < 2 ^ 64 }
         requires test { test.levels + 1 < 2 ^ 64 }
         requires no { no.levels + 1 < 2 ^ 64 }
@@ -327,7 +315,7 @@ impl Work {
     }
 
     /// `case`, which stands here, and this task where the list is empty.
-    pub(crate) fn cased(
+    pub fn cased(
         self,
         alloc: Global,
         place: u64,

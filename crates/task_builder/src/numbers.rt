@@ -1,12 +1,12 @@
 ghost use Rattle.std.specs.Prelude.{◌≡◌, ◌+◌, ◌++◌, map, IfOk, IfErr, OnOk};
 ghost use Rattle.task_model.specs.Task.{task_term, body_term};
-ghost use Rattle.program_reader.specs.Numbers.{renumbered, body_renumbered};
+ghost use Rattle.task_builder.specs.Numbers.{renumbered, body_renumbered};
 
 use exact_reading::Stop;
 use task_model::{Body, Task};
 
 /// The number behind so many more bodies. No memory holds as many bodies as have no numbers.
-pub(crate) fn number_after(next: u32, bodies: usize) -> Result<u32, Stop>
+pub fn number_after(next: u32, bodies: usize) -> Result<u32, Stop>
     ensures number { IfOk result (λ number. number ≡ next + bodies) }
     ensures memory { IfErr result (λ e. e ≡ Stop.Memory) }
 {
@@ -20,7 +20,7 @@ pub(crate) fn number_after(next: u32, bodies: usize) -> Result<u32, Stop>
 }
 
 /// Gives each body of a task the next number.
-pub(crate) fn renumber(task: &mut Task) -> Result<(), Stop>
+pub fn renumber(task: &mut Task) -> Result<(), Stop>
     ensures term { OnOk result (task_term task.new ≡ renumbered (task_term task.old)) }
     ensures memory { IfErr result (λ e. e ≡ Stop.Memory) }
 {
@@ -62,7 +62,7 @@ pub(crate) fn renumber(task: &mut Task) -> Result<(), Stop>
 }
 
 /// Puts these bodies behind others, with the next number for each body in them.
-pub(crate) fn put_renumbered(onto: &mut Vec<Body>, bodies: Vec<Body>) -> Result<(), Stop>
+pub fn put_renumbered(onto: &mut Vec<Body>, bodies: Vec<Body>) -> Result<(), Stop>
     ensures terms { OnOk result (map body_term onto.new.items ≡ map body_term onto.old.items ++ map body_renumbered (map body_term bodies.items)) }
     ensures memory { IfErr result (λ e. e ≡ Stop.Memory) }
 {

@@ -11,9 +11,9 @@ use Rattle.exact_reading.specs.declared.stop.Stop.{Stop}
 use Rattle.exact_reading.specs.Reading.{Language, Within}
 use Rattle.program_grammar.specs.Lexemes.{Lexeme, word, sign}
 use Rattle.program_grammar.specs.Languages.{Of, Stops, Reading}
-use Rattle.program_reader.specs.declared.scope.Scope.{Scope}
-use Rattle.program_reader.specs.declared.work.Work.{Work}
-use Rattle.program_reader.specs.Numbers.{renumbered, body_renumbered}
+use Rattle.task_builder.specs.declared.scope.Scope.{Scope}
+use Rattle.task_builder.specs.declared.work.Work.{Work}
+use Rattle.task_builder.specs.Numbers.{renumbered, body_renumbered}
 use Rattle.program_grammar.specs.Grammar.{Form, task, task_atom, series, choice, chain, Operator, internal, external, Step, Parse, task_plain, task_step, levels}
 use Rattle.program_grammar.specs.Meaning.{meaning, bodies_of, step_of}
 use Rattle.program_grammar.specs.Nodes.{start, places}
@@ -138,3 +138,7 @@ either_work make p e t u = record {
   places = p ∷ (e.places ++ (t.places ++ u.places));
   bodies = t.bodies ++ u.bodies;
 }
+
+-- a task, with this place and others before its own
+abbrev pub under_work : ℕ → List ℕ → ShownWork → ShownWork
+under_work p before t = record { term = t.term; levels = t.levels; start = t.start; places = p ∷ (before ++ t.places); bodies = t.bodies }

@@ -7,16 +7,16 @@ use task_model::{Param, Row, TaskText};
 
 /// The names in scope: those of a definition's parameters, and those that are bound inside it, outermost first.
 #[derive(Drop)]
-pub(crate) struct Scope<'p, 't> {
-    pub(crate) parameters: &'p [Param],
-    pub(crate) bound: Vec<&'t str>,
+pub struct Scope<'p, 't> {
+    pub parameters: &'p [Param],
+    pub bound: Vec<&'t str>,
 }
 
 impl<'p, 't> Scope<'p, 't> {
-    ghost use Rattle.program_reader.specs.Works.{scope_of};
+    ghost use Rattle.task_builder.specs.Works.{scope_of};
 
     /// The scope of a definition's body.
-    pub(crate) fn of(alloc: Global, parameters: &'p [Param]) -> Scope<'p, 't>
+    pub fn of(alloc: Global, parameters: &'p [Param]) -> Scope<'p, 't>
         ensures { scope_of result ≡ map (λ q. q.name) parameters.now }
     {
         Scope {
@@ -26,7 +26,7 @@ impl<'p, 't> Scope<'p, 't> {
     }
 
     /// The scope behind a binder of this name.
-    pub(crate) fn inside(&self, alloc: Global, name: &'t str) -> Result<Scope<'p, 't>, Stop>
+    pub fn inside(&self, alloc: Global, name: &'t str) -> Result<Scope<'p, 't>, Stop>
         ensures scope { IfOk result (λ s. scope_of s ≡ scope_of self.now ++ name.now ∷ []) }
         ensures memory { IfErr result (λ e. e ≡ Stop.Memory) }
     {
@@ -40,7 +40,7 @@ impl<'p, 't> Scope<'p, 't> {
     }
 
     /// The names, as a body keeps them.
-    pub(crate) fn names(&self, alloc: Global) -> Result<Row<TaskText>, Stop>
+    pub fn names(&self, alloc: Global) -> Result<Row<TaskText>, Stop>
         ensures names { IfOk result (λ names. names.list ≡ scope_of self.now) }
         ensures memory { IfErr result (λ e. e ≡ Stop.Memory) }
     {
