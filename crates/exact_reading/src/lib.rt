@@ -9,5 +9,5 @@ mod tests;
 mod token;
 
 pub use steps::{expect, expect_run, next, place, skip, strip, too_nested, unexpected};
-pub use stop::{Kind, Stop};
+pub use stop::{FaultKind, ParseStop};
 pub use token::Token;

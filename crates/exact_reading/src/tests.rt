@@ -1,5 +1,6 @@
 use crate::{
-    Kind, Stop, Token, expect, expect_run, next, place, skip, strip, too_nested, unexpected,
+    FaultKind, ParseStop, Token, expect, expect_run, next, place, skip, strip, too_nested,
+    unexpected,
 };
 use std::test::Fail;
 
@@ -28,8 +29,8 @@ fn steps_on_bytes(rt: HostRuntime) -> Result<(), Fail> {
 
 #[test]
 fn faults(rt: HostRuntime) -> Result<(), Fail> {
-    let fault = |left| Err(Stop::Fault {
-        kind: Kind::Unexpected,
+    let fault = |left| Err(ParseStop::Fault {
+        kind: FaultKind::Unexpected,
         left,
     });
     let bytes: &[u8] = b"true";
@@ -43,15 +44,15 @@ fn faults(rt: HostRuntime) -> Result<(), Fail> {
     );
     assert_eq!(rt;
         unexpected(bytes),
-        Stop::Fault {
-            kind: Kind::Unexpected,
+        ParseStop::Fault {
+            kind: FaultKind::Unexpected,
             left: 4
         }
     );
     assert_eq!(rt;
         too_nested(bytes),
-        Stop::Fault {
-            kind: Kind::TooNested,
+        ParseStop::Fault {
+            kind: FaultKind::TooNested,
             left: 4
         }
     );

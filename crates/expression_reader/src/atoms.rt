@@ -1,27 +1,26 @@
 ghost use Rattle.std.specs.Prelude.{◌≤◌, ◌∷◌};
 ghost use Rattle.exact_reading.specs.Reading.{seen};
-ghost use Rattle.task_syntax.specs.declared.symbol.Symbol.TheVariants as signs;
-ghost use Rattle.program_grammar.specs.Lexemes as terms;
-ghost use Rattle.program_grammar.specs.Grammar as grammar;
+ghost use Rattle.task_model.specs.declared.symbol.Symbol.TheVariants as signs;
+ghost use Rattle.task_model.specs.Lexemes as terms;
+ghost use Rattle.task_model.specs.Grammar as grammar;
 ghost use Rattle.program_grammar.specs.Languages.{Reads};
 ghost use Rattle.program_grammar.specs.Parts.{lexemes, shown, shown_host};
 
 use crate::expressions::expression;
 use crate::listings::{arguments, enclosed};
 use crate::simple::simple;
-use exact_reading::{Stop, too_nested, unexpected};
-use program_grammar::{Located, Node, expect_sign, strip_name, strip_sign};
+use exact_reading::{ParseStop, too_nested, unexpected};
+use program_grammar::{Parsed, PositionedToken, expect_symbol, strip_name, strip_symbol};
 use std::alloc::Global;
-use task_model::Host;
-use task_syntax::Symbol;
+use task_model::{Host, Symbol};
 
 /// A number, a text, a constant, a name, what stands at a reference, a call, a list or what stands in parentheses.
 #[cycle(expression)]
 pub fn atom<'t>(
     alloc: Global,
     room: usize,
-    tokens: &'t [Located<'t>],
-) -> Result<(Node<Host>, &'t [Located<'t>]), Stop>
+    tokens: &'t [PositionedToken<'t>],
+) -> Result<(Parsed<Host>, &'t [PositionedToken<'t>]), ParseStop>
     ensures { Reads grammar.atom shown room (lexemes tokens.now) (seen (λ r. (shown_host r.0, lexemes r.1.now)) result) }
 {
     if let Some((found, rest)) = simple(alloc, room, tokens)? {
@@ -33,13 +32,13 @@ pub fn atom<'t>(
         }
         return named(alloc, room, name, place, rest);
     }
-    if let Some((place, rest)) = strip_sign(tokens, Symbol::Open) {
+    if let Some((place, rest)) = strip_symbol(tokens, Symbol::Open) {
         if room < 1 {
             return Err(too_nested(tokens));
         }
         return opened(alloc, room, place, rest);
     }
-    if let Some((place, rest)) = strip_sign(tokens, Symbol::OpenBracket) {
+    if let Some((place, rest)) = strip_symbol(tokens, Symbol::OpenBracket) {
         if room < 2 {
             return Err(too_nested(tokens));
         }
@@ -55,13 +54,13 @@ fn named<'t>(
     room: usize,
     name: &str,
     place: u64,
-    tokens: &'t [Located<'t>],
-) -> Result<(Node<Host>, &'t [Located<'t>]), Stop>
+    tokens: &'t [PositionedToken<'t>],
+) -> Result<(Parsed<Host>, &'t [PositionedToken<'t>]), ParseStop>
     requires { 1 ≤ room }
     ensures { Reads grammar.atom shown room (terms.name name.now place ∷ lexemes tokens.now) (seen (λ r. (shown_host r.0, lexemes r.1.now)) result) }
 {
-    let Some(_) = strip_sign(tokens, Symbol::Open) else {
-        return Ok((Node::named(alloc, name, place)?, tokens));
+    let Some(_) = strip_symbol(tokens, Symbol::Open) else {
+        return Ok((Parsed::named(alloc, name, place)?, tokens));
     };
     let (items, rest) = enclosed(alloc, room - 1, tokens)?;
     Ok((items.call(alloc, name, place)?, rest))
@@ -73,21 +72,21 @@ fn opened<'t>(
     alloc: Global,
     room: usize,
     place: u64,
-    tokens: &'t [Located<'t>],
-) -> Result<(Node<Host>, &'t [Located<'t>]), Stop>
+    tokens: &'t [PositionedToken<'t>],
+) -> Result<(Parsed<Host>, &'t [PositionedToken<'t>]), ParseStop>
     requires { 1 ≤ room }
-    ensures { Reads grammar.atom shown room (terms.sign signs.Open place ∷ lexemes tokens.now) (seen (λ r. (shown_host r.0, lexemes r.1.now)) result) }
+    ensures { Reads grammar.atom shown room (terms.symbol signs.Open place ∷ lexemes tokens.now) (seen (λ r. (shown_host r.0, lexemes r.1.now)) result) }
 {
-    if let Some((_, rest)) = strip_sign(tokens, Symbol::Close) {
-        return Ok((Node::leaf(alloc, Host::Unit, place)?, rest));
+    if let Some((_, rest)) = strip_symbol(tokens, Symbol::Close) {
+        return Ok((Parsed::leaf(alloc, Host::Unit, place)?, rest));
     }
     let (first, rest) = expression(alloc, room - 1, tokens)?;
-    if let Some((_, rest)) = strip_sign(rest, Symbol::Close) {
+    if let Some((_, rest)) = strip_symbol(rest, Symbol::Close) {
         return Ok((first.group(place), rest));
     }
-    let (_, rest) = expect_sign(rest, Symbol::Comma)?;
+    let (_, rest) = expect_symbol(rest, Symbol::Comma)?;
     let (second, rest) = expression(alloc, room - 1, rest)?;
-    let (_, rest) = expect_sign(rest, Symbol::Close)?;
+    let (_, rest) = expect_symbol(rest, Symbol::Close)?;
     Ok((first.pair(alloc, place, second)?, rest))
 }
 
@@ -97,12 +96,12 @@ fn elements<'t>(
     alloc: Global,
     room: usize,
     place: u64,
-    tokens: &'t [Located<'t>],
-) -> Result<(Node<Host>, &'t [Located<'t>]), Stop>
+    tokens: &'t [PositionedToken<'t>],
+) -> Result<(Parsed<Host>, &'t [PositionedToken<'t>]), ParseStop>
     requires { 2 ≤ room }
-    ensures { Reads grammar.atom shown room (terms.sign signs.OpenBracket place ∷ lexemes tokens.now) (seen (λ r. (shown_host r.0, lexemes r.1.now)) result) }
+    ensures { Reads grammar.atom shown room (terms.symbol signs.OpenBracket place ∷ lexemes tokens.now) (seen (λ r. (shown_host r.0, lexemes r.1.now)) result) }
 {
     let (items, rest) = arguments(alloc, room - 1, tokens)?;
-    let (_, rest) = expect_sign(rest, Symbol::CloseBracket)?;
+    let (_, rest) = expect_symbol(rest, Symbol::CloseBracket)?;
     Ok((items.elements(alloc, place)?, rest))
 }

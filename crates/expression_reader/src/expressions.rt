@@ -1,40 +1,41 @@
 ghost use Rattle.std.specs.Prelude.{◌≤◌, ◌∷◌};
 ghost use Rattle.exact_reading.specs.Reading.{seen};
-ghost use Rattle.task_syntax.specs.declared.keyword.Keyword.TheVariants as words;
-ghost use Rattle.program_grammar.specs.Lexemes as terms;
-ghost use Rattle.program_grammar.specs.Grammar as grammar;
+ghost use Rattle.task_model.specs.declared.keyword.Keyword.TheVariants as words;
+ghost use Rattle.task_model.specs.Lexemes as terms;
+ghost use Rattle.task_model.specs.Grammar as grammar;
 ghost use Rattle.program_grammar.specs.Languages.{Reads};
 ghost use Rattle.program_grammar.specs.Parts.{lexemes, shown, shown_host};
 
 use crate::operators::operators;
-use exact_reading::{Stop, too_nested};
-use program_grammar::{Level, Located, Node, expect_name, expect_sign, expect_word, strip_word};
+use exact_reading::{ParseStop, too_nested};
+use program_grammar::{
+    Level, Parsed, PositionedToken, expect_keyword, expect_name, expect_symbol, strip_keyword,
+};
 use std::alloc::Global;
-use task_model::Host;
-use task_syntax::{Keyword, Symbol};
+use task_model::{Host, Keyword, Symbol};
 
 /// An expression of at most so many levels.
 #[cycle(expression)]
 pub fn expression<'t>(
     alloc: Global,
     room: usize,
-    tokens: &'t [Located<'t>],
-) -> Result<(Node<Host>, &'t [Located<'t>]), Stop>
+    tokens: &'t [PositionedToken<'t>],
+) -> Result<(Parsed<Host>, &'t [PositionedToken<'t>]), ParseStop>
     ensures { Reads grammar.expression shown room (lexemes tokens.now) (seen (λ r. (shown_host r.0, lexemes r.1.now)) result) }
 {
-    if let Some((place, rest)) = strip_word(tokens, Keyword::Let) {
+    if let Some((place, rest)) = strip_keyword(tokens, Keyword::Let) {
         if room < 2 {
             return Err(too_nested(tokens));
         }
         return bound(alloc, room, place, rest);
     }
-    if let Some((place, rest)) = strip_word(tokens, Keyword::If) {
+    if let Some((place, rest)) = strip_keyword(tokens, Keyword::If) {
         if room < 2 {
             return Err(too_nested(tokens));
         }
         return tested(alloc, room, place, rest);
     }
-    if let Some((place, rest)) = strip_word(tokens, Keyword::Case) {
+    if let Some((place, rest)) = strip_keyword(tokens, Keyword::Case) {
         if room < 2 {
             return Err(too_nested(tokens));
         }
@@ -49,15 +50,15 @@ fn bound<'t>(
     alloc: Global,
     room: usize,
     place: u64,
-    tokens: &'t [Located<'t>],
-) -> Result<(Node<Host>, &'t [Located<'t>]), Stop>
+    tokens: &'t [PositionedToken<'t>],
+) -> Result<(Parsed<Host>, &'t [PositionedToken<'t>]), ParseStop>
     requires { 2 ≤ room }
-    ensures { Reads grammar.expression shown room (terms.word words.Let place ∷ lexemes tokens.now) (seen (λ r. (shown_host r.0, lexemes r.1.now)) result) }
+    ensures { Reads grammar.expression shown room (terms.keyword words.Let place ∷ lexemes tokens.now) (seen (λ r. (shown_host r.0, lexemes r.1.now)) result) }
 {
     let (name, _, rest) = expect_name(tokens)?;
-    let (_, rest) = expect_sign(rest, Symbol::Define)?;
+    let (_, rest) = expect_symbol(rest, Symbol::Define)?;
     let (value, rest) = expression(alloc, room - 1, rest)?;
-    let (_, rest) = expect_word(rest, Keyword::In)?;
+    let (_, rest) = expect_keyword(rest, Keyword::In)?;
     let (body, rest) = expression(alloc, room - 1, rest)?;
     Ok((value.bound(alloc, place, name, body)?, rest))
 }
@@ -68,15 +69,15 @@ fn tested<'t>(
     alloc: Global,
     room: usize,
     place: u64,
-    tokens: &'t [Located<'t>],
-) -> Result<(Node<Host>, &'t [Located<'t>]), Stop>
+    tokens: &'t [PositionedToken<'t>],
+) -> Result<(Parsed<Host>, &'t [PositionedToken<'t>]), ParseStop>
     requires { 2 ≤ room }
-    ensures { Reads grammar.expression shown room (terms.word words.If place ∷ lexemes tokens.now) (seen (λ r. (shown_host r.0, lexemes r.1.now)) result) }
+    ensures { Reads grammar.expression shown room (terms.keyword words.If place ∷ lexemes tokens.now) (seen (λ r. (shown_host r.0, lexemes r.1.now)) result) }
 {
     let (test, rest) = expression(alloc, room - 1, tokens)?;
-    let (_, rest) = expect_word(rest, Keyword::Then)?;
+    let (_, rest) = expect_keyword(rest, Keyword::Then)?;
     let (yes, rest) = expression(alloc, room - 1, rest)?;
-    let (_, rest) = expect_word(rest, Keyword::Else)?;
+    let (_, rest) = expect_keyword(rest, Keyword::Else)?;
     let (no, rest) = expression(alloc, room - 1, rest)?;
     Ok((test.tested(alloc, place, yes, no)?, rest))
 }
@@ -87,22 +88,22 @@ fn cased<'t>(
     alloc: Global,
     room: usize,
     place: u64,
-    tokens: &'t [Located<'t>],
-) -> Result<(Node<Host>, &'t [Located<'t>]), Stop>
+    tokens: &'t [PositionedToken<'t>],
+) -> Result<(Parsed<Host>, &'t [PositionedToken<'t>]), ParseStop>
     requires { 2 ≤ room }
-    ensures { Reads grammar.expression shown room (terms.word words.Case place ∷ lexemes tokens.now) (seen (λ r. (shown_host r.0, lexemes r.1.now)) result) }
+    ensures { Reads grammar.expression shown room (terms.keyword words.Case place ∷ lexemes tokens.now) (seen (λ r. (shown_host r.0, lexemes r.1.now)) result) }
 {
     let (list, rest) = expression(alloc, room - 1, tokens)?;
-    let (_, rest) = expect_word(rest, Keyword::Of)?;
-    let (_, rest) = expect_sign(rest, Symbol::OpenBracket)?;
-    let (_, rest) = expect_sign(rest, Symbol::CloseBracket)?;
-    let (_, rest) = expect_sign(rest, Symbol::Arrow)?;
+    let (_, rest) = expect_keyword(rest, Keyword::Of)?;
+    let (_, rest) = expect_symbol(rest, Symbol::OpenBracket)?;
+    let (_, rest) = expect_symbol(rest, Symbol::CloseBracket)?;
+    let (_, rest) = expect_symbol(rest, Symbol::Arrow)?;
     let (empty, rest) = expression(alloc, room - 1, rest)?;
-    let (_, rest) = expect_sign(rest, Symbol::Bar)?;
+    let (_, rest) = expect_symbol(rest, Symbol::Bar)?;
     let (head, _, rest) = expect_name(rest)?;
-    let (_, rest) = expect_sign(rest, Symbol::Cons)?;
+    let (_, rest) = expect_symbol(rest, Symbol::Cons)?;
     let (tail, _, rest) = expect_name(rest)?;
-    let (_, rest) = expect_sign(rest, Symbol::Arrow)?;
+    let (_, rest) = expect_symbol(rest, Symbol::Arrow)?;
     let (more, rest) = expression(alloc, room - 1, rest)?;
     Ok((list.cased(alloc, place, empty, head, tail, more)?, rest))
 }

@@ -1,26 +1,26 @@
 ghost use Rattle.exact_reading.specs.Reading.{seen};
-ghost use Rattle.program_grammar.specs.Grammar as grammar;
+ghost use Rattle.task_model.specs.Grammar as grammar;
 ghost use Rattle.program_grammar.specs.Languages.{Reads};
 ghost use Rattle.program_grammar.specs.Parts.{lexemes, shown_list, shown_items};
 
 use crate::expressions::expression;
-use exact_reading::{Stop, unexpected};
-use program_grammar::{Items, Located, expect_sign, strip_sign};
+use exact_reading::{ParseStop, unexpected};
+use program_grammar::{Items, PositionedToken, expect_symbol, strip_symbol};
 use std::alloc::Global;
-use task_syntax::Symbol;
+use task_model::Symbol;
 
 /// Expressions with commas between them, at least one.
 #[cycle(expression)]
 pub fn arguments<'t>(
     alloc: Global,
     room: usize,
-    tokens: &'t [Located<'t>],
-) -> Result<(Items, &'t [Located<'t>]), Stop>
+    tokens: &'t [PositionedToken<'t>],
+) -> Result<(Items, &'t [PositionedToken<'t>]), ParseStop>
     ensures { Reads (grammar.series (grammar.list grammar.arguments)) shown_list room (lexemes tokens.now) (seen (λ r. (shown_items r.0, lexemes r.1.now)) result) }
 {
     let (first, mut rest) = expression(alloc, room, tokens)?;
     let mut items = Items::one(alloc, first)?;
-    while let Some((_, after)) = strip_sign(rest, Symbol::Comma) {
+    while let Some((_, after)) = strip_symbol(rest, Symbol::Comma) {
         let (next, after) = expression(alloc, room, after)?;
         items = items.and(next)?;
         rest = after;
@@ -33,17 +33,17 @@ pub fn arguments<'t>(
 pub fn enclosed<'t>(
     alloc: Global,
     room: usize,
-    tokens: &'t [Located<'t>],
-) -> Result<(Items, &'t [Located<'t>]), Stop>
+    tokens: &'t [PositionedToken<'t>],
+) -> Result<(Items, &'t [PositionedToken<'t>]), ParseStop>
     ensures { Reads (grammar.enclosed grammar.arguments) shown_list room (lexemes tokens.now) (seen (λ r. (shown_items r.0, lexemes r.1.now)) result) }
 {
-    let Some((_, rest)) = strip_sign(tokens, Symbol::Open) else {
+    let Some((_, rest)) = strip_symbol(tokens, Symbol::Open) else {
         return Err(unexpected(tokens));
     };
-    if let Some((_, rest)) = strip_sign(rest, Symbol::Close) {
+    if let Some((_, rest)) = strip_symbol(rest, Symbol::Close) {
         return Ok((Items::none(alloc), rest));
     }
     let (items, rest) = arguments(alloc, room, rest)?;
-    let (_, rest) = expect_sign(rest, Symbol::Close)?;
+    let (_, rest) = expect_symbol(rest, Symbol::Close)?;
     Ok((items, rest))
 }

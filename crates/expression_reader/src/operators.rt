@@ -1,14 +1,13 @@
 ghost use Rattle.exact_reading.specs.Reading.{seen};
-ghost use Rattle.program_grammar.specs.Grammar as grammar;
+ghost use Rattle.task_model.specs.Grammar as grammar;
 ghost use Rattle.program_grammar.specs.Languages.{Reads};
 ghost use Rattle.program_grammar.specs.Parts.{lexemes, series_of, shown, shown_series, shown_part, shown_host};
 
 use crate::atoms::atom;
-use exact_reading::{Stop, too_nested};
-use program_grammar::{Level, Located, Node, operator, prefix, relation, strip_sign};
+use exact_reading::{ParseStop, too_nested};
+use program_grammar::{Level, Parsed, PositionedToken, operator, prefix, relation, strip_symbol};
 use std::alloc::Global;
-use task_model::{Host, Op};
-use task_syntax::Symbol;
+use task_model::{Host, Op, Symbol};
 
 /// Parts of a level, with its operators between them.
 #[cycle(expression)]
@@ -16,8 +15,8 @@ pub fn operators<'t>(
     alloc: Global,
     level: Level,
     room: usize,
-    tokens: &'t [Located<'t>],
-) -> Result<(Node<Host>, &'t [Located<'t>]), Stop>
+    tokens: &'t [PositionedToken<'t>],
+) -> Result<(Parsed<Host>, &'t [PositionedToken<'t>]), ParseStop>
     ensures { Reads (grammar.series (series_of level)) (shown_series level) room (lexemes tokens.now) (seen (λ r. (shown_host r.0, lexemes r.1.now)) result) }
 {
     let (mut left, mut rest) = part(alloc, level, room, tokens)?;
@@ -38,8 +37,8 @@ fn part<'t>(
     alloc: Global,
     level: Level,
     room: usize,
-    tokens: &'t [Located<'t>],
-) -> Result<(Node<Host>, &'t [Located<'t>]), Stop>
+    tokens: &'t [PositionedToken<'t>],
+) -> Result<(Parsed<Host>, &'t [PositionedToken<'t>]), ParseStop>
     ensures { Reads (grammar.part_of (series_of level)) (shown_part level) room (lexemes tokens.now) (seen (λ r. (shown_host r.0, lexemes r.1.now)) result) }
 {
     match level {
@@ -55,8 +54,8 @@ fn part<'t>(
 fn comparison<'t>(
     alloc: Global,
     room: usize,
-    tokens: &'t [Located<'t>],
-) -> Result<(Node<Host>, &'t [Located<'t>]), Stop>
+    tokens: &'t [PositionedToken<'t>],
+) -> Result<(Parsed<Host>, &'t [PositionedToken<'t>]), ParseStop>
     ensures { Reads grammar.comparison shown room (lexemes tokens.now) (seen (λ r. (shown_host r.0, lexemes r.1.now)) result) }
 {
     let (left, rest) = listed(alloc, room, tokens)?;
@@ -75,12 +74,12 @@ fn comparison<'t>(
 fn listed<'t>(
     alloc: Global,
     room: usize,
-    tokens: &'t [Located<'t>],
-) -> Result<(Node<Host>, &'t [Located<'t>]), Stop>
+    tokens: &'t [PositionedToken<'t>],
+) -> Result<(Parsed<Host>, &'t [PositionedToken<'t>]), ParseStop>
     ensures { Reads grammar.listed shown room (lexemes tokens.now) (seen (λ r. (shown_host r.0, lexemes r.1.now)) result) }
 {
     let (left, rest) = operators(alloc, Level::Sum, room, tokens)?;
-    let Some((_, after)) = strip_sign(rest, Symbol::Cons) else {
+    let Some((_, after)) = strip_symbol(rest, Symbol::Cons) else {
         return Ok((left, rest));
     };
     if left.levels >= room {
@@ -95,8 +94,8 @@ fn listed<'t>(
 fn operand<'t>(
     alloc: Global,
     room: usize,
-    tokens: &'t [Located<'t>],
-) -> Result<(Node<Host>, &'t [Located<'t>]), Stop>
+    tokens: &'t [PositionedToken<'t>],
+) -> Result<(Parsed<Host>, &'t [PositionedToken<'t>]), ParseStop>
     ensures { Reads grammar.operand shown room (lexemes tokens.now) (seen (λ r. (shown_host r.0, lexemes r.1.now)) result) }
 {
     let Some((op, place, rest)) = prefix(tokens) else {

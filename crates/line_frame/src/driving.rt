@@ -2,8 +2,8 @@ ghost use Rattle.std.specs.Prelude.{◌≡◌, ◌<◌, ◌≤◌, ◌^◌};
 ghost use Rattle.outer_io.specs.Causes.{Rose};
 ghost use Rattle.line_frame.specs.Drove.{Drove};
 
+use crate::cursor::Cursor;
 use crate::lines::{end_script, take_piece};
-use crate::reading::Reading;
 use crate::{Finish, Machine};
 use outer_io::{Got, Sink, Source};
 use std::alloc::Global;
@@ -26,23 +26,22 @@ pub fn drive<M: Machine, I: Source, O: Sink>(
 ) -> Finish
     requires { limit < 2 ^ 63 }
     ensures drove { Drove (M.tells machine.old 1) limit (I.left input.old) (I.left input.new) (O.taken out.old) (O.taken out.new) result }
-    ensures files { result ≡ Finish.FileFault → ⊥ }
     ensures read_count { I.faults input.old ≤ I.faults input.new }
     ensures read_failed { result ≡ Finish.ReadFault → Rose (I.faults input.old) (I.faults input.new) }
     ensures write_count { O.faults out.old ≤ O.faults out.new }
     ensures write_failed { result ≡ Finish.WriteFault → Rose (O.faults out.old) (O.faults out.new) }
 {
     let mut room = [0u8; PIECE];
-    let mut reading = Reading::new(alloc);
+    let mut cursor = Cursor::new(alloc);
     'script: loop {
         match input.read(&mut room) {
             Got::Took(count) => {
                 let piece = &room[..count];
-                if let Some(finish) = take_piece(alloc, machine, out, &mut reading, limit, piece) {
+                if let Some(finish) = take_piece(alloc, machine, out, &mut cursor, limit, piece) {
                     return finish;
                 }
             }
-            Got::End => return end_script(alloc, machine, out, &reading),
+            Got::End => return end_script(alloc, machine, out, &cursor),
             Got::Failed => return Finish::ReadFault,
         }
     }

@@ -1,10 +1,10 @@
 ghost use Rattle.std.specs.Prelude.{◌≡◌, ◌+◌, ◌<◌, ◌≤◌, ◌^◌, ℕ, List, Option, [], ◌∷◌, ◌++◌, length, IfNone, IfOk, MatchOption, MatchResult, None, Some, Err, OnOk, slice_index, take};
 ghost use Rattle.outer_io.specs.Causes.{Rose};
 ghost use Rattle.line_frame.specs.Told.{Told, Comes};
-ghost use Rattle.line_frame.specs.Stands.{Goes, Answered, EndsAt, EndsScript, IsLine};
+ghost use Rattle.line_frame.specs.Stands.{Goes, RunsLine, EndsAt, EndsScript, IsLine};
 ghost use Rattle.line_frame.specs.declared.finish.Finish.{Finish};
 
-use crate::reading::Reading;
+use crate::cursor::Cursor;
 use crate::{Finish, LineStop, Machine};
 use memchr::memchr;
 use outer_io::{Sink, Written, write_all};
@@ -15,21 +15,19 @@ pub(crate) fn take_piece<M: Machine, O: Sink>(
     alloc: Global,
     machine: &mut M,
     out: &mut O,
-    reading: &mut Reading,
+    cursor: &mut Cursor,
     limit: u64,
     piece: &[u8],
 ) -> Option<Finish>
     requires { limit < 2 ^ 63 }
-    ensures goes { Goes (M.tells machine.old) (M.tells machine.new) (O.taken out.old) (O.taken out.new) M.LONGEST limit reading.old reading.new piece.now result }
-    ensures counted { IfNone result ((reading.new.count ≡ reading.old.count + length piece.now) × (reading.old.count ≤ limit → reading.new.count ≤ limit)) }
-    ensures reads { result ≡ Some Finish.ReadFault → ⊥ }
-    ensures files { result ≡ Some Finish.FileFault → ⊥ }
+    ensures goes { Goes M.tells machine.old machine.new (O.taken out.old) (O.taken out.new) M.LONGEST limit cursor.old cursor.new piece.now result }
+    ensures counted { IfNone result ((cursor.new.count ≡ cursor.old.count + length piece.now) × (cursor.old.count ≤ limit → cursor.new.count ≤ limit)) }
     ensures count { O.faults out.old ≤ O.faults out.new }
     ensures failed { result ≡ Some Finish.WriteFault → Rose (O.faults out.old) (O.faults out.new) }
 {
     let mut at = 0;
     while at < piece.len() {
-        match take_line(alloc, machine, out, reading, limit, &piece[at..]) {
+        match take_line(alloc, machine, out, cursor, limit, &piece[at..]) {
             Ok(taken) => at += taken,
             Err(finish) => return Some(finish),
         }
@@ -42,19 +40,17 @@ pub(crate) fn end_script<M: Machine, O: Sink>(
     alloc: Global,
     machine: &mut M,
     out: &mut O,
-    reading: &Reading,
+    cursor: &Cursor,
 ) -> Finish
-    ensures ends { EndsScript (M.tells machine.old) (O.taken out.old) (O.taken out.new) M.LONGEST reading.now result }
-    ensures reads { result ≡ Finish.ReadFault → ⊥ }
-    ensures files { result ≡ Finish.FileFault → ⊥ }
+    ensures ends { EndsScript M.tells machine.old (O.taken out.old) (O.taken out.new) M.LONGEST cursor.now result }
     ensures count { O.faults out.old ≤ O.faults out.new }
     ensures failed { result ≡ Finish.WriteFault → Rose (O.faults out.old) (O.faults out.new) }
 {
-    let line = reading.kept.as_slice();
+    let line = cursor.kept.as_slice();
     if line.is_empty() {
         return Finish::Done;
     }
-    match end_line(alloc, machine, out, line, reading.number) {
+    match end_line(alloc, machine, out, line, cursor.number) {
         Some(finish) => finish,
         None => Finish::Done,
     }
@@ -65,32 +61,30 @@ fn take_line<M: Machine, O: Sink>(
     alloc: Global,
     machine: &mut M,
     out: &mut O,
-    reading: &mut Reading,
+    cursor: &mut Cursor,
     limit: u64,
     bytes: &[u8],
 ) -> Result<usize, Finish>
     requires room { limit < 2 ^ 63 }
     requires some { 0 < length bytes.now }
     ensures goes { MatchResult result
-        (λ taken. Goes (M.tells machine.old) (M.tells machine.new) (O.taken out.old) (O.taken out.new) M.LONGEST limit reading.old reading.new (take taken bytes.now) None)
-        (λ finish. Goes (M.tells machine.old) (M.tells machine.new) (O.taken out.old) (O.taken out.new) M.LONGEST limit reading.old reading.new bytes.now (Some finish)) }
+        (λ taken. Goes M.tells machine.old machine.new (O.taken out.old) (O.taken out.new) M.LONGEST limit cursor.old cursor.new (take taken bytes.now) None)
+        (λ finish. Goes M.tells machine.old machine.new (O.taken out.old) (O.taken out.new) M.LONGEST limit cursor.old cursor.new bytes.now (Some finish)) }
     ensures some { IfOk result (λ taken. 0 < taken) }
     ensures fits { IfOk result (λ taken. taken ≤ length bytes.now) }
-    ensures counted { IfOk result (λ taken. reading.new.count ≡ reading.old.count + taken) }
-    ensures within { OnOk result (reading.old.count ≤ limit → reading.new.count ≤ limit) }
-    ensures reads { result ≡ Err Finish.ReadFault → ⊥ }
-    ensures files { result ≡ Err Finish.FileFault → ⊥ }
+    ensures counted { IfOk result (λ taken. cursor.new.count ≡ cursor.old.count + taken) }
+    ensures within { OnOk result (cursor.old.count ≤ limit → cursor.new.count ≤ limit) }
     ensures count { O.faults out.old ≤ O.faults out.new }
     ensures failed { result ≡ Err Finish.WriteFault → Rose (O.faults out.old) (O.faults out.new) }
 {
     let run = run_length(bytes);
-    if let Some(finish) = reading.take_run(M::LONGEST, limit, &bytes[..run]) {
+    if let Some(finish) = cursor.take_run(M::LONGEST, limit, &bytes[..run]) {
         return Err(finish);
     }
     if run == bytes.len() {
         return Ok(run);
     }
-    match take_lf(alloc, machine, out, reading, limit) {
+    match take_lf(alloc, machine, out, cursor, limit) {
         Some(finish) => Err(finish),
         None => Ok(run + 1),
     }
@@ -113,26 +107,24 @@ fn take_lf<M: Machine, O: Sink>(
     alloc: Global,
     machine: &mut M,
     out: &mut O,
-    reading: &mut Reading,
+    cursor: &mut Cursor,
     limit: u64,
 ) -> Option<Finish>
     requires { limit < 2 ^ 63 }
-    ensures goes { Goes (M.tells machine.old) (M.tells machine.new) (O.taken out.old) (O.taken out.new) M.LONGEST limit reading.old reading.new (10 ∷ []) result }
-    ensures counted { IfNone result ((reading.new.count ≡ reading.old.count + 1) × (reading.new.count ≤ limit)) }
-    ensures reads { result ≡ Some Finish.ReadFault → ⊥ }
-    ensures files { result ≡ Some Finish.FileFault → ⊥ }
+    ensures goes { Goes M.tells machine.old machine.new (O.taken out.old) (O.taken out.new) M.LONGEST limit cursor.old cursor.new (10 ∷ []) result }
+    ensures counted { IfNone result ((cursor.new.count ≡ cursor.old.count + 1) × (cursor.new.count ≤ limit)) }
     ensures count { O.faults out.old ≤ O.faults out.new }
     ensures failed { result ≡ Some Finish.WriteFault → Rose (O.faults out.old) (O.faults out.new) }
 {
-    if reading.count >= limit {
+    if cursor.count >= limit {
         return Some(Finish::InputTooLong);
     }
-    reading.count += 1;
-    match end_line(alloc, machine, out, reading.kept.as_slice(), reading.number) {
+    cursor.count += 1;
+    match end_line(alloc, machine, out, cursor.kept.as_slice(), cursor.number) {
         Some(finish) => Some(finish),
         None => {
-            reading.kept.truncate(0);
-            reading.number += 1;
+            cursor.kept.truncate(0);
+            cursor.number += 1;
             None
         }
     }
@@ -147,10 +139,8 @@ fn end_line<M: Machine, O: Sink>(
     number: u64,
 ) -> Option<Finish>
     ensures line { MatchOption result
-        (Answered (M.tells machine.old) (M.tells machine.new) (O.taken out.old) (O.taken out.new) line.now)
-        (EndsAt (M.tells machine.old) (O.taken out.old) (O.taken out.new) number line.now) }
-    ensures reads { result ≡ Some Finish.ReadFault → ⊥ }
-    ensures files { result ≡ Some Finish.FileFault → ⊥ }
+        (RunsLine (M.tells machine.old) (M.tells machine.new) (O.taken out.old) (O.taken out.new) M.LONGEST line.now)
+        (EndsAt (M.tells machine.old) (O.taken out.old) (O.taken out.new) M.LONGEST number line.now) }
     ensures count { O.faults out.old ≤ O.faults out.new }
     ensures failed { result ≡ Some Finish.WriteFault → Rose (O.faults out.old) (O.faults out.new) }
 {

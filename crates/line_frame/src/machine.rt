@@ -1,8 +1,7 @@
-ghost use Rattle.std.specs.Prelude.{◌≡◌, ◌+◌, ◌<◌, ℕ, List, [], ◌∷◌, IfOk, take};
-ghost use Rattle.line_frame.specs.Told.{Told, after};
-ghost use Rattle.line_frame.specs.Line.{IfBad};
+ghost use Rattle.std.specs.Prelude.{◌≡◌, ◌+◌, ℕ, List, [], IfOk, take};
+ghost use Rattle.line_frame.specs.Told.{Told, TellsFirst, TellsBad};
+ghost use Rattle.line_frame.specs.BadLine.{IfBad};
 ghost use Rattle.line_frame.specs.declared.finish.Finish.{Finish};
-ghost use Rattle.line_frame.specs.declared.finish.Finish.TheVariants.{Bad};
 
 use std::alloc::Global;
 use task_model::Row;
@@ -22,22 +21,17 @@ pub trait Machine {
 
     const LONGEST: usize;
 
-    // What is written for these lines, the first of which has this number, and how that ends
-    // where none of them ends it before.
-    ghost tells: { Self → ℕ → List (List ℕ) → Finish → Told };
+    // What is written for these lines, the first of which has this number, and how that ends: so where
+    // none of them ends it before.
+    ghost tells: { Self → ℕ → List (List ℕ) → Finish → Told → Type 0 };
 
-    /// Runs a line without its LF. Of a longer line than the longest, one byte more is enough.
+    /// Runs a line without its LF. Of a longer line than the longest, the first bytes are given, one more than the
+    /// longest line has.
     fn run_line(&mut self, alloc: Global, line: &[u8]) -> Result<Row<u8>, LineStop>
-        ensures ok { IfOk result (λ text. (number : ℕ) (lines : List (List ℕ)) (finish : Finish) →
-            tells self.old number (line.now ∷ lines) finish ≡ after text.list (tells self.new (number + 1) lines finish)) }
-        ensures bad { IfBad result (λ column. (number : ℕ) (lines : List (List ℕ)) (finish : Finish) →
-            tells self.old number (line.now ∷ lines) finish ≡ record { output = []; finish = Bad number column }) };
+        ensures ok { IfOk result (λ text. (whole : List ℕ) → line.now ≡ take (LONGEST + 1) whole → TellsFirst (tells self.old) (tells self.new) whole text.list) }
+        ensures bad { IfBad result (λ column. (whole : List ℕ) → line.now ≡ take (LONGEST + 1) whole → TellsBad (tells self.old) whole column) };
 
     // No lines: nothing is written.
-    ghost no_lines: { (machine : Self) (number : ℕ) (finish : Finish) →
-        tells machine number [] finish ≡ record { output = []; finish = finish } };
-
-    // Of a longer line than the longest, one byte more is enough.
-    ghost cut_line: { (machine : Self) (number : ℕ) (line : List ℕ) (lines : List (List ℕ)) (finish : Finish) →
-        tells machine number (line ∷ lines) finish ≡ tells machine number (take (LONGEST + 1) line ∷ lines) finish };
+    ghost no_lines: { (machine : Self) (number : ℕ) (finish : Finish) (told : Told) →
+        tells machine number [] finish told → told ≡ record { output = []; finish = finish } };
 }

@@ -1,4 +1,4 @@
-ghost use Rattle.std.specs.Prelude.{[], ◌∷◌, ◌<◌, ◌^◌, refl};
+ghost use Rattle.std.specs.Prelude.{◌≡◌, [], ◌∷◌, ◌<◌, ◌^◌};
 ghost use Rattle.std.specs.List.{flat_map};
 
 use crate::{Finish, LineStop, Machine, drive};
@@ -17,7 +17,7 @@ impl Machine for Yes {
 
     const LONGEST: usize = 3;
 
-    ghost tells = { λ _ _ lines finish. record { output = flat_map (λ _. 121 ∷ 10 ∷ []) lines; finish = finish } };
+    ghost tells = { λ _ _ lines finish told. told ≡ record { output = flat_map (λ _. 121 ∷ 10 ∷ []) lines; finish = finish } };
 
     fn run_line(&mut self, alloc: Global, _line: &[u8]) -> Result<Row<u8>, LineStop> {
         let mut text = Row::new(alloc);
@@ -27,9 +27,7 @@ impl Machine for Yes {
         }
     }
 
-    ghost no_lines = { λ _ _ _. refl };
-
-    ghost cut_line = { λ _ _ _ _ _. refl };
+    ghost no_lines = { λ _ _ _ _ is. is };
 }
 
 fn row<T: Copy + Drop>(alloc: Global, items: &[T]) -> Result<Row<T>, OutOfMemory> {

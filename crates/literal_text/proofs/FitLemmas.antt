@@ -6,8 +6,8 @@ use Rattle.task_model.specs.Text.{Text}
 use Rattle.task_model.specs.Basic.{BasicTerm, unit_type, bool_type, int_type, text_type, pair_type, list_type}
 use Rattle.task_model.specs.Value.{ValueTerm, unit_value, bool_value, int_value, text_value, pair_value, list_value, as_values, count_of, value_has, values_have}
 use Rattle.task_model.proofs.RowLemmas.{count_of-as_values}
-use Rattle.literal_text.specs.Literals.{Parse, literal, unit, bool, int, text, pair, empty, value, IsWithinLimits, AreWithinLimits, levels_of, levels_in}
-use Rattle.literal_text.specs.Reads.{HasWanted, fewest_levels, fewest, Fit, AllFit, Lit}
+use Rattle.literal_text.specs.Literals.{LiteralParse, literal, unit, bool, int, text, pair, empty, value, IsWithinLiteralLimits, AreWithinLiteralLimits, levels_of, levels_in}
+use Rattle.literal_text.specs.LiteralReading.{HasWanted, fewest_levels, fewest, Fit, AllFit, Lit}
 
 -- ---- tests
 pub both_true : (p q : Bool) → cond p q false ≡ true → (p ≡ true) × (q ≡ true)
@@ -52,20 +52,43 @@ fewest_least None v e = some_level v
 fewest_least (Some b) v e = fewest_least_of b v e
 
 -- ---- pairs
-pub fit_pair : {a b : BasicTerm} {room : ℕ} {v w : ValueTerm} → 1 ≤ room → Fit (Some a) (room - 1) v → Fit (Some b) (room - 1) w → Fit (Some (pair_type a b)) room (pair_value v w)
-fit_pair {a = a} {b = b} {v = v} {w = w} some f g = let l = f.levels in let r = g.levels in record { limits = (f.limits, g.limits); levels = omega (arith, l, r, some); typed = two_true (value_has v a) (value_has w b) f.typed g.typed }
+pub fit_pair : {a b : BasicTerm} {room : ℕ} {v w : ValueTerm} → 1 ≤ room → Fit (Some a) (room - 1) v → Fit (Some b) (room - 1) w
+    → Fit (Some (pair_type a b)) room (pair_value v w)
+fit_pair {a = a} {b = b} {v = v} {w = w} some f g = let l = f.levels in let r = g.levels in record {
+  limits = (f.limits, g.limits);
+  levels = omega (arith, l, r, some);
+  typed = two_true (value_has v a) (value_has w b) f.typed g.typed;
+}
 
-pub pair_fit : {a b : BasicTerm} {room : ℕ} {v w : ValueTerm} → Fit (Some (pair_type a b)) room (pair_value v w) → Fit (Some a) (room - 1) v × Fit (Some b) (room - 1) w
+pub pair_fit : {a b : BasicTerm} {room : ℕ} {v w : ValueTerm} → Fit (Some (pair_type a b)) room (pair_value v w) → Fit (Some a) (room - 1) v
+    × Fit (Some b) (room - 1) w
 pair_fit {a = a} {b = b} {v = v} {w = w} f =
     let p = both_true (value_has v a) (value_has w b) f.typed in
-    let n = f.levels in
-    (record { limits = f.limits.0; levels = omega (arith, n); typed = p.0 }, record { limits = f.limits.1; levels = omega (arith, n); typed = p.1 })
+    let n = f.levels in (
+      record { limits = f.limits.0; levels = omega (arith, n); typed = p.0 },
+      record {
+        limits = f.limits.1;
+        levels = omega (arith, n);
+        typed = p.1;
+      },
+    )
 
 pub fit_any_pair : {room : ℕ} {v w : ValueTerm} → 1 ≤ room → Fit None (room - 1) v → Fit None (room - 1) w → Fit None room (pair_value v w)
-fit_any_pair some f g = let l = f.levels in let r = g.levels in record { limits = (f.limits, g.limits); levels = omega (arith, l, r, some); typed = tt }
+fit_any_pair some f g = let l = f.levels in let r = g.levels in record {
+  limits = (f.limits, g.limits);
+  levels = omega (arith, l, r, some);
+  typed = tt;
+}
 
 pub any_pair_fit : {room : ℕ} {v w : ValueTerm} → Fit None room (pair_value v w) → Fit None (room - 1) v × Fit None (room - 1) w
-any_pair_fit f = let n = f.levels in (record { limits = f.limits.0; levels = omega (arith, n); typed = tt }, record { limits = f.limits.1; levels = omega (arith, n); typed = tt })
+any_pair_fit f = let n = f.levels in (
+  record {
+    limits = f.limits.0;
+    levels = omega (arith, n);
+    typed = tt;
+  },
+  record { limits = f.limits.1; levels = omega (arith, n); typed = tt },
+)
 
 -- ---- lists
 -- the want of a list of these
@@ -73,7 +96,7 @@ abbrev pub list_of : Option BasicTerm → Option BasicTerm
 list_of None = None
 list_of (Some b) = Some (list_type b)
 
-all_limits : (want : Option BasicTerm) (room : ℕ) (vs : List ValueTerm) → AllFit want room vs → AreWithinLimits (as_values vs)
+all_limits : (want : Option BasicTerm) (room : ℕ) (vs : List ValueTerm) → AllFit want room vs → AreWithinLiteralLimits (as_values vs)
 all_limits want room [] f = tt
 all_limits want room (v ∷ vs) f = (f.0.limits, all_limits want room vs f.1)
 
@@ -88,21 +111,40 @@ all_have b room (v ∷ vs) f = two_true (value_has v b) (values_have (as_values 
 count_few : (vs : List ValueTerm) → length vs ≤ 1024 → count_of (as_values vs) ≤ 1024
 count_few vs le = let e = count_of-as_values vs in omega (arith, e, le)
 
-pub fit_list : (want : Option BasicTerm) (room : ℕ) (vs : List ValueTerm) → 1 ≤ room → length vs ≤ 1024 → AllFit want (room - 1) vs → Fit (list_of want) room (list_value (as_values vs))
-fit_list None room vs some le f = let l = all_levels None (room - 1) vs f in record { limits = (count_few vs le, all_limits None (room - 1) vs f); levels = omega (arith, l, some); typed = tt }
-fit_list (Some b) room vs some le f = let l = all_levels (Some b) (room - 1) vs f in record { limits = (count_few vs le, all_limits (Some b) (room - 1) vs f); levels = omega (arith, l, some); typed = two_true (nat_le (count_of (as_values vs)) 1024) (values_have (as_values vs) b) (few (count_of (as_values vs)) (count_few vs le)) (all_have b (room - 1) vs f) }
+pub fit_list : (want : Option BasicTerm) (room : ℕ) (vs : List ValueTerm) → 1 ≤ room → length vs ≤ 1024 → AllFit want (room - 1) vs
+    → Fit (list_of want) room (list_value (as_values vs))
+fit_list None room vs some le f = let l = all_levels None (room - 1) vs f in record {
+  limits = (count_few vs le, all_limits None (room - 1) vs f);
+  levels = omega (arith, l, some);
+  typed = tt;
+}
+fit_list (Some b) room vs some le f = let l = all_levels (Some b) (room - 1) vs f in record {
+  limits = (count_few vs le, all_limits (Some b) (room - 1) vs f);
+  levels = omega (arith, l, some);
+  typed = two_true (nat_le (count_of (as_values vs)) 1024) (values_have (as_values vs) b)
+      (few (count_of (as_values vs)) (count_few vs le)) (all_have b (room - 1) vs f);
+}
 
-any_all : (room : ℕ) (vs : List ValueTerm) → AreWithinLimits (as_values vs) → levels_in (as_values vs) ≤ room → AllFit None room vs
+any_all : (room : ℕ) (vs : List ValueTerm) → AreWithinLiteralLimits (as_values vs) → levels_in (as_values vs) ≤ room → AllFit None room vs
 any_all room [] limits levels = tt
-any_all room (v ∷ vs) limits levels = (record { limits = limits.0; levels = omega arith; typed = tt }, any_all room vs limits.1 (omega arith))
+any_all room (v ∷ vs) limits levels = (
+  record {
+    limits = limits.0;
+    levels = omega arith;
+    typed = tt;
+  },
+  any_all room vs limits.1 (omega arith),
+)
 
-typed_all : (b : BasicTerm) (room : ℕ) (vs : List ValueTerm) → AreWithinLimits (as_values vs) → levels_in (as_values vs) ≤ room → values_have (as_values vs) b ≡ true → AllFit (Some b) room vs
+typed_all : (b : BasicTerm) (room : ℕ) (vs : List ValueTerm) → AreWithinLiteralLimits (as_values vs) → levels_in (as_values vs) ≤ room
+    → values_have (as_values vs) b ≡ true → AllFit (Some b) room vs
 typed_all b room [] limits levels e = tt
 typed_all b room (v ∷ vs) limits levels e =
     let p = both_true (value_has v b) (values_have (as_values vs) b) e in
     (record { limits = limits.0; levels = omega arith; typed = p.0 }, typed_all b room vs limits.1 (omega arith) p.1)
 
-pub list_fit : (want : Option BasicTerm) (room : ℕ) (vs : List ValueTerm) → Fit (list_of want) room (list_value (as_values vs)) → (1 ≤ room) × (length vs ≤ 1024) × AllFit want (room - 1) vs
+pub list_fit : (want : Option BasicTerm) (room : ℕ) (vs : List ValueTerm) → Fit (list_of want) room (list_value (as_values vs)) → (1 ≤ room)
+    × (length vs ≤ 1024) × AllFit want (room - 1) vs
 list_fit None room vs f =
     let n = f.levels in let e = count_of-as_values vs in let m = f.limits.0 in
     (omega (arith, n), omega (arith, e, m), any_all (room - 1) vs f.limits.1 (omega (arith, n)))
@@ -112,7 +154,7 @@ list_fit (Some b) room vs f =
     (omega (arith, n), omega (arith, e, m), typed_all b (room - 1) vs f.limits.1 (omega (arith, n)) p.1)
 
 -- ---- a least literal of each type
-least_parse : BasicTerm → Parse literal
+least_parse : BasicTerm → LiteralParse literal
 least_parse unit_type = unit 0 0
 least_parse bool_type = bool true 0
 least_parse int_type = int false (48 ∷ []) 0 ((λ e. cc), ((omega arith, omega arith), tt), refl) 0
@@ -120,7 +162,8 @@ least_parse text_type = text (34 ∷ (34 ∷ [])) [] ([], refl, refl) 0
 least_parse (pair_type a b) = pair 0 (least_parse a) 0 (least_parse b) 0
 least_parse (list_type a) = empty 0 0
 
-least_fits : (b : BasicTerm) → IsWithinLimits (value (least_parse b)) × (levels_of (value (least_parse b)) ≡ fewest_levels b) × (value_has (value (least_parse b)) b ≡ true)
+least_fits : (b : BasicTerm) → IsWithinLiteralLimits (value (least_parse b)) × (levels_of (value (least_parse b)) ≡ fewest_levels b)
+    × (value_has (value (least_parse b)) b ≡ true)
 unfolding least_parse
 least_fits unit_type = (tt, refl, refl)
 least_fits bool_type = (tt, refl, refl)
@@ -128,11 +171,32 @@ least_fits int_type = (omega arith, refl, refl)
 least_fits text_type = (omega arith, refl, refl)
 least_fits (pair_type a b) =
     let p = least_fits a in
-    let q = least_fits b in
-    ((p.0, q.0), ap (λ n. suc (max n (levels_of (value (least_parse b))))) p.1 ∙ ap (λ n. suc (max (fewest_levels a) n)) q.1, two_true (value_has (value (least_parse a)) a) (value_has (value (least_parse b)) b) p.2 q.2)
+    let q = least_fits b in (
+      (p.0, q.0),
+      ap (λ n. suc (max n (levels_of (value (least_parse b))))) p.1 ∙ ap (λ n. suc (max (fewest_levels a) n)) q.1,
+      two_true (value_has (value (least_parse a)) a) (value_has (value (least_parse b)) b) p.2 q.2,
+    )
 least_fits (list_type a) = ((omega arith, tt), refl, refl)
 
 -- a wanted literal that has room
 pub least_lit : (want : Option BasicTerm) (room : ℕ) → fewest want ≤ room → (t : Text) × (v : ValueTerm) × Lit want room t v
-least_lit None room le = (_, _, record { parse = unit 0 0; are = refl; stands_for = refl; fit = record { limits = tt; levels = le; typed = tt } })
-least_lit (Some b) room le = let f = least_fits b in let e = f.1 in (_, _, record { parse = least_parse b; are = refl; stands_for = refl; fit = record { limits = f.0; levels = omega (arith, e, le); typed = f.2 } })
+least_lit None room le = (
+  _,
+  _,
+  record {
+    parse = unit 0 0;
+    are = refl;
+    stands_for = refl;
+    fit = record { limits = tt; levels = le; typed = tt };
+  },
+)
+least_lit (Some b) room le = let f = least_fits b in let e = f.1 in (
+  _,
+  _,
+  record {
+    parse = least_parse b;
+    are = refl;
+    stands_for = refl;
+    fit = record { limits = f.0; levels = omega (arith, e, le); typed = f.2 };
+  },
+)

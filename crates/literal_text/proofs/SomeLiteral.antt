@@ -5,17 +5,24 @@ use Rattle.task_model.specs.Text.{Text}
 use Rattle.task_model.specs.Basic.{BasicTerm, unit_type, bool_type, int_type, text_type, pair_type, list_type}
 use Rattle.task_model.specs.Value.{ValueTerm}
 use Rattle.task_model.specs.Accepted.{symbols_of}
-use Rattle.exact_reading.specs.Reading.{Alive, Always}
+use Rattle.exact_reading.specs.Reading.{IsViablePrefix, Always}
 use Rattle.literal_text.specs.Literals.{IsLiteral, IsLiteralOf}
 use Rattle.literal_text.specs.Types as types
 use Rattle.literal_text.specs.Types.{IsTypeName}
-use Rattle.literal_text.specs.Reads.{fewest_levels, Lit}
+use Rattle.literal_text.specs.LiteralReading.{fewest_levels, Lit}
 use Rattle.literal_text.proofs.FitLemmas.{least_lit}
 
 whole_lit : (want : Option BasicTerm) (t : Text) (v : ValueTerm) → Lit want 64 t v → IsLiteral t v
-whole_lit want t v l = record { before = 0; parse = l.parse; are = l.are; stands_for = l.stands_for; limits = l.fit.limits; levels = l.fit.levels }
+whole_lit want t v l = record {
+  before = 0;
+  parse = l.parse;
+  are = l.are;
+  stands_for = l.stands_for;
+  limits = l.fit.limits;
+  levels = l.fit.levels;
+}
 
-pub some_any : Alive IsLiteral Always []
+pub some_any : IsViablePrefix IsLiteral Always []
 some_any = let (t, v, l) = least_lit None 64 (omega arith) in (t, v, whole_lit None t v l, tt)
 
 fewest_symbols : (b : BasicTerm) → fewest_levels b ≤ symbols_of b
@@ -26,11 +33,11 @@ fewest_symbols text_type = omega arith
 fewest_symbols (pair_type a b) = let l = fewest_symbols a in let r = fewest_symbols b in omega (arith, l, r)
 fewest_symbols (list_type a) = omega arith
 
-pub some_typed : (b : BasicTerm) → symbols_of b ≤ 64 → Alive (IsLiteralOf b) Always []
+pub some_typed : (b : BasicTerm) → symbols_of b ≤ 64 → IsViablePrefix (IsLiteralOf b) Always []
 some_typed b le =
     let few = fewest_symbols b in
     let (t, v, l) = least_lit (Some b) 64 (omega (arith, few, le)) in
     (t, v, record { is = whole_lit (Some b) t v l; has = l.fit.typed }, tt)
 
-pub some_name : Alive IsTypeName Always []
+pub some_name : IsViablePrefix IsTypeName Always []
 some_name = (codes "unit", unit_type, record { before = 0; parse = types.unit 0; are = refl; stands_for = refl; symbols = omega arith }, tt)

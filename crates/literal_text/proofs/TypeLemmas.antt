@@ -4,16 +4,16 @@ use Rattle.std.specs.Prelude.{codes}
 use Rattle.task_model.specs.Text.{Text}
 use Rattle.task_model.specs.Basic.{BasicTerm, unit_type, bool_type, int_type, text_type, pair_type, list_type}
 use Rattle.task_model.specs.Accepted.{symbols_of}
-use Rattle.exact_reading.specs.declared.stop.Stop.{Stop}
-use Rattle.exact_reading.specs.declared.stop.Stop.TheVariants.{Fault}
-use Rattle.exact_reading.specs.declared.stop.Kind.TheVariants.{Unexpected}
-use Rattle.exact_reading.specs.Reading.{Language, Begins, Alive, Always, Answer, Right, NoToken}
+use Rattle.exact_reading.specs.declared.stop.ParseStop.{ParseStop}
+use Rattle.exact_reading.specs.declared.stop.ParseStop.TheVariants.{Fault}
+use Rattle.exact_reading.specs.declared.stop.FaultKind.TheVariants.{Unexpected}
+use Rattle.exact_reading.specs.Reading.{Language, SharesPrefix, IsViablePrefix, Always, Answer, Right, NoToken}
 use Rattle.exact_reading.proofs.Sequences.{Bind, Done}
 use Rattle.exact_reading.proofs.Productions.{Follows, then_right, then_stop, by_production, same_language, refused_first}
 use Rattle.exact_reading.proofs.Starts.{first_token}
 use Rattle.literal_text.specs.Literals.{spaces}
-use Rattle.literal_text.specs.Types.{Parse, unit, bool, int, text, pair, list, bytes, basic}
-use Rattle.literal_text.specs.Reads.{NoBlank, Word, TypeName, PairName, ListName}
+use Rattle.literal_text.specs.Types.{TypeParse, unit, bool, int, text, pair, list, type_bytes, basic}
+use Rattle.literal_text.specs.LiteralReading.{NoBlank, SpelledWord, TypeName, PairName, ListName}
 use Rattle.literal_text.proofs.LiteralLemmas.{Marked, marked_are, marked_right, marked_stop, word_are, word_is, no_blank}
 
 abbrev pub Measured : Type 0
@@ -27,11 +27,11 @@ some_symbol text_type = omega arith
 some_symbol (pair_type a b) = omega arith
 some_symbol (list_type a) = omega arith
 
-pub name_alive : (room : ℕ) → 1 ≤ room → Alive (TypeName room) Always []
-name_alive room some = (bytes (unit 0), (unit_type, 1), record { parse = unit 0; are = refl; stands_for = refl; symbols = some }, tt)
+pub name_alive : (room : ℕ) → 1 ≤ room → IsViablePrefix (TypeName room) Always []
+name_alive room some = (type_bytes (unit 0), (unit_type, 1), record { parse = unit 0; are = refl; stands_for = refl; symbols = some }, tt)
 
 -- the first byte of a type's name
-abbrev Head : Parse → ℕ → Type 0
+abbrev Head : TypeParse → ℕ → Type 0
 Head (unit n) t = t ≡ 117
 Head (bool n) t = t ≡ 98
 Head (int n) t = t ≡ 105
@@ -39,7 +39,7 @@ Head (text n) t = t ≡ 116
 Head (pair m a k b n) t = t ≡ 40
 Head (list m a n) t = t ≡ 91
 
-head_of : (d : Parse) → (t : ℕ) × (s : Text) × (bytes d ≡ t ∷ s) × Head d t
+head_of : (d : TypeParse) → (t : ℕ) × (s : Text) × (type_bytes d ≡ t ∷ s) × Head d t
 head_of (unit n) = (_, _, refl, refl)
 head_of (bool n) = (_, _, refl, refl)
 head_of (int n) = (_, _, refl, refl)
@@ -47,7 +47,7 @@ head_of (text n) = (_, _, refl, refl)
 head_of (pair m a k b n) = (_, _, refl, refl)
 head_of (list m a n) = (_, _, refl, refl)
 
-head_no : (d : Parse) (t : ℕ) → Head d t → t ≢ 32
+head_no : (d : TypeParse) (t : ℕ) → Head d t → t ≢ 32
 head_no (unit n) t e = omega arith
 head_no (bool n) t e = omega arith
 head_no (int n) t e = omega arith
@@ -55,7 +55,7 @@ head_no (text n) t e = omega arith
 head_no (pair m a k b n) t e = omega arith
 head_no (list m a n) t e = omega arith
 
-head_is : (d : Parse) (u : ℕ) (s a z : Text) → a ≡ bytes d → Begins [] (u ∷ s) (a ++ z) → Head d u
+head_is : (d : TypeParse) (u : ℕ) (s a z : Text) → a ≡ type_bytes d → SharesPrefix [] (u ∷ s) (a ++ z) → Head d u
 head_is d u s a z e b =
     let (t, w, starts, head) = head_of d in
     let (behind, is) = first_token t w a z (u ∷ s) (e ∙ starts) b in
@@ -65,15 +65,16 @@ head_is d u s a z e b =
     same t u w s e = cc
 
 pub name_no_blank : {room : ℕ} {a : Text} {x : Measured} (z : Text) → TypeName room a x → NoBlank (a ++ z)
-name_no_blank z h = let (t, s, e, is) = head_of h.parse in subst (λ l. NoBlank (l ++ z)) (sym (h.are ∙ e)) (no_blank t (s ++ z) (head_no h.parse t is))
+name_no_blank z h = let (t, s, e, is) = head_of h.parse in
+    subst (λ l. NoBlank (l ++ z)) (sym (h.are ∙ e)) (no_blank t (s ++ z) (head_no h.parse t is))
 
-done_alive : {Y : Type 0} (y : Y) → Alive {T = ℕ} (Done y) Always []
+done_alive : {Y : Type 0} (y : Y) → IsViablePrefix {T = ℕ} (Done y) Always []
 done_alive y = ([], y, record { none = refl; same = refl }, tt)
 
 -- ---- pairs
 module _ (room : ℕ) where
   abbrev Pair4 : Measured → Measured → Language ℕ Measured
-  Pair4 x y = Bind (Word (41 ∷ [])) (λ _. Done (pair_type x.0 y.0, suc (x.1 + y.1)))
+  Pair4 x y = Bind (SpelledWord (41 ∷ [])) (λ _. Done (pair_type x.0 y.0, suc (x.1 + y.1)))
 
   abbrev Pair3 : Measured → Language ℕ Measured
   Pair3 x = Bind (TypeName (room - 1 - x.1)) (Pair4 x)
@@ -104,8 +105,13 @@ module _ (room : ℕ) where
         between = k.first.behind;
         second = l.first.parse;
         behind = q.first.behind;
-        are = marked_are 40 Pair1 h ∙ ap (λ r. 40 ∷ (spaces h.first.behind ++ r)) (g.split ∙ ap (λ r. r ++ g.back) g.first.are ∙ ap (λ r. bytes g.first.parse ++ r) (marked_are 44 (Pair3 g.value) k ∙ ap (λ r. 44 ∷ (spaces k.first.behind ++ r)) (l.split ∙ ap (λ r. r ++ l.back) l.first.are ∙ ap (λ r. bytes l.first.parse ++ r) (word_are (41 ∷ []) (pair_type g.value.0 l.value.0, suc (g.value.1 + l.value.1)) q))));
-        stands_for = q.next.same ∙ ap (λ p. (pair_type p.0 l.value.0, suc (p.1 + l.value.1))) x_is ∙ ap (λ p. (pair_type (basic g.first.parse) p.0, suc (symbols_of (basic g.first.parse) + p.1))) y_is;
+        are = marked_are 40 Pair1 h ∙ ap (λ r. 40 ∷ (spaces h.first.behind ++ r))
+            (g.split ∙ ap (λ r. r ++ g.back) g.first.are ∙ ap (λ r. type_bytes g.first.parse ++ r)
+            (marked_are 44 (Pair3 g.value) k ∙ ap (λ r. 44 ∷ (spaces k.first.behind ++ r))
+            (l.split ∙ ap (λ r. r ++ l.back) l.first.are ∙ ap (λ r. type_bytes l.first.parse ++ r)
+            (word_are (41 ∷ []) (pair_type g.value.0 l.value.0, suc (g.value.1 + l.value.1)) q))));
+        stands_for = q.next.same ∙ ap (λ p. (pair_type p.0 l.value.0, suc (p.1 + l.value.1))) x_is
+            ∙ ap (λ p. (pair_type (basic g.first.parse) p.0, suc (symbols_of (basic g.first.parse) + p.1))) y_is;
         symbols = omega (arith, x_size, x_most, y_most, big);
       }
 
@@ -116,107 +122,137 @@ module _ (room : ℕ) where
       let s2 = some_symbol (basic h.second) in
       record {
         front = 40 ∷ spaces h.before;
-        back = bytes h.first ++ (44 ∷ (spaces h.between ++ (bytes h.second ++ (41 ∷ spaces h.behind))));
+        back = type_bytes h.first ++ (44 ∷ (spaces h.between ++ (type_bytes h.second ++ (41 ∷ spaces h.behind))));
         value = tt;
         split = h.are;
         first = record { behind = h.before; are = refl };
         next = record {
-          front = bytes h.first;
-          back = 44 ∷ (spaces h.between ++ (bytes h.second ++ (41 ∷ spaces h.behind)));
+          front = type_bytes h.first;
+          back = 44 ∷ (spaces h.between ++ (type_bytes h.second ++ (41 ∷ spaces h.behind)));
           value = (basic h.first, symbols_of (basic h.first));
           split = refl;
           first = record { parse = h.first; are = refl; stands_for = refl; symbols = omega (arith, n, s2) };
           next = record {
             front = 44 ∷ spaces h.between;
-            back = bytes h.second ++ (41 ∷ spaces h.behind);
+            back = type_bytes h.second ++ (41 ∷ spaces h.behind);
             value = tt;
             split = refl;
             first = record { behind = h.between; are = refl };
             next = record {
-              front = bytes h.second;
+              front = type_bytes h.second;
               back = 41 ∷ spaces h.behind;
               value = (basic h.second, symbols_of (basic h.second));
               split = refl;
               first = record { parse = h.second; are = refl; stands_for = refl; symbols = omega (arith, n, s1) };
-              next = word_is (41 ∷ []) (pair_type (basic h.first) (basic h.second), suc (symbols_of (basic h.first) + symbols_of (basic h.second))) h.behind refl h.stands_for;
+              next = word_is (41 ∷ [])
+                  (pair_type (basic h.first) (basic h.second), suc (symbols_of (basic h.first) + symbols_of (basic h.second))) h.behind refl
+                  h.stands_for;
             };
           };
         };
       }
 
-  alive4 : (x y : Measured) → Alive (Pair4 x y) Always []
+  alive4 : (x y : Measured) → IsViablePrefix (Pair4 x y) Always []
   alive4 x y = (41 ∷ [], (pair_type x.0 y.0, suc (x.1 + y.1)), word_is (41 ∷ []) (pair_type x.0 y.0, suc (x.1 + y.1)) 0 refl refl, tt)
 
-  alive3 : (x : Measured) → 1 ≤ room - 1 - x.1 → Alive (Pair3 x) Always []
+  alive3 : (x : Measured) → 1 ≤ room - 1 - x.1 → IsViablePrefix (Pair3 x) Always []
   alive3 x le =
       let (t, y, h, o) = name_alive (room - 1 - x.1) le in
       let (s, v, k, o') = alive4 x y in
       (t ++ s, v, record { front = t; back = s; value = y; split = refl; first = h; next = k }, tt)
 
-  alive2 : (x : Measured) → 1 ≤ room - 1 - x.1 → Alive (Pair2 x) Always []
-  alive2 x le = let (s, v, k, o) = alive3 x le in (44 ∷ s, v, record { front = 44 ∷ []; back = s; value = tt; split = refl; first = record { behind = 0; are = refl }; next = k }, tt)
+  alive2 : (x : Measured) → 1 ≤ room - 1 - x.1 → IsViablePrefix (Pair2 x) Always []
+  alive2 x le = let (s, v, k, o) = alive3 x le in (
+    44 ∷ s,
+    v,
+    record {
+      front = 44 ∷ [];
+      back = s;
+      value = tt;
+      split = refl;
+      first = record { behind = 0; are = refl };
+      next = k;
+    },
+    tt,
+  )
 
   -- a first part within its room leaves some for the second
   leaves : 3 ≤ room → {a : Text} {x : Measured} → TypeName (room - 2) a x → 1 ≤ room - 1 - x.1
-  leaves big {x = x} h = let e : x.1 ≡ symbols_of (basic h.parse) = ap (λ p. p.1) h.stands_for in let n = h.symbols in omega (arith, e, n, big)
+  leaves big {x = x} h = let e : x.1 ≡ symbols_of (basic h.parse) = ap (λ p. p.1) h.stands_for in let n = h.symbols in
+      omega (arith, e, n, big)
 
-  alive1 : 3 ≤ room → Alive Pair1 Always []
+  alive1 : 3 ≤ room → IsViablePrefix Pair1 Always []
   alive1 big =
       let (t, x, h, o) = name_alive (room - 2) (omega arith) in
       let (s, v, k, o') = alive2 x (leaves big h) in
       (t ++ s, v, record { front = t; back = s; value = x; split = refl; first = h; next = k }, tt)
 
   follow4 : (x : Measured) → Follows NoBlank (Pair4 x) NoBlank
-  follow4 x y b v z h hz = subst (λ l. NoBlank (l ++ z)) (sym (word_are (41 ∷ []) (pair_type x.0 y.0, suc (x.1 + y.1)) h)) (no_blank 41 (spaces h.first.behind ++ z) (omega arith))
+  follow4 x y b v z h hz = subst (λ l. NoBlank (l ++ z)) (sym (word_are (41 ∷ []) (pair_type x.0 y.0, suc (x.1 + y.1)) h))
+      (no_blank 41 (spaces h.first.behind ++ z) (omega arith))
 
   follow3 : (x : Measured) → Follows {X = Unit {0}} NoBlank (λ _. Pair3 x) NoBlank
-  follow3 x y b v z h hz = subst (λ l. NoBlank (l ++ z)) (sym h.split) (subst NoBlank (sym (append_assoc h.front h.back z)) (name_no_blank (h.back ++ z) h.first))
+  follow3 x y b v z h hz = subst (λ l. NoBlank (l ++ z)) (sym h.split)
+      (subst NoBlank (sym (append_assoc h.front h.back z)) (name_no_blank (h.back ++ z) h.first))
 
   follow2 : Follows NoBlank Pair2 NoBlank
-  follow2 x b v z h hz = subst (λ l. NoBlank (l ++ z)) (sym (marked_are 44 (Pair3 x) h)) (no_blank 44 ((spaces h.first.behind ++ h.back) ++ z) (omega arith))
+  follow2 x b v z h hz = subst (λ l. NoBlank (l ++ z)) (sym (marked_are 44 (Pair3 x) h))
+      (no_blank 44 ((spaces h.first.behind ++ h.back) ++ z) (omega arith))
 
   follow1 : Follows {X = Unit {0}} NoBlank (λ _. Pair1) NoBlank
-  follow1 y b v z h hz = subst (λ l. NoBlank (l ++ z)) (sym h.split) (subst NoBlank (sym (append_assoc h.front h.back z)) (name_no_blank (h.back ++ z) h.first))
+  follow1 y b v z h hz = subst (λ l. NoBlank (l ++ z)) (sym h.split)
+      (subst NoBlank (sym (append_assoc h.front h.back z)) (name_no_blank (h.back ++ z) h.first))
 
   -- no room for two parts
   pub pair_full : {ts : Text} → room < 3 → Right (PairName room) Always NoBlank ts (Err (Fault Unexpected (length ts)))
-  pair_full {ts = ts} lt = refused_first (PairName room) ts (λ a y z h _ _. let n = h.symbols in let s1 = some_symbol (basic h.first) in let s2 = some_symbol (basic h.second) in omega (arith, n, s1, s2, lt))
+  pair_full {ts = ts} lt = refused_first (PairName room) ts (λ a y z h _ _. let n = h.symbols in let s1 = some_symbol (basic h.first) in
+      let s2 = some_symbol (basic h.second) in omega (arith, n, s1, s2, lt))
 
   module _ (big : 3 ≤ room) where
     by_pair : {ts : Text} {r : Answer ℕ Measured} → Right Pair0 Always NoBlank ts r → Right (PairName room) Always NoBlank ts r
     by_pair right = same_language Pair0 (PairName room) (pair_in big) pair_out right
 
-    pub bracket_stop : {ts : Text} {e : Stop} → Right (Word (40 ∷ [])) Always NoBlank ts (Err e) → Right (PairName room) Always NoBlank ts (Err e)
+    pub bracket_stop : {ts : Text} {e : ParseStop} → Right (SpelledWord (40 ∷ [])) Always NoBlank ts (Err e)
+        → Right (PairName room) Always NoBlank ts (Err e)
     bracket_stop right = by_pair (marked_stop follow1 (alive1 big) right)
 
-    pub bracket_right : {ts rest : Text} {r : Answer ℕ Measured} → Right (Word (40 ∷ [])) Always NoBlank ts (Ok (tt, rest)) → Right Pair1 Always NoBlank rest r → Right (PairName room) Always NoBlank ts r
+    pub bracket_right : {ts rest : Text} {r : Answer ℕ Measured} → Right (SpelledWord (40 ∷ [])) Always NoBlank ts (Ok (tt, rest))
+        → Right Pair1 Always NoBlank rest r → Right (PairName room) Always NoBlank ts r
     bracket_right found right = by_pair (marked_right follow1 (alive1 big) found right)
 
-    pub first_stop : {ts : Text} {e : Stop} → Right (TypeName (room - 2)) Always NoBlank ts (Err e) → Right Pair1 Always NoBlank ts (Err e)
+    pub first_stop : {ts : Text} {e : ParseStop} → Right (TypeName (room - 2)) Always NoBlank ts (Err e)
+        → Right Pair1 Always NoBlank ts (Err e)
     first_stop right = then_stop follow2 (λ _ x h. alive2 x (leaves big h)) right
 
-    pub first_right : {ts rest : Text} {x : Measured} {r : Answer ℕ Measured} → Right (TypeName (room - 2)) Always NoBlank ts (Ok (x, rest)) → Right (Pair2 x) Always NoBlank rest r → Right Pair1 Always NoBlank ts r
+    pub first_right : {ts rest : Text} {x : Measured} {r : Answer ℕ Measured} → Right (TypeName (room - 2)) Always NoBlank ts (Ok (x, rest))
+        → Right (Pair2 x) Always NoBlank rest r → Right Pair1 Always NoBlank ts r
     first_right {x = x} found right = then_right follow2 (alive2 x (leaves big found.by.found)) found right
 
   module _ (x : Measured) (le : 1 ≤ room - 1 - x.1) where
-    pub comma_stop : {ts : Text} {e : Stop} → Right (Word (44 ∷ [])) Always NoBlank ts (Err e) → Right (Pair2 x) Always NoBlank ts (Err e)
+    pub comma_stop : {ts : Text} {e : ParseStop} → Right (SpelledWord (44 ∷ [])) Always NoBlank ts (Err e)
+        → Right (Pair2 x) Always NoBlank ts (Err e)
     comma_stop right = marked_stop (follow3 x) (alive3 x le) right
 
-    pub comma_right : {ts rest : Text} {r : Answer ℕ Measured} → Right (Word (44 ∷ [])) Always NoBlank ts (Ok (tt, rest)) → Right (Pair3 x) Always NoBlank rest r → Right (Pair2 x) Always NoBlank ts r
+    pub comma_right : {ts rest : Text} {r : Answer ℕ Measured} → Right (SpelledWord (44 ∷ [])) Always NoBlank ts (Ok (tt, rest))
+        → Right (Pair3 x) Always NoBlank rest r → Right (Pair2 x) Always NoBlank ts r
     comma_right found right = marked_right (follow3 x) (alive3 x le) found right
 
-    pub second_stop : {ts : Text} {e : Stop} → Right (TypeName (room - 1 - x.1)) Always NoBlank ts (Err e) → Right (Pair3 x) Always NoBlank ts (Err e)
+    pub second_stop : {ts : Text} {e : ParseStop} → Right (TypeName (room - 1 - x.1)) Always NoBlank ts (Err e)
+        → Right (Pair3 x) Always NoBlank ts (Err e)
     second_stop right = then_stop (follow4 x) (λ _ y _. alive4 x y) right
 
-    pub second_right : {ts rest : Text} {y : Measured} {r : Answer ℕ Measured} → Right (TypeName (room - 1 - x.1)) Always NoBlank ts (Ok (y, rest)) → Right (Pair4 x y) Always NoBlank rest r → Right (Pair3 x) Always NoBlank ts r
+    pub second_right : {ts rest : Text} {y : Measured} {r : Answer ℕ Measured}
+        → Right (TypeName (room - 1 - x.1)) Always NoBlank ts (Ok (y, rest)) → Right (Pair4 x y) Always NoBlank rest r
+        → Right (Pair3 x) Always NoBlank ts r
     second_right {y = y} found right = then_right (follow4 x) (alive4 x y) found right
 
-  pub leaves_some : {ts rest : Text} {x : Measured} → 3 ≤ room → Right (TypeName (room - 2)) Always NoBlank ts (Ok (x, rest)) → 1 ≤ room - 1 - x.1
+  pub leaves_some : {ts rest : Text} {x : Measured} → 3 ≤ room → Right (TypeName (room - 2)) Always NoBlank ts (Ok (x, rest))
+      → 1 ≤ room - 1 - x.1
   leaves_some big found = leaves big found.by.found
 
   -- ---- lists
   abbrev List2 : Measured → Language ℕ Measured
-  List2 x = Bind (Word (93 ∷ [])) (λ _. Done (list_type x.0, suc x.1))
+  List2 x = Bind (SpelledWord (93 ∷ [])) (λ _. Done (list_type x.0, suc x.1))
 
   abbrev List1 : Language ℕ Measured
   List1 = Bind (TypeName (room - 1)) List2
@@ -230,7 +266,9 @@ module _ (room : ℕ) where
         before = h.first.behind;
         item = g.first.parse;
         behind = g.next.first.behind;
-        are = marked_are 91 List1 h ∙ ap (λ r. 91 ∷ (spaces h.first.behind ++ r)) (g.split ∙ ap (λ r. r ++ g.back) g.first.are ∙ ap (λ r. bytes g.first.parse ++ r) (word_are (93 ∷ []) (list_type g.value.0, suc g.value.1) g.next));
+        are = marked_are 91 List1 h ∙ ap (λ r. 91 ∷ (spaces h.first.behind ++ r))
+            (g.split ∙ ap (λ r. r ++ g.back) g.first.are ∙ ap (λ r. type_bytes g.first.parse ++ r)
+            (word_are (93 ∷ []) (list_type g.value.0, suc g.value.1) g.next));
         stands_for = g.next.next.same ∙ ap (λ p. (list_type p.0, suc p.1)) x_is;
         symbols = omega (arith, x_most, big);
       }
@@ -240,12 +278,12 @@ module _ (room : ℕ) where
       let n = h.symbols in
       record {
         front = 91 ∷ spaces h.before;
-        back = bytes h.item ++ (93 ∷ spaces h.behind);
+        back = type_bytes h.item ++ (93 ∷ spaces h.behind);
         value = tt;
         split = h.are;
         first = record { behind = h.before; are = refl };
         next = record {
-          front = bytes h.item;
+          front = type_bytes h.item;
           back = 93 ∷ spaces h.behind;
           value = (basic h.item, symbols_of (basic h.item));
           split = refl;
@@ -254,60 +292,94 @@ module _ (room : ℕ) where
         };
       }
 
-  list_alive2 : (x : Measured) → Alive (List2 x) Always []
+  list_alive2 : (x : Measured) → IsViablePrefix (List2 x) Always []
   list_alive2 x = (93 ∷ [], (list_type x.0, suc x.1), word_is (93 ∷ []) (list_type x.0, suc x.1) 0 refl refl, tt)
 
-  list_alive1 : 2 ≤ room → Alive List1 Always []
+  list_alive1 : 2 ≤ room → IsViablePrefix List1 Always []
   list_alive1 big =
       let (t, x, h, o) = name_alive (room - 1) (omega arith) in
       let (s, v, k, o') = list_alive2 x in
       (t ++ s, v, record { front = t; back = s; value = x; split = refl; first = h; next = k }, tt)
 
   list_follow2 : Follows NoBlank List2 NoBlank
-  list_follow2 x b v z h hz = subst (λ l. NoBlank (l ++ z)) (sym (word_are (93 ∷ []) (list_type x.0, suc x.1) h)) (no_blank 93 (spaces h.first.behind ++ z) (omega arith))
+  list_follow2 x b v z h hz = subst (λ l. NoBlank (l ++ z)) (sym (word_are (93 ∷ []) (list_type x.0, suc x.1) h))
+      (no_blank 93 (spaces h.first.behind ++ z) (omega arith))
 
   list_follow1 : Follows {X = Unit {0}} NoBlank (λ _. List1) NoBlank
-  list_follow1 y b v z h hz = subst (λ l. NoBlank (l ++ z)) (sym h.split) (subst NoBlank (sym (append_assoc h.front h.back z)) (name_no_blank (h.back ++ z) h.first))
+  list_follow1 y b v z h hz = subst (λ l. NoBlank (l ++ z)) (sym h.split)
+      (subst NoBlank (sym (append_assoc h.front h.back z)) (name_no_blank (h.back ++ z) h.first))
 
   pub list_full : {ts : Text} → room < 2 → Right (ListName room) Always NoBlank ts (Err (Fault Unexpected (length ts)))
-  list_full {ts = ts} lt = refused_first (ListName room) ts (λ a y z h _ _. let n = h.symbols in let s = some_symbol (basic h.item) in omega (arith, n, s, lt))
+  list_full {ts = ts} lt = refused_first (ListName room) ts (λ a y z h _ _. let n = h.symbols in let s = some_symbol (basic h.item) in
+      omega (arith, n, s, lt))
 
   module _ (big : 2 ≤ room) where
     by_list : {ts : Text} {r : Answer ℕ Measured} → Right (Marked 91 List1) Always NoBlank ts r → Right (ListName room) Always NoBlank ts r
     by_list right = same_language (Marked 91 List1) (ListName room) (list_in big) list_out right
 
-    pub list_stop : {ts : Text} {e : Stop} → Right (Word (91 ∷ [])) Always NoBlank ts (Err e) → Right (ListName room) Always NoBlank ts (Err e)
+    pub list_stop : {ts : Text} {e : ParseStop} → Right (SpelledWord (91 ∷ [])) Always NoBlank ts (Err e)
+        → Right (ListName room) Always NoBlank ts (Err e)
     list_stop right = by_list (marked_stop list_follow1 (list_alive1 big) right)
 
-    pub list_right : {ts rest : Text} {r : Answer ℕ Measured} → Right (Word (91 ∷ [])) Always NoBlank ts (Ok (tt, rest)) → Right List1 Always NoBlank rest r → Right (ListName room) Always NoBlank ts r
+    pub list_right : {ts rest : Text} {r : Answer ℕ Measured} → Right (SpelledWord (91 ∷ [])) Always NoBlank ts (Ok (tt, rest))
+        → Right List1 Always NoBlank rest r → Right (ListName room) Always NoBlank ts r
     list_right found right = by_list (marked_right list_follow1 (list_alive1 big) found right)
 
-  pub item_stop : {ts : Text} {e : Stop} → Right (TypeName (room - 1)) Always NoBlank ts (Err e) → Right List1 Always NoBlank ts (Err e)
+  pub item_stop : {ts : Text} {e : ParseStop} → Right (TypeName (room - 1)) Always NoBlank ts (Err e)
+      → Right List1 Always NoBlank ts (Err e)
   item_stop right = then_stop list_follow2 (λ _ x _. list_alive2 x) right
 
-  pub item_right : {ts rest : Text} {x : Measured} {r : Answer ℕ Measured} → Right (TypeName (room - 1)) Always NoBlank ts (Ok (x, rest)) → Right (List2 x) Always NoBlank rest r → Right List1 Always NoBlank ts r
+  pub item_right : {ts rest : Text} {x : Measured} {r : Answer ℕ Measured} → Right (TypeName (room - 1)) Always NoBlank ts (Ok (x, rest))
+      → Right (List2 x) Always NoBlank rest r → Right List1 Always NoBlank ts r
   item_right {x = x} found right = then_right list_follow2 (list_alive2 x) found right
 
 -- ---- by the first byte
 module _ (room : ℕ) (some : 1 ≤ room) where
   abbrev Name : Text → BasicTerm → Language ℕ Measured
-  Name word b = Bind (Word word) (λ _. Done (b, 1))
+  Name word b = Bind (SpelledWord word) (λ _. Done (b, 1))
 
-  pub as_pair : {ts : Text} {r : Answer ℕ Measured} → (s : Text) × (ts ≡ 40 ∷ s) → Right (PairName room) Always NoBlank ts r → Right (TypeName room) Always NoBlank ts r
-  as_pair {ts = ts} (s, e) right = by_production (PairName room) (TypeName room) (λ a y h. record { parse = pair h.before h.first h.between h.second h.behind; are = h.are; stands_for = h.stands_for; symbols = h.symbols }) (λ a y z h _ b. out a y h.parse h.are h.stands_for h.symbols (head_is h.parse 40 s a z h.are (subst (λ l. Begins [] l (a ++ z)) e b))) right
+  pub as_pair : {ts : Text} {r : Answer ℕ Measured} → (s : Text) × (ts ≡ 40 ∷ s) → Right (PairName room) Always NoBlank ts r
+      → Right (TypeName room) Always NoBlank ts r
+  as_pair {ts = ts} (s, e) right = by_production (PairName room) (TypeName room) (λ a y h. record {
+    parse = pair h.before h.first h.between h.second h.behind;
+    are = h.are;
+    stands_for = h.stands_for;
+    symbols = h.symbols;
+  })
+      (λ a y z h _ b. out a y h.parse h.are h.stands_for h.symbols
+      (head_is h.parse 40 s a z h.are (subst (λ l. SharesPrefix [] l (a ++ z)) e b))) right
     where
-      out : (a : Text) (y : Measured) (d : Parse) → a ≡ bytes d → y ≡ (basic d, symbols_of (basic d)) → symbols_of (basic d) ≤ room → Head d 40 → PairName room a y
+      out : (a : Text) (y : Measured) (d : TypeParse) → a ≡ type_bytes d → y ≡ (basic d, symbols_of (basic d)) → symbols_of (basic d) ≤ room
+          → Head d 40 → PairName room a y
       out a y (unit n) e f le is = absurd (omega (arith, is))
       out a y (bool n) e f le is = absurd (omega (arith, is))
       out a y (int n) e f le is = absurd (omega (arith, is))
       out a y (text n) e f le is = absurd (omega (arith, is))
-      out a y (pair m c k d n) e f le is = record { before = m; first = c; between = k; second = d; behind = n; are = e; stands_for = f; symbols = le }
+      out a y (pair m c k d n) e f le is = record {
+        before = m;
+        first = c;
+        between = k;
+        second = d;
+        behind = n;
+        are = e;
+        stands_for = f;
+        symbols = le;
+      }
       out a y (list m c n) e f le is = absurd (omega (arith, is))
 
-  pub as_list : {ts : Text} {r : Answer ℕ Measured} → (s : Text) × (ts ≡ 91 ∷ s) → Right (ListName room) Always NoBlank ts r → Right (TypeName room) Always NoBlank ts r
-  as_list {ts = ts} (s, e) right = by_production (ListName room) (TypeName room) (λ a y h. record { parse = list h.before h.item h.behind; are = h.are; stands_for = h.stands_for; symbols = h.symbols }) (λ a y z h _ b. out a y h.parse h.are h.stands_for h.symbols (head_is h.parse 91 s a z h.are (subst (λ l. Begins [] l (a ++ z)) e b))) right
+  pub as_list : {ts : Text} {r : Answer ℕ Measured} → (s : Text) × (ts ≡ 91 ∷ s) → Right (ListName room) Always NoBlank ts r
+      → Right (TypeName room) Always NoBlank ts r
+  as_list {ts = ts} (s, e) right = by_production (ListName room) (TypeName room) (λ a y h. record {
+    parse = list h.before h.item h.behind;
+    are = h.are;
+    stands_for = h.stands_for;
+    symbols = h.symbols;
+  })
+      (λ a y z h _ b. out a y h.parse h.are h.stands_for h.symbols
+      (head_is h.parse 91 s a z h.are (subst (λ l. SharesPrefix [] l (a ++ z)) e b))) right
     where
-      out : (a : Text) (y : Measured) (d : Parse) → a ≡ bytes d → y ≡ (basic d, symbols_of (basic d)) → symbols_of (basic d) ≤ room → Head d 91 → ListName room a y
+      out : (a : Text) (y : Measured) (d : TypeParse) → a ≡ type_bytes d → y ≡ (basic d, symbols_of (basic d)) → symbols_of (basic d) ≤ room
+          → Head d 91 → ListName room a y
       out a y (unit n) e f le is = absurd (omega (arith, is))
       out a y (bool n) e f le is = absurd (omega (arith, is))
       out a y (int n) e f le is = absurd (omega (arith, is))
@@ -315,10 +387,19 @@ module _ (room : ℕ) (some : 1 ≤ room) where
       out a y (pair m c k d n) e f le is = absurd (omega (arith, is))
       out a y (list m c n) e f le is = record { before = m; item = c; behind = n; are = e; stands_for = f; symbols = le }
 
-  pub as_unit : {ts : Text} {r : Answer ℕ Measured} → (s : Text) × (ts ≡ 117 ∷ s) → Right (Name (codes "unit") unit_type) Always NoBlank ts r → Right (TypeName room) Always NoBlank ts r
-  as_unit {ts = ts} (s, e) right = by_production (Name (codes "unit") unit_type) (TypeName room) (λ a y h. record { parse = unit h.first.behind; are = word_are (codes "unit") (unit_type, 1) h; stands_for = h.next.same; symbols = some }) (λ a y z h _ b. out a y h.parse h.are h.stands_for (head_is h.parse 117 s a z h.are (subst (λ l. Begins [] l (a ++ z)) e b))) right
+  pub as_unit : {ts : Text} {r : Answer ℕ Measured} → (s : Text) × (ts ≡ 117 ∷ s)
+      → Right (Name (codes "unit") unit_type) Always NoBlank ts r → Right (TypeName room) Always NoBlank ts r
+  as_unit {ts = ts} (s, e) right = by_production (Name (codes "unit") unit_type) (TypeName room) (λ a y h. record {
+    parse = unit h.first.behind;
+    are = word_are (codes "unit") (unit_type, 1) h;
+    stands_for = h.next.same;
+    symbols = some;
+  })
+      (λ a y z h _ b. out a y h.parse h.are h.stands_for (head_is h.parse 117 s a z h.are (subst (λ l. SharesPrefix [] l (a ++ z)) e b)))
+      right
     where
-      out : (a : Text) (y : Measured) (d : Parse) → a ≡ bytes d → y ≡ (basic d, symbols_of (basic d)) → Head d 117 → Name (codes "unit") unit_type a y
+      out : (a : Text) (y : Measured) (d : TypeParse) → a ≡ type_bytes d → y ≡ (basic d, symbols_of (basic d)) → Head d 117
+          → Name (codes "unit") unit_type a y
       out a y (unit n) e f is = word_is (codes "unit") (unit_type, 1) n e f
       out a y (bool n) e f is = absurd (omega (arith, is))
       out a y (int n) e f is = absurd (omega (arith, is))
@@ -326,10 +407,19 @@ module _ (room : ℕ) (some : 1 ≤ room) where
       out a y (pair m c k d n) e f is = absurd (omega (arith, is))
       out a y (list m c n) e f is = absurd (omega (arith, is))
 
-  pub as_bool : {ts : Text} {r : Answer ℕ Measured} → (s : Text) × (ts ≡ 98 ∷ s) → Right (Name (codes "bool") bool_type) Always NoBlank ts r → Right (TypeName room) Always NoBlank ts r
-  as_bool {ts = ts} (s, e) right = by_production (Name (codes "bool") bool_type) (TypeName room) (λ a y h. record { parse = bool h.first.behind; are = word_are (codes "bool") (bool_type, 1) h; stands_for = h.next.same; symbols = some }) (λ a y z h _ b. out a y h.parse h.are h.stands_for (head_is h.parse 98 s a z h.are (subst (λ l. Begins [] l (a ++ z)) e b))) right
+  pub as_bool : {ts : Text} {r : Answer ℕ Measured} → (s : Text) × (ts ≡ 98 ∷ s) → Right (Name (codes "bool") bool_type) Always NoBlank ts r
+      → Right (TypeName room) Always NoBlank ts r
+  as_bool {ts = ts} (s, e) right = by_production (Name (codes "bool") bool_type) (TypeName room) (λ a y h. record {
+    parse = bool h.first.behind;
+    are = word_are (codes "bool") (bool_type, 1) h;
+    stands_for = h.next.same;
+    symbols = some;
+  })
+      (λ a y z h _ b. out a y h.parse h.are h.stands_for (head_is h.parse 98 s a z h.are (subst (λ l. SharesPrefix [] l (a ++ z)) e b)))
+      right
     where
-      out : (a : Text) (y : Measured) (d : Parse) → a ≡ bytes d → y ≡ (basic d, symbols_of (basic d)) → Head d 98 → Name (codes "bool") bool_type a y
+      out : (a : Text) (y : Measured) (d : TypeParse) → a ≡ type_bytes d → y ≡ (basic d, symbols_of (basic d)) → Head d 98
+          → Name (codes "bool") bool_type a y
       out a y (unit n) e f is = absurd (omega (arith, is))
       out a y (bool n) e f is = word_is (codes "bool") (bool_type, 1) n e f
       out a y (int n) e f is = absurd (omega (arith, is))
@@ -337,10 +427,19 @@ module _ (room : ℕ) (some : 1 ≤ room) where
       out a y (pair m c k d n) e f is = absurd (omega (arith, is))
       out a y (list m c n) e f is = absurd (omega (arith, is))
 
-  pub as_int : {ts : Text} {r : Answer ℕ Measured} → (s : Text) × (ts ≡ 105 ∷ s) → Right (Name (codes "int") int_type) Always NoBlank ts r → Right (TypeName room) Always NoBlank ts r
-  as_int {ts = ts} (s, e) right = by_production (Name (codes "int") int_type) (TypeName room) (λ a y h. record { parse = int h.first.behind; are = word_are (codes "int") (int_type, 1) h; stands_for = h.next.same; symbols = some }) (λ a y z h _ b. out a y h.parse h.are h.stands_for (head_is h.parse 105 s a z h.are (subst (λ l. Begins [] l (a ++ z)) e b))) right
+  pub as_int : {ts : Text} {r : Answer ℕ Measured} → (s : Text) × (ts ≡ 105 ∷ s) → Right (Name (codes "int") int_type) Always NoBlank ts r
+      → Right (TypeName room) Always NoBlank ts r
+  as_int {ts = ts} (s, e) right = by_production (Name (codes "int") int_type) (TypeName room) (λ a y h. record {
+    parse = int h.first.behind;
+    are = word_are (codes "int") (int_type, 1) h;
+    stands_for = h.next.same;
+    symbols = some;
+  })
+      (λ a y z h _ b. out a y h.parse h.are h.stands_for (head_is h.parse 105 s a z h.are (subst (λ l. SharesPrefix [] l (a ++ z)) e b)))
+      right
     where
-      out : (a : Text) (y : Measured) (d : Parse) → a ≡ bytes d → y ≡ (basic d, symbols_of (basic d)) → Head d 105 → Name (codes "int") int_type a y
+      out : (a : Text) (y : Measured) (d : TypeParse) → a ≡ type_bytes d → y ≡ (basic d, symbols_of (basic d)) → Head d 105
+          → Name (codes "int") int_type a y
       out a y (unit n) e f is = absurd (omega (arith, is))
       out a y (bool n) e f is = absurd (omega (arith, is))
       out a y (int n) e f is = word_is (codes "int") (int_type, 1) n e f
@@ -348,10 +447,19 @@ module _ (room : ℕ) (some : 1 ≤ room) where
       out a y (pair m c k d n) e f is = absurd (omega (arith, is))
       out a y (list m c n) e f is = absurd (omega (arith, is))
 
-  pub as_text : {ts : Text} {r : Answer ℕ Measured} → NoToken 40 ts → NoToken 91 ts → NoToken 117 ts → NoToken 98 ts → NoToken 105 ts → Right (Name (codes "text") text_type) Always NoBlank ts r → Right (TypeName room) Always NoBlank ts r
-  as_text {ts = ts} n40 n91 n117 n98 n105 right = by_production (Name (codes "text") text_type) (TypeName room) (λ a y h. record { parse = text h.first.behind; are = word_are (codes "text") (text_type, 1) h; stands_for = h.next.same; symbols = some }) (λ a y z h _ b. let (t, w, starts, head) = head_of h.parse in let (behind, is) = first_token t w a z ts (h.are ∙ starts) b in out a y h.parse h.are h.stands_for t behind is head) right
+  pub as_text : {ts : Text} {r : Answer ℕ Measured} → NoToken 40 ts → NoToken 91 ts → NoToken 117 ts → NoToken 98 ts → NoToken 105 ts
+      → Right (Name (codes "text") text_type) Always NoBlank ts r → Right (TypeName room) Always NoBlank ts r
+  as_text {ts = ts} n40 n91 n117 n98 n105 right = by_production (Name (codes "text") text_type) (TypeName room) (λ a y h. record {
+    parse = text h.first.behind;
+    are = word_are (codes "text") (text_type, 1) h;
+    stands_for = h.next.same;
+    symbols = some;
+  })
+      (λ a y z h _ b. let (t, w, starts, head) = head_of h.parse in let (behind, is) = first_token t w a z ts (h.are ∙ starts) b in
+      out a y h.parse h.are h.stands_for t behind is head) right
     where
-      out : (a : Text) (y : Measured) (d : Parse) → a ≡ bytes d → y ≡ (basic d, symbols_of (basic d)) → (t : ℕ) (w : Text) → ts ≡ t ∷ w → Head d t → Name (codes "text") text_type a y
+      out : (a : Text) (y : Measured) (d : TypeParse) → a ≡ type_bytes d → y ≡ (basic d, symbols_of (basic d)) → (t : ℕ) (w : Text)
+          → ts ≡ t ∷ w → Head d t → Name (codes "text") text_type a y
       out a y (unit n) e f t w is head = absurd (n117 w (is ∙ ap (λ q. q ∷ w) head))
       out a y (bool n) e f t w is head = absurd (n98 w (is ∙ ap (λ q. q ∷ w) head))
       out a y (int n) e f t w is head = absurd (n105 w (is ∙ ap (λ q. q ∷ w) head))

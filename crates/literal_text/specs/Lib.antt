@@ -1,5 +1,5 @@
 pub mod Literals
 pub mod Types
-pub mod Places
-pub mod Reads
+pub mod LiteralPlaces
+pub mod LiteralReading
 pub mod Prints

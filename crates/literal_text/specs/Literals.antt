@@ -1,55 +1,55 @@
--- Which bytes are a literal, and of which value (docs/FORMATS.md, "Literals").
+-- Which literal_bytes are a literal, and of which value (docs/FORMATS.md, "Literals").
 use Rattle.std.specs.Prelude.{◌≡◌, ℕ, ℤ, pos, negsuc, zero, suc, ◌≤◌, max, Bool, true, false, List, [], ◌∷◌, ◌++◌, length, replicate, FitsSigned}
 use Rattle.std.specs.Int.{w64}
 use Rattle.task_model.specs.Text.{Text}
 use Rattle.task_model.specs.Basic.{BasicTerm}
 use Rattle.task_model.specs.Value.{ValueTerm, unit_value, bool_value, int_value, text_value, pair_value, list_value, ValueTerms, no_values, more_values, as_values, count_of, value_has}
 use Rattle.task_model.specs.Literal.{bool_text}
-use Rattle.task_model.specs.Token.{IsNumber, IsText}
+use Rattle.task_model.specs.Token.{SpellsNumber, IsText}
 
 abbrev pub spaces : ℕ → Text
 spaces n = replicate n 32
 
--- what a stretch of bytes can be: a literal, or what stands behind an element of a list
-pub data Form : Type 0 where
-  literal : Form
-  further : Form
+-- what a stretch of literal_bytes can be: a literal, or what stands behind an element of a list
+pub data LiteralForm : Type 0 where
+  literal : LiteralForm
+  further : LiteralForm
 
 -- One case for each production. A number says how many spaces stand behind a token.
-pub data Parse : Form → Type 0 where
+pub data LiteralParse : LiteralForm → Type 0 where
   -- "(" ")"
-  unit : ℕ → ℕ → Parse literal
+  unit : ℕ → ℕ → LiteralParse literal
   -- "true" | "false"
-  bool : Bool → ℕ → Parse literal
+  bool : Bool → ℕ → LiteralParse literal
   -- digits, behind a "-" or not
-  int : Bool → (digits : Text) (n : ℕ) → IsNumber digits n → ℕ → Parse literal
+  int : Bool → (digits : Text) (n : ℕ) → SpellsNumber digits n → ℕ → LiteralParse literal
   -- a quote, characters and escapes, a quote
-  text : (quoted content : Text) → IsText quoted content → ℕ → Parse literal
+  text : (quoted content : Text) → IsText quoted content → ℕ → LiteralParse literal
   -- "(" literal "," literal ")"
-  pair : ℕ → Parse literal → ℕ → Parse literal → ℕ → Parse literal
+  pair : ℕ → LiteralParse literal → ℕ → LiteralParse literal → ℕ → LiteralParse literal
   -- "[" "]"
-  empty : ℕ → ℕ → Parse literal
+  empty : ℕ → ℕ → LiteralParse literal
   -- "[" literal further
-  list : ℕ → Parse literal → Parse further → Parse literal
+  list : ℕ → LiteralParse literal → LiteralParse further → LiteralParse literal
   -- further = "]" | "," literal further
-  last : ℕ → Parse further
-  more : ℕ → Parse literal → Parse further → Parse further
+  last : ℕ → LiteralParse further
+  more : ℕ → LiteralParse literal → LiteralParse further → LiteralParse further
 
-abbrev pub sign_text : Bool → Text
-sign_text true = 45 ∷ []
-sign_text false = []
+abbrev pub minus_text : Bool → Text
+minus_text true = 45 ∷ []
+minus_text false = []
 
--- the bytes of a parse
-abbrev pub bytes : {f : Form} → Parse f → Text
-bytes (unit m n) = 40 ∷ (spaces m ++ (41 ∷ spaces n))
-bytes (bool b n) = bool_text b ++ spaces n
-bytes (int negative digits k is n) = sign_text negative ++ (digits ++ spaces n)
-bytes (text quoted content is n) = quoted ++ spaces n
-bytes (pair m v k w n) = 40 ∷ (spaces m ++ (bytes v ++ (44 ∷ (spaces k ++ (bytes w ++ (41 ∷ spaces n))))))
-bytes (empty m n) = 91 ∷ (spaces m ++ (93 ∷ spaces n))
-bytes (list m v vs) = 91 ∷ (spaces m ++ (bytes v ++ bytes vs))
-bytes (last n) = 93 ∷ spaces n
-bytes (more k v vs) = 44 ∷ (spaces k ++ (bytes v ++ bytes vs))
+-- the literal_bytes of a parse
+abbrev pub literal_bytes : {f : LiteralForm} → LiteralParse f → Text
+literal_bytes (unit m n) = 40 ∷ (spaces m ++ (41 ∷ spaces n))
+literal_bytes (bool b n) = bool_text b ++ spaces n
+literal_bytes (int negative digits k is n) = minus_text negative ++ (digits ++ spaces n)
+literal_bytes (text quoted content is n) = quoted ++ spaces n
+literal_bytes (pair m v k w n) = 40 ∷ (spaces m ++ (literal_bytes v ++ (44 ∷ (spaces k ++ (literal_bytes w ++ (41 ∷ spaces n))))))
+literal_bytes (empty m n) = 91 ∷ (spaces m ++ (93 ∷ spaces n))
+literal_bytes (list m v vs) = 91 ∷ (spaces m ++ (literal_bytes v ++ literal_bytes vs))
+literal_bytes (last n) = 93 ∷ spaces n
+literal_bytes (more k v vs) = 44 ∷ (spaces k ++ (literal_bytes v ++ literal_bytes vs))
 
 -- the int of a sign and a number
 abbrev pub signed : Bool → ℕ → ℤ
@@ -58,11 +58,11 @@ signed true zero = pos 0
 signed true (suc n) = negsuc n
 
 -- what a form stands for: a value, or the further elements of a list
-abbrev pub Meaning : Form → Type 0
-Meaning literal = ValueTerm
-Meaning further = List ValueTerm
+abbrev pub LiteralMeaning : LiteralForm → Type 0
+LiteralMeaning literal = ValueTerm
+LiteralMeaning further = List ValueTerm
 
-abbrev pub value : {f : Form} → Parse f → Meaning f
+abbrev pub value : {f : LiteralForm} → LiteralParse f → LiteralMeaning f
 value (unit m n) = unit_value
 value (bool b n) = bool_value b
 value (int negative digits k is n) = int_value (signed negative k)
@@ -74,18 +74,18 @@ value (last n) = []
 value (more k v vs) = value v ∷ value vs
 
 abbrev mutual
-  -- the limits of a literal: an int has 64 bits, a text at most 65,536 bytes, a list at most 1,024 elements
-  pub IsWithinLimits : ValueTerm → Type 0
-  IsWithinLimits unit_value = Unit {0}
-  IsWithinLimits (bool_value b) = Unit {0}
-  IsWithinLimits (int_value i) = FitsSigned w64 i
-  IsWithinLimits (text_value t) = length t ≤ 65536
-  IsWithinLimits (pair_value v w) = IsWithinLimits v × IsWithinLimits w
-  IsWithinLimits (list_value vs) = (count_of vs ≤ 1024) × AreWithinLimits vs
+  -- the limits of a literal: an int has 64 bits, a text at most 65,536 literal_bytes, a list at most 1,024 elements
+  pub IsWithinLiteralLimits : ValueTerm → Type 0
+  IsWithinLiteralLimits unit_value = Unit {0}
+  IsWithinLiteralLimits (bool_value b) = Unit {0}
+  IsWithinLiteralLimits (int_value i) = FitsSigned w64 i
+  IsWithinLiteralLimits (text_value t) = length t ≤ 65536
+  IsWithinLiteralLimits (pair_value v w) = IsWithinLiteralLimits v × IsWithinLiteralLimits w
+  IsWithinLiteralLimits (list_value vs) = (count_of vs ≤ 1024) × AreWithinLiteralLimits vs
 
-  pub AreWithinLimits : ValueTerms → Type 0
-  AreWithinLimits no_values = Unit {0}
-  AreWithinLimits (more_values v vs) = IsWithinLimits v × AreWithinLimits vs
+  pub AreWithinLiteralLimits : ValueTerms → Type 0
+  AreWithinLiteralLimits no_values = Unit {0}
+  AreWithinLiteralLimits (more_values v vs) = IsWithinLiteralLimits v × AreWithinLiteralLimits vs
 
 abbrev mutual
   -- the levels of a value's literal: a pair or a list has one more than its deepest part, and all else one
@@ -101,13 +101,13 @@ abbrev mutual
   levels_in no_values = 0
   levels_in (more_values v vs) = max (levels_of v) (levels_in vs)
 
--- The bytes are a literal of the value: spaces, and then a parse of it, within the limits and 64 levels.
+-- The literal_bytes are a literal of the value: spaces, and then a parse of it, within the limits and 64 levels.
 pub record IsLiteral (t : Text) (v : ValueTerm) : Type 0 where
   pub before : ℕ
-  pub parse : Parse literal
-  pub are : t ≡ spaces before ++ bytes parse
+  pub parse : LiteralParse literal
+  pub are : t ≡ spaces before ++ literal_bytes parse
   pub stands_for : v ≡ value parse
-  pub limits : IsWithinLimits v
+  pub limits : IsWithinLiteralLimits v
   pub levels : levels_of v ≤ 64
 
 -- a literal of a type is one whose value has it

@@ -3,13 +3,13 @@ ghost use Rattle.exact_reading.specs.Reading.{Right, seen, Always};
 ghost use Rattle.task_model.specs.Token.{IsDigit};
 ghost use Rattle.task_model.specs.Value.{value_term};
 ghost use Rattle.literal_text.specs.Literals.{signed};
-ghost use Rattle.literal_text.specs.Reads.{IntLiteral, Number, NoDigit, Ends, most};
+ghost use Rattle.literal_text.specs.LiteralReading.{IntLiteral, Number, NoDigit, Ends, most};
 
-use exact_reading::{Stop, next, skip, strip, unexpected};
+use exact_reading::{ParseStop, next, skip, strip, unexpected};
 use task_model::Value;
 
 /// An int, and the spaces behind it.
-pub(crate) fn int(bytes: &[u8]) -> Result<(Value, &[u8]), Stop>
+pub(crate) fn int(bytes: &[u8]) -> Result<(Value, &[u8]), ParseStop>
     ensures { Right IntLiteral Always Ends bytes.now (seen (λ r. (value_term r.0, r.1.now)) result) }
 {
     match strip(bytes, b'-') {
@@ -36,7 +36,7 @@ fn negative(number: u64) -> i64
 }
 
 /// Digits that write a number within a limit.
-fn number(limit: u64, bytes: &[u8]) -> Result<(u64, &[u8]), Stop>
+fn number(limit: u64, bytes: &[u8]) -> Result<(u64, &[u8]), ParseStop>
     requires { 9 ≤ limit }
     ensures { Right (Number limit) Always NoDigit bytes.now (seen (λ r. (r.0, r.1.now)) result) }
 {

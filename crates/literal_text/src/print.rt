@@ -3,7 +3,7 @@ ghost use Rattle.task_model.specs.Basic.{BasicTerm, basic_term};
 ghost use Rattle.task_model.specs.Value.{value_term, value_has, list_value, as_values};
 ghost use Rattle.task_model.specs.Literal.{basic_text, value_text, escaped_all, hex_digit};
 ghost use Rattle.task_model.specs.Accepted.{symbols_of};
-ghost use Rattle.literal_text.specs.Literals.{IsLiteral, IsLiteralOf, IsWithinLimits, levels_of};
+ghost use Rattle.literal_text.specs.Literals.{IsLiteral, IsLiteralOf, IsWithinLiteralLimits, levels_of};
 ghost use Rattle.literal_text.specs.Types.{IsTypeName};
 ghost use Rattle.literal_text.specs.Prints.{IsHeld, AreHeld};
 
@@ -15,7 +15,7 @@ use task_model::{Basic, OutOfMemory, TaskText, Value};
 pub fn print_value(alloc: Global, v: &Value) -> Result<TaskText, OutOfMemory>
     ensures text { IfOk result (λ t. t ≡ value_text (value_term v.now)) }
     // Read as a literal of any type, it is the value, if that is within the limits.
-    ensures any { IsWithinLimits (value_term v.now) → levels_of (value_term v.now) ≤ 64
+    ensures any { IsWithinLiteralLimits (value_term v.now) → levels_of (value_term v.now) ≤ 64
         → IfOk result (λ t. IsLiteral t (value_term v.now)) }
     // Read as a literal of a type of at most 64 symbols that the value has, it is the value.
     ensures typed { (b : BasicTerm) → symbols_of b ≤ 64 → value_has (value_term v.now) b ≡ true
@@ -23,7 +23,7 @@ pub fn print_value(alloc: Global, v: &Value) -> Result<TaskText, OutOfMemory>
 {
     let mut text = String::new(alloc);
     write_value(&mut text, v)?;
-    Ok(TaskText::of_string(text))
+    TaskText::of_string(text)
 }
 
 /// The name of a type.
@@ -34,7 +34,7 @@ pub fn print_basic(alloc: Global, b: &Basic) -> Result<TaskText, OutOfMemory>
 {
     let mut text = String::new(alloc);
     write_basic(&mut text, b)?;
-    Ok(TaskText::of_string(text))
+    TaskText::of_string(text)
 }
 
 #[cycle(write)]
@@ -159,17 +159,11 @@ fn write_basic(text: &mut String, b: &Basic) -> Result<(), OutOfMemory>
 fn put(text: &mut String, piece: &str) -> Result<(), OutOfMemory>
     ensures { OnOk result (string_bytes text.new ≡ string_bytes text.old ++ piece.now) }
 {
-    match text.push_str(piece) {
-        Ok(()) => Ok(()),
-        Err(_) => Err(OutOfMemory),
-    }
+    Ok(text.push_str(piece)?)
 }
 
 fn push(text: &mut String, character: char) -> Result<(), OutOfMemory>
     ensures { OnOk result (string_bytes text.new ≡ string_bytes text.old ++ encode_utf8 character) }
 {
-    match text.push(character) {
-        Ok(()) => Ok(()),
-        Err(_) => Err(OutOfMemory),
-    }
+    Ok(text.push(character)?)
 }

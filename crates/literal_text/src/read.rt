@@ -5,22 +5,16 @@ ghost use Rattle.task_model.specs.Value.{ValueTerm, value_term};
 ghost use Rattle.task_model.specs.Accepted.{symbols_of};
 ghost use Rattle.literal_text.specs.Literals.{IsLiteral, IsLiteralOf};
 ghost use Rattle.literal_text.specs.Types.{IsTypeName};
-ghost use Rattle.literal_text.specs.Places.{IsStopAt};
-ghost use Rattle.literal_text.specs.Reads.{Whole, want_of, fewest};
+ghost use Rattle.literal_text.specs.LiteralPlaces.{IsStopAt};
+ghost use Rattle.literal_text.specs.LiteralReading.{Whole, want_of, fewest};
 
 use crate::stop::{BadLiteral, LiteralStop};
 use crate::types::basic;
 use crate::values::value;
 use crate::wanted::{Wanted, fits};
-use exact_reading::{Stop, place, skip};
+use exact_reading::{ParseStop, place, skip};
 use std::alloc::Global;
-use task_model::{Basic, Value};
-
-/// The most levels of a literal.
-const LEVELS: usize = 64;
-
-/// The most symbols of a type.
-const SYMBOLS: usize = 64;
+use task_model::{Basic, LITERAL_LEVEL_LIMIT, TYPE_SYMBOL_LIMIT, Value};
 
 /// The value of a literal of any type.
 pub fn read_any(alloc: Global, bytes: &[u8]) -> Result<Value, LiteralStop>
@@ -45,7 +39,7 @@ pub fn read_value(alloc: Global, bytes: &[u8], b: &Basic) -> Result<Value, Liter
     // Else the place is the length of their longest prefix that begins a literal of the type.
     ensures bad { IfErr result (λ e. IsStopAt (IsLiteralOf (basic_term b.now)) bytes.now e) }
 {
-    if !fits(Wanted::Of(b), LEVELS) {
+    if !fits(Wanted::Of(b), LITERAL_LEVEL_LIMIT) {
         return Err(LiteralStop::Bad(BadLiteral { place: 0 }));
     }
     whole(alloc, Wanted::Of(b), bytes)
@@ -59,15 +53,15 @@ fn whole(alloc: Global, wanted: Wanted, bytes: &[u8]) -> Result<Value, LiteralSt
         → MatchResult result (λ w. value_term w ≡ v) (λ e. e ≡ LiteralStop.Memory) }
     ensures bad { IfErr result (λ e. IsStopAt (Whole (want_of wanted.entry)) bytes.now e) }
 {
-    match value(alloc, wanted, LEVELS, skip(bytes, b' ')) {
+    match value(alloc, wanted, LITERAL_LEVEL_LIMIT, skip(bytes, b' ')) {
         Ok((value, rest)) => {
             if rest.is_empty() {
                 return Ok(value);
             }
             Err(bad(bytes, rest.len()))
         }
-        Err(Stop::Fault { left, .. }) => Err(bad(bytes, left)),
-        Err(Stop::Memory) => Err(LiteralStop::Memory),
+        Err(ParseStop::Fault { left, .. }) => Err(bad(bytes, left)),
+        Err(ParseStop::Memory) => Err(LiteralStop::Memory),
     }
 }
 
@@ -81,15 +75,15 @@ pub fn read_basic(alloc: Global, bytes: &[u8]) -> Result<Basic, LiteralStop>
     // Else the place is the length of their longest prefix that begins such a name.
     ensures bad { IfErr result (λ e. IsStopAt IsTypeName bytes.now e) }
 {
-    match basic(alloc, SYMBOLS, skip(bytes, b' ')) {
+    match basic(alloc, TYPE_SYMBOL_LIMIT, skip(bytes, b' ')) {
         Ok((measured, rest)) => {
             if rest.is_empty() {
                 return Ok(measured.basic);
             }
             Err(bad(bytes, rest.len()))
         }
-        Err(Stop::Fault { left, .. }) => Err(bad(bytes, left)),
-        Err(Stop::Memory) => Err(LiteralStop::Memory),
+        Err(ParseStop::Fault { left, .. }) => Err(bad(bytes, left)),
+        Err(ParseStop::Memory) => Err(LiteralStop::Memory),
     }
 }
 

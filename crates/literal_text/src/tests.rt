@@ -192,7 +192,8 @@ fn names_of_types(rt: HostRuntime) -> Result<(), Fail> {
 fn characters(rt: HostRuntime) -> Result<(), Fail> {
     let alloc = rt.alloc();
     for code in 0u8..32 {
-        let text = Value::Text(TaskText::of_string(format!(in alloc; "{}", code as char)?));
+        let text = format!(in alloc; "{}", code as char)?;
+        let text = Value::Text(TaskText::of_string(text)?);
         let want = match code {
             9 => format!(in alloc; "\"\\t\"")?,
             10 => format!(in alloc; "\"\\n\"")?,

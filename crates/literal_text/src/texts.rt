@@ -4,23 +4,26 @@ ghost use Rattle.std.specs.Str.Lossy.{second_byte_min, second_byte_max};
 ghost use Rattle.exact_reading.specs.Reading.{Right, seen, Always, Anything};
 ghost use Rattle.task_model.specs.Token.{Escapes, IsHex, hex_value};
 ghost use Rattle.task_model.specs.Value.{value_term};
-ghost use Rattle.literal_text.specs.Reads.{TextLiteral, Content, Part, Wide, WideEnd, Escape, HexEnd, HexDigit, InRange, NoBlank, width_of, IsPlain};
+ghost use Rattle.literal_text.specs.LiteralReading.{TextLiteral, Content, Part, Wide, WideEnd, Escape, HexEnd, HexDigit, InRange, NoBlank, width_of, IsRawByte};
 
-use exact_reading::{Stop, expect, next, skip, strip, unexpected};
+use exact_reading::{ParseStop, expect, next, skip, strip, unexpected};
 use std::alloc::Global;
-use task_model::{TEXT_LIMIT, TaskText, Value};
+use task_model::{TEXT_BYTE_LIMIT, TaskText, Value};
 
 /// A text, and the spaces behind it.
-pub(crate) fn text(alloc: Global, bytes: &[u8]) -> Result<(Value, &[u8]), Stop>
+pub(crate) fn text(alloc: Global, bytes: &[u8]) -> Result<(Value, &[u8]), ParseStop>
     ensures { Right TextLiteral Always NoBlank bytes.now (seen (λ r. (value_term r.0, r.1.now)) result) }
 {
     let rest = expect(bytes, b'"')?;
     let (content, rest) = content(alloc, rest)?;
-    Ok((Value::Text(TaskText::of_string(content)), skip(rest, b' ')))
+    let Ok(content) = TaskText::of_string(content) else {
+        return Err(ParseStop::Memory);
+    };
+    Ok((Value::Text(content), skip(rest, b' ')))
 }
 
 /// The content of a text, and the quote at its end.
-fn content(alloc: Global, bytes: &[u8]) -> Result<(String, &[u8]), Stop>
+fn content(alloc: Global, bytes: &[u8]) -> Result<(String, &[u8]), ParseStop>
     ensures { Right (Content []) Always Anything bytes.now (seen (λ r. (string_bytes r.0, r.1.now)) result) }
 {
     let mut content = String::new(alloc);
@@ -29,14 +32,14 @@ fn content(alloc: Global, bytes: &[u8]) -> Result<(String, &[u8]), Stop>
         if let Some(after) = strip(rest, b'"') {
             return Ok((content, after));
         }
-        let (character, after) = part(TEXT_LIMIT - content.len(), rest)?;
+        let (character, after) = part(TEXT_BYTE_LIMIT - content.len(), rest)?;
         content.push(character)?;
         rest = after;
     }
 }
 
 /// A character or an escape of a text's content, of at most so many bytes of content.
-fn part(room: usize, bytes: &[u8]) -> Result<(char, &[u8]), Stop>
+fn part(room: usize, bytes: &[u8]) -> Result<(char, &[u8]), ParseStop>
     ensures { Right (Part room) Always Anything bytes.now (seen (λ r. (encode_utf8 r.0, r.1.now)) result) }
 {
     let Some((byte, rest)) = next(bytes) else {
@@ -56,13 +59,13 @@ fn part(room: usize, bytes: &[u8]) -> Result<(char, &[u8]), Stop>
 
 /// Whether a byte is a character that stands for itself.
 fn is_plain(byte: u8) -> bool
-    ensures { IsTrue result ↔ IsPlain byte }
+    ensures { IsTrue result ↔ IsRawByte byte }
 {
     byte >= 0x20 && byte < 0x7f && byte != b'"' && byte != b'\\'
 }
 
 /// What stands behind the backslash of an escape.
-fn escape(bytes: &[u8]) -> Result<(char, &[u8]), Stop>
+fn escape(bytes: &[u8]) -> Result<(char, &[u8]), ParseStop>
     ensures { Right Escape Always Anything bytes.now (seen (λ r. (encode_utf8 r.0, r.1.now)) result) }
 {
     let Some((letter, rest)) = next(bytes) else {
@@ -92,7 +95,7 @@ fn escaped(letter: u8) -> Option<char>
 }
 
 /// The two digits of an escape by a number.
-fn hex(bytes: &[u8]) -> Result<(char, &[u8]), Stop>
+fn hex(bytes: &[u8]) -> Result<(char, &[u8]), ParseStop>
     ensures { Right HexEnd Always Anything bytes.now (seen (λ r. (encode_utf8 r.0, r.1.now)) result) }
 {
     let (high, rest) = hex_digit(7, bytes)?;
@@ -101,7 +104,7 @@ fn hex(bytes: &[u8]) -> Result<(char, &[u8]), Stop>
 }
 
 /// A hexadecimal digit of a value up to a limit.
-fn hex_digit(limit: u8, bytes: &[u8]) -> Result<(u8, &[u8]), Stop>
+fn hex_digit(limit: u8, bytes: &[u8]) -> Result<(u8, &[u8]), ParseStop>
     ensures { Right (HexDigit limit) Always Anything bytes.now (seen (λ r. (r.0, r.1.now)) result) }
 {
     let Some((digit, rest)) = next(bytes) else {
@@ -126,7 +129,7 @@ fn value_of(digit: u8) -> Option<u8>
 }
 
 /// A character of two bytes or more.
-fn wide(room: usize, bytes: &[u8]) -> Result<(char, &[u8]), Stop>
+fn wide(room: usize, bytes: &[u8]) -> Result<(char, &[u8]), ParseStop>
     ensures { Right (Wide room) Always Anything bytes.now (seen (λ r. (encode_utf8 r.0, r.1.now)) result) }
 {
     let Some((lead, rest)) = next(bytes) else {
@@ -156,7 +159,7 @@ fn width(lead: u8) -> usize
     }
 }
 
-fn two(lead: u8, bytes: &[u8]) -> Result<(char, &[u8]), Stop>
+fn two(lead: u8, bytes: &[u8]) -> Result<(char, &[u8]), ParseStop>
     requires { width_of lead ≡ 2 }
     ensures { Right (WideEnd lead) Always Anything bytes.now (seen (λ r. (encode_utf8 r.0, r.1.now)) result) }
 {
@@ -165,7 +168,7 @@ fn two(lead: u8, bytes: &[u8]) -> Result<(char, &[u8]), Stop>
     Ok((character(code), rest))
 }
 
-fn three(lead: u8, bytes: &[u8]) -> Result<(char, &[u8]), Stop>
+fn three(lead: u8, bytes: &[u8]) -> Result<(char, &[u8]), ParseStop>
     requires { width_of lead ≡ 3 }
     ensures { Right (WideEnd lead) Always Anything bytes.now (seen (λ r. (encode_utf8 r.0, r.1.now)) result) }
 {
@@ -175,7 +178,7 @@ fn three(lead: u8, bytes: &[u8]) -> Result<(char, &[u8]), Stop>
     Ok((character(code), rest))
 }
 
-fn four(lead: u8, bytes: &[u8]) -> Result<(char, &[u8]), Stop>
+fn four(lead: u8, bytes: &[u8]) -> Result<(char, &[u8]), ParseStop>
     requires { width_of lead ≡ 4 }
     ensures { Right (WideEnd lead) Always Anything bytes.now (seen (λ r. (encode_utf8 r.0, r.1.now)) result) }
 {
@@ -220,7 +223,7 @@ fn greatest_second(lead: u8) -> u8
 }
 
 /// A byte in a range.
-fn in_range(low: u8, high: u8, bytes: &[u8]) -> Result<(u8, &[u8]), Stop>
+fn in_range(low: u8, high: u8, bytes: &[u8]) -> Result<(u8, &[u8]), ParseStop>
     ensures { Right (InRange low high) Always Anything bytes.now (seen (λ r. (r.0, r.1.now)) result) }
 {
     match next(bytes) {

@@ -1,11 +1,12 @@
 ghost use Rattle.std.specs.Prelude.{◌≡◌, ◌≤◌, MatchOption};
 ghost use Rattle.exact_reading.specs.Reading.{Right, seen, Always, NoToken};
 ghost use Rattle.task_model.specs.Basic.{basic_term};
-ghost use Rattle.literal_text.specs.Reads.{TypeName, ListName, PairName, NoBlank};
+ghost use Rattle.literal_text.specs.LiteralReading.{TypeName, ListName, PairName, NoBlank};
 
 use crate::words::{begins, word};
-use exact_reading::{Stop, unexpected};
+use exact_reading::{ParseStop, unexpected};
 use std::alloc::Global;
+use std::sync::Arc;
 use task_model::Basic;
 
 /// A type, and how many symbols it has.
@@ -17,7 +18,11 @@ pub(crate) struct Measured {
 
 /// The name of a type of at most so many symbols.
 #[cycle(basic)]
-pub(crate) fn basic(alloc: Global, room: usize, bytes: &[u8]) -> Result<(Measured, &[u8]), Stop>
+pub(crate) fn basic(
+    alloc: Global,
+    room: usize,
+    bytes: &[u8],
+) -> Result<(Measured, &[u8]), ParseStop>
     requires { 1 ≤ room }
     ensures { Right (TypeName room) Always NoBlank bytes.now (seen (λ r. ((basic_term r.0.basic, r.0.symbols), r.1.now)) result) }
 {
@@ -52,7 +57,7 @@ fn one(basic: Basic) -> Measured
 
 /// A pair, which is one symbol besides those of its parts.
 #[cycle(basic)]
-fn pair(alloc: Global, room: usize, bytes: &[u8]) -> Result<(Measured, &[u8]), Stop>
+fn pair(alloc: Global, room: usize, bytes: &[u8]) -> Result<(Measured, &[u8]), ParseStop>
     ensures { Right (PairName room) Always NoBlank bytes.now (seen (λ r. ((basic_term r.0.basic, r.0.symbols), r.1.now)) result) }
 {
     if room < 3 {
@@ -64,16 +69,14 @@ fn pair(alloc: Global, room: usize, bytes: &[u8]) -> Result<(Measured, &[u8]), S
     let (second, rest) = basic(alloc, room - 1 - first.symbols, rest)?;
     let rest = word(rest, b")")?;
     let symbols = 1 + first.symbols + second.symbols;
-    let basic = Basic::Pair(
-        Box::new(alloc, first.basic)?,
-        Box::new(alloc, second.basic)?,
-    );
+    let first = Arc::new(alloc, first.basic)?;
+    let basic = Basic::Pair(first, Arc::new(alloc, second.basic)?);
     Ok((Measured { basic, symbols }, rest))
 }
 
 /// A list, which is one symbol besides those of its elements' type.
 #[cycle(basic)]
-fn list(alloc: Global, room: usize, bytes: &[u8]) -> Result<(Measured, &[u8]), Stop>
+fn list(alloc: Global, room: usize, bytes: &[u8]) -> Result<(Measured, &[u8]), ParseStop>
     ensures { Right (ListName room) Always NoBlank bytes.now (seen (λ r. ((basic_term r.0.basic, r.0.symbols), r.1.now)) result) }
 {
     if room < 2 {
@@ -83,6 +86,6 @@ fn list(alloc: Global, room: usize, bytes: &[u8]) -> Result<(Measured, &[u8]), S
     let (item, rest) = basic(alloc, room - 1, rest)?;
     let rest = word(rest, b"]")?;
     let symbols = 1 + item.symbols;
-    let basic = Basic::List(Box::new(alloc, item.basic)?);
+    let basic = Basic::List(Arc::new(alloc, item.basic)?);
     Ok((Measured { basic, symbols }, rest))
 }

@@ -1,17 +1,17 @@
-ghost use Rattle.std.specs.Prelude.{◌≡◌, ◌≤◌, ◌<◌, ◌∷◌, ◌++◌, [], suc, OnOk, IfErr, None, Some};
+ghost use Rattle.std.specs.Prelude.{◌≤◌, None, Some};
 ghost use Rattle.exact_reading.specs.Reading.{Right, seen, Always};
-ghost use Rattle.exact_reading.specs.declared.stop.Stop.TheVariants.{Memory};
 ghost use Rattle.task_model.specs.Basic.{basic_term};
 ghost use Rattle.task_model.specs.Value.{value_term};
-ghost use Rattle.literal_text.specs.Reads.{Lit, ListLiteral, NoElements, Elements, UnitLiteral, UnitEnd, PairEnd, BoolLiteral, NoBlank, Ends, want_of, fewest, fewest_levels};
+ghost use Rattle.literal_text.specs.LiteralReading.{Lit, ListLiteral, NoElements, Elements, UnitLiteral, UnitEnd, PairEnd, BoolLiteral, NoBlank, Ends, want_of, fewest, fewest_levels};
 
 use crate::ints::int;
 use crate::texts::text;
 use crate::wanted::{Wanted, fits};
 use crate::words::{begins, word};
-use exact_reading::{Stop, unexpected};
+use exact_reading::{ParseStop, unexpected};
 use std::alloc::Global;
-use task_model::{Basic, LIST_LIMIT, Row, Value};
+use std::sync::Arc;
+use task_model::{Basic, LIST_ELEMENT_LIMIT, Row, Value};
 
 /// A literal of what is wanted, of at most so many levels.
 #[cycle(value)]
@@ -20,7 +20,7 @@ pub(crate) fn value<'a>(
     wanted: Wanted,
     room: usize,
     bytes: &'a [u8],
-) -> Result<(Value, &'a [u8]), Stop>
+) -> Result<(Value, &'a [u8]), ParseStop>
     requires { fewest (want_of wanted) ≤ room }
     ensures { Right (Lit (want_of wanted.entry) room) Always Ends bytes.now (seen (λ r. (value_term r.0, r.1.now)) result) }
 {
@@ -37,7 +37,7 @@ fn typed<'a>(
     b: &Basic,
     room: usize,
     bytes: &'a [u8],
-) -> Result<(Value, &'a [u8]), Stop>
+) -> Result<(Value, &'a [u8]), ParseStop>
     requires { fewest_levels (basic_term b.now) ≤ room }
     ensures { Right (Lit (Some (basic_term b.now)) room) Always Ends bytes.now (seen (λ r. (value_term r.0, r.1.now)) result) }
 {
@@ -56,7 +56,7 @@ fn typed<'a>(
 
 /// A literal of any type.
 #[cycle(value)]
-fn any(alloc: Global, room: usize, bytes: &[u8]) -> Result<(Value, &[u8]), Stop>
+fn any(alloc: Global, room: usize, bytes: &[u8]) -> Result<(Value, &[u8]), ParseStop>
     requires { 1 ≤ room }
     ensures { Right (Lit None room) Always Ends bytes.now (seen (λ r. (value_term r.0, r.1.now)) result) }
 {
@@ -93,7 +93,7 @@ fn pair<'a>(
     second: Wanted,
     room: usize,
     bytes: &'a [u8],
-) -> Result<(Value, &'a [u8]), Stop>
+) -> Result<(Value, &'a [u8]), ParseStop>
     requires first { fewest (want_of first) ≤ room }
     requires second { fewest (want_of second) ≤ room }
     ensures { Right (PairEnd (want_of first.entry) (want_of second.entry) room) Always NoBlank bytes.now (seen (λ r. (value_term r.0, r.1.now)) result) }
@@ -102,10 +102,8 @@ fn pair<'a>(
     let rest = word(rest, b",")?;
     let (right, rest) = value(alloc, second, room, rest)?;
     let rest = word(rest, b")")?;
-    Ok((
-        Value::Pair(Box::new(alloc, left)?, Box::new(alloc, right)?),
-        rest,
-    ))
+    let left = Arc::new(alloc, left)?;
+    Ok((Value::Pair(left, Arc::new(alloc, right)?), rest))
 }
 
 /// A list whose elements have at most so many levels.
@@ -115,7 +113,7 @@ fn list<'a>(
     item: Wanted,
     room: usize,
     bytes: &'a [u8],
-) -> Result<(Value, &'a [u8]), Stop>
+) -> Result<(Value, &'a [u8]), ParseStop>
     ensures { Right (ListLiteral (want_of item.entry) room) Always NoBlank bytes.now (seen (λ r. (value_term r.0, r.1.now)) result) }
 {
     let rest = word(bytes, b"[")?;
@@ -135,58 +133,48 @@ fn elements<'a>(
     item: Wanted,
     room: usize,
     bytes: &'a [u8],
-) -> Result<(Value, &'a [u8]), Stop>
+) -> Result<(Value, &'a [u8]), ParseStop>
     requires { fewest (want_of item) ≤ room }
     ensures { Right (Elements (want_of item.entry) room) Always NoBlank bytes.now (seen (λ r. (value_term r.0, r.1.now)) result) }
 {
-    let mut items = Row::new(alloc);
+    let mut items = Vec::new(alloc);
     let (first, mut rest) = value(alloc, item, room, bytes)?;
-    push(&mut items, first)?;
+    items.push(first)?;
     while begins(rest, b',') {
-        if items.as_slice().len() >= LIST_LIMIT {
+        if items.len() >= LIST_ELEMENT_LIMIT {
             return Err(unexpected(rest));
         }
         let after = word(rest, b",")?;
         let (next, after) = value(alloc, item, room, after)?;
-        push(&mut items, next)?;
+        items.push(next)?;
         rest = after;
     }
     let rest = word(rest, b"]")?;
-    Ok((Value::List(items), rest))
+    Ok((Value::List(Arc::new(alloc, Row::of_vec(items))?), rest))
 }
 
-fn push(items: &mut Row<Value>, item: Value) -> Result<(), Stop>
-    ensures ok { OnOk result (items.new.list ≡ items.old.list ++ item ∷ []) }
-    ensures err { IfErr result (λ e. e ≡ Memory) }
-{
-    match items.push(item) {
-        Ok(()) => Ok(()),
-        Err(_) => Err(Stop::Memory),
-    }
-}
-
-fn no_elements(alloc: Global, bytes: &[u8]) -> Result<(Value, &[u8]), Stop>
+fn no_elements(alloc: Global, bytes: &[u8]) -> Result<(Value, &[u8]), ParseStop>
     ensures { Right NoElements Always NoBlank bytes.now (seen (λ r. (value_term r.0, r.1.now)) result) }
 {
     let rest = word(bytes, b"]")?;
-    Ok((Value::List(Row::new(alloc)), rest))
+    Ok((Value::List(Arc::new(alloc, Row::new(alloc))?), rest))
 }
 
-fn unit(bytes: &[u8]) -> Result<(Value, &[u8]), Stop>
+fn unit(bytes: &[u8]) -> Result<(Value, &[u8]), ParseStop>
     ensures { Right UnitLiteral Always NoBlank bytes.now (seen (λ r. (value_term r.0, r.1.now)) result) }
 {
     let rest = word(bytes, b"(")?;
     unit_end(rest)
 }
 
-fn unit_end(bytes: &[u8]) -> Result<(Value, &[u8]), Stop>
+fn unit_end(bytes: &[u8]) -> Result<(Value, &[u8]), ParseStop>
     ensures { Right UnitEnd Always NoBlank bytes.now (seen (λ r. (value_term r.0, r.1.now)) result) }
 {
     let rest = word(bytes, b")")?;
     Ok((Value::Unit, rest))
 }
 
-fn truth(bytes: &[u8]) -> Result<(Value, &[u8]), Stop>
+fn truth(bytes: &[u8]) -> Result<(Value, &[u8]), ParseStop>
     ensures { Right BoolLiteral Always NoBlank bytes.now (seen (λ r. (value_term r.0, r.1.now)) result) }
 {
     if begins(bytes, b'f') {

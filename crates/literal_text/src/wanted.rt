@@ -1,5 +1,5 @@
 ghost use Rattle.std.specs.Prelude.{◌≤◌, ◌↔◌, IsTrue};
-ghost use Rattle.literal_text.specs.Reads.{want_of, fewest, fewest_levels};
+ghost use Rattle.literal_text.specs.LiteralReading.{want_of, fewest, fewest_levels};
 ghost use Rattle.task_model.specs.Basic.{basic_term};
 
 use task_model::Basic;

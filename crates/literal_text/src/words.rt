@@ -1,12 +1,12 @@
 ghost use Rattle.std.specs.Prelude.{◌≡◌, ◌∷◌, List, ℕ, MatchBool};
 ghost use Rattle.exact_reading.specs.Reading.{Right, seen, Always, NoToken};
-ghost use Rattle.literal_text.specs.Reads.{Word, NoBlank};
+ghost use Rattle.literal_text.specs.LiteralReading.{SpelledWord, NoBlank};
 
-use exact_reading::{Stop, expect_run, skip, strip};
+use exact_reading::{ParseStop, expect_run, skip, strip};
 
 /// Takes a word or a bracket, and the spaces behind it.
-pub(crate) fn word<'a>(bytes: &'a [u8], word: &[u8]) -> Result<&'a [u8], Stop>
-    ensures { Right (Word word.now) Always NoBlank bytes.now (seen (λ r. (tt, r.now)) result) }
+pub(crate) fn word<'a>(bytes: &'a [u8], word: &[u8]) -> Result<&'a [u8], ParseStop>
+    ensures { Right (SpelledWord word.now) Always NoBlank bytes.now (seen (λ r. (tt, r.now)) result) }
 {
     let rest = expect_run(bytes, word)?;
     Ok(skip(rest, b' '))

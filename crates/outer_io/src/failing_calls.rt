@@ -1,5 +1,5 @@
-ghost use Rattle.std.specs.Prelude.{◌≡◌, ◌≤◌, IsTrue};
-ghost use Rattle.outer_io.specs.Causes.{Rose};
+ghost use Rattle.std.specs.Prelude.{◌≡◌, ◌≤◌, IsTrue, if◌then◌else◌};
+ghost use Rattle.outer_io.specs.Causes.{Rose, next_count};
 ghost use Rattle.outer_io.specs.FailingCalls.{fails_next, IsCounted};
 
 use task_model::Row;
@@ -30,6 +30,7 @@ impl FailingCalls {
         ensures counted { IsCounted self.old self.new }
         ensures count { self.old.faults ≤ self.new.faults }
         ensures failed { IsTrue result → Rose self.old.faults self.new.faults }
+        ensures exact { self.new.faults ≡ if result then next_count self.old.faults else self.old.faults }
     {
         self.calls = self.calls.saturating_add(1);
         let fails = self.failing.as_slice().contains(&self.calls);
@@ -45,6 +46,7 @@ impl FailingCalls {
         ensures failing { self.new.failing ≡ self.old.failing }
         ensures count { self.old.faults ≤ self.new.faults }
         ensures failed { Rose self.old.faults self.new.faults }
+        ensures exact { self.new.faults ≡ next_count self.old.faults }
     {
         self.faults = self.faults.saturating_add(1);
     }

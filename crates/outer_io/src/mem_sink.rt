@@ -1,7 +1,7 @@
 ghost use Rattle.std.specs.Prelude.{◌≡◌, ◌<◌, ◌≤◌, [], IsTrue, Some, length};
 ghost use Rattle.outer_io.specs.Causes.{Rose};
 ghost use Rattle.outer_io.specs.FailingCalls.{fails_next, IsCounted};
-ghost use Rattle.outer_io.specs.Sink.{Took, TookAtMost};
+ghost use Rattle.outer_io.specs.Sink.{Took, TookAtMost, faults_after_write};
 
 use crate::failing_calls::FailingCalls;
 use crate::sink::{Put, Sink};
@@ -51,6 +51,7 @@ impl Sink for MemSink {
         ensures bytes { Took (Some self.old.bytes.list) (Some self.new.bytes.list) piece.now result }
         ensures count { self.old.plan.faults ≤ self.new.plan.faults }
         ensures failed { result ≡ Put.Failed → Rose self.old.plan.faults self.new.plan.faults }
+        ensures exact { self.new.plan.faults ≡ faults_after_write self.old.plan.faults result }
         ensures at_most { TookAtMost self.old.piece result }
         ensures listed { IsTrue (fails_next self.old.plan) → result ≡ Put.Failed }
         ensures counted { IsCounted self.old.plan self.new.plan }

@@ -2,7 +2,7 @@ ghost use Rattle.std.specs.Prelude.{◌≡◌, ◌<◌, ◌≤◌, ◌↔◌, Is
 ghost use Rattle.outer_io.specs.Causes.{Rose};
 ghost use Rattle.outer_io.specs.FailingCalls.{fails_next, IsCounted};
 ghost use Rattle.outer_io.specs.PlainSource.{left_of};
-ghost use Rattle.outer_io.specs.Source.{Gave, GaveAtMost};
+ghost use Rattle.outer_io.specs.Source.{Gave, GaveAtMost, faults_after_read};
 
 use crate::failing_calls::FailingCalls;
 use crate::plain_source::PlainSource;
@@ -41,6 +41,7 @@ impl Source for MemSource {
         ensures bytes { Gave (Some (left_of self.old.plain)) (Some (left_of self.new.plain)) room.new result }
         ensures count { self.old.plan.faults ≤ self.new.plan.faults }
         ensures failed { result ≡ Got.Failed → Rose self.old.plan.faults self.new.plan.faults }
+        ensures exact { self.new.plan.faults ≡ faults_after_read self.old.plan.faults result }
         ensures at_most { GaveAtMost self.old.plain.piece result }
         ensures listed { (result ≡ Got.Failed) ↔ IsTrue (fails_next self.old.plan) }
         ensures counted { IsCounted self.old.plan self.new.plan }

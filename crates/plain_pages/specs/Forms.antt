@@ -15,4 +15,5 @@ form_end button = codes "<button>" ++ button ++ codes "</button></form>\n"
 
 -- the fields of an editor whose value is written as a literal
 abbrev pub literal_fields : Text → Text → Text
-literal_fields b shown = codes "<input type=\"hidden\" name=\"as\" value=\"" ++ b ++ codes "\"><input name=\"value\" value=\"" ++ shown ++ codes "\">"
+literal_fields b shown = codes "<input type=\"hidden\" name=\"as\" value=\"" ++ b ++ codes "\"><input name=\"value\" value=\"" ++ shown
+    ++ codes "\">"

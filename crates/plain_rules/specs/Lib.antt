@@ -1,3 +1,3 @@
 pub mod Handled
-pub mod Signs
+pub mod TestSigns
 pub mod Outcomes

@@ -9,15 +9,15 @@ ghost use Rattle.task_model.specs.Tree.{cont_term, delay_term, tree_term, at};
 ghost use Rattle.task_model.specs.Input.{act_term, input_term};
 ghost use Rattle.task_model.specs.Handling as model;
 ghost use Rattle.task_model.specs.Spends.{Spends};
-ghost use Rattle.task_model.specs.Calls.{Ran};
-ghost use Rattle.plain_values.specs.Rules.{rules_term};
+ghost use Rattle.task_model.specs.Calls.{RunsPlan};
+ghost use Rattle.plain_values.specs.GivenRules.{rules_term};
 ghost use Rattle.plain_rules.specs.Handled as words;
 
 use plain_tasks::{
     and_tree, fails_at, next_tree, normal_body, or_tree, replaced, settle_at, then_tree, value_of,
     with_value,
 };
-use plain_values::{Rules, memory};
+use plain_values::Rules;
 use std::alloc::Global;
 use task_model::{
     Act, Basic, Cont, Delay, Input, OutOfMemory, Purse, Row, Slot, Stop, Tree, Turn, Value,
@@ -68,7 +68,7 @@ fn interacted(
     input: &Input,
     purse: &mut Purse,
 ) -> Result<Option<Tree>, Stop>
-    ensures { Ran (rules_term rules.now) (model.interacts (rules_term rules.now) (at (tree_term t.now) (map value_term store.old.list)) (input_term input.now)) (option_map (λ u. at (tree_term u) (map value_term store.new.list))) purse.old purse.new result }
+    ensures { RunsPlan (rules_term rules.now) (model.interacts (rules_term rules.now) (at (tree_term t.now) (map value_term store.old.list)) (input_term input.now)) (option_map (λ u. at (tree_term u) (map value_term store.new.list))) purse.old purse.new result }
 {
     let led = handled(
         alloc,
@@ -92,7 +92,7 @@ fn settled(
     store: &mut Row<Value>,
     purse: &mut Purse,
 ) -> Result<Option<Tree>, Stop>
-    ensures { Ran (rules_term rules.now) (model.settled (Some (at (tree_term t) (map value_term store.old.list)))) (option_map (λ u. at (tree_term u) (map value_term store.new.list))) purse.old purse.new result }
+    ensures { RunsPlan (rules_term rules.now) (model.settled (Some (at (tree_term t) (map value_term store.old.list)))) (option_map (λ u. at (tree_term u) (map value_term store.new.list))) purse.old purse.new result }
 {
     let u = settle_at(alloc, rules, t, store, purse)?;
     Ok(Some(u))
@@ -109,23 +109,23 @@ fn handled(
     purse: &mut Purse,
 ) -> Result<Option<Tree>, Stop>
     ensures height { OnOk result (purse.new.height ≡ purse.old.height) }
-    ensures ran { Ran (rules_term rules.now) (model.handled (rules_term rules.now) (tree_term t.now) (map value_term store.old.list) path.now (act_term act.now)) (option_map (λ u. at (tree_term u) (map value_term store.new.list))) purse.old purse.new result }
+    ensures ran { RunsPlan (rules_term rules.now) (model.handled (rules_term rules.now) (tree_term t.now) (map value_term store.old.list) path.now (act_term act.now)) (option_map (λ u. at (tree_term u) (map value_term store.new.list))) purse.old purse.new result }
 {
     match t {
-        Tree::Edit(b, _) => memory(edited(alloc, b, path, act)),
-        Tree::Enter(b) => memory(edited(alloc, b, path, act)),
-        Tree::Share(b, place) => memory(shared(alloc, b, *place, store, path, act)),
+        Tree::Edit(b, _) => Ok(edited(b, path, act)?),
+        Tree::Enter(b) => Ok(edited(b, path, act)?),
+        Tree::Share(b, place) => Ok(shared(alloc, b, *place, store, path, act)?),
         Tree::Then(left, k) => {
             let led = handled(alloc, rules, left, store, path, act, purse)?;
-            memory(then_rebuilt(alloc, led, k))
+            Ok(then_rebuilt(alloc, led, k)?)
         }
         Tree::Next(left, k) => {
-            let stopped = memory(stopped(alloc, left, store.as_slice(), path, act))?;
+            let stopped = stopped(alloc, left, store.as_slice(), path, act)?;
             match stopped {
                 Some(v) => stepped(alloc, rules, v, k, store, purse),
                 None => {
                     let led = handled(alloc, rules, left, store, path, act, purse)?;
-                    memory(next_rebuilt(alloc, led, k))
+                    Ok(next_rebuilt(alloc, led, k)?)
                 }
             }
         }
@@ -135,11 +135,11 @@ fn handled(
             [turn, rest @ ..] => match turn {
                 Turn::First => {
                     let led = handled(alloc, rules, a, store, rest, act, purse)?;
-                    memory(beside(alloc, Turn::First, false, led, b))
+                    Ok(beside(alloc, Turn::First, false, led, b)?)
                 }
                 Turn::Second => {
                     let led = handled(alloc, rules, b, store, rest, act, purse)?;
-                    memory(beside(alloc, Turn::Second, false, led, a))
+                    Ok(beside(alloc, Turn::Second, false, led, a)?)
                 }
             },
         },
@@ -148,11 +148,11 @@ fn handled(
             [turn, rest @ ..] => match turn {
                 Turn::First => {
                     let led = handled(alloc, rules, a, store, rest, act, purse)?;
-                    memory(beside(alloc, Turn::First, true, led, b))
+                    Ok(beside(alloc, Turn::First, true, led, b)?)
                 }
                 Turn::Second => {
                     let led = handled(alloc, rules, b, store, rest, act, purse)?;
-                    memory(beside(alloc, Turn::Second, true, led, a))
+                    Ok(beside(alloc, Turn::Second, true, led, a)?)
                 }
             },
         },
@@ -177,21 +177,21 @@ fn stopped(
 }
 
 // An editor of a type with the value of an input.
-fn edited(alloc: Global, b: &Basic, path: &[Turn], act: &Act) -> Result<Option<Tree>, OutOfMemory>
+fn edited(b: &Basic, path: &[Turn], act: &Act) -> Result<Option<Tree>, OutOfMemory>
     ensures { IfOk result (λ o. option_map tree_term o ≡ words.edited (basic_term b.now) path.now (act_term act.now)) }
 {
     match (path, act) {
-        ([], Act::Set(v)) => edited_to(alloc, b, v),
+        ([], Act::Set(v)) => edited_to(b, v),
         _ => Ok(None),
     }
 }
 
-fn edited_to(alloc: Global, b: &Basic, v: &Value) -> Result<Option<Tree>, OutOfMemory>
+fn edited_to(b: &Basic, v: &Value) -> Result<Option<Tree>, OutOfMemory>
     ensures { IfOk result (λ o. option_map tree_term o ≡ words.edited_to (basic_term b.now) (value_term v.now)) }
 {
     if value_has(v, b) {
-        let b = copy_basic(alloc, b)?;
-        Ok(Some(Tree::Edit(b, copy_value(alloc, v)?)))
+        let b = copy_basic(b)?;
+        Ok(Some(Tree::Edit(b, copy_value(v)?)))
     } else {
         Ok(None)
     }
@@ -225,7 +225,7 @@ fn shared_to(
 {
     if value_has(v, b) {
         let changed = replaced(alloc, store.as_slice(), place, v)?;
-        let b = copy_basic(alloc, b)?;
+        let b = copy_basic(b)?;
         *store = changed;
         Ok(Some(Tree::Share(b, place)))
     } else {
@@ -243,9 +243,9 @@ fn stepped(
     purse: &mut Purse,
 ) -> Result<Option<Tree>, Stop>
     ensures height { OnOk result (purse.new.height ≡ purse.old.height) }
-    ensures ran { Ran (rules_term rules.now) (model.unless_failing (rules_term rules.now) (cont_term k.now).body ((cont_term k.now).slots ++ plain_slot (value_term v) ∷ []) (map value_term store.old.list)) (option_map (λ u. at (tree_term u) (map value_term store.new.list))) purse.old purse.new result }
+    ensures ran { RunsPlan (rules_term rules.now) (model.unless_failing (rules_term rules.now) (cont_term k.now).body ((cont_term k.now).slots ++ plain_slot (value_term v) ∷ []) (map value_term store.old.list)) (option_map (λ u. at (tree_term u) (map value_term store.new.list))) purse.old purse.new result }
 {
-    let slots = memory(with_value(alloc, k.slots.as_slice(), v))?;
+    let slots = with_value(alloc, k.slots.as_slice(), v)?;
     unless_failing(alloc, rules, k.body, slots, store, purse)
 }
 
@@ -261,7 +261,7 @@ fn picked(
     purse: &mut Purse,
 ) -> Result<Option<Tree>, Stop>
     ensures height { OnOk result (purse.new.height ≡ purse.old.height) }
-    ensures ran { Ran (rules_term rules.now) (model.handled (rules_term rules.now) (trees.xor_tree (delay_term left.now) (delay_term right.now)) (map value_term store.old.list) path.now (act_term act.now)) (option_map (λ u. at (tree_term u) (map value_term store.new.list))) purse.old purse.new result }
+    ensures ran { RunsPlan (rules_term rules.now) (model.handled (rules_term rules.now) (trees.xor_tree (delay_term left.now) (delay_term right.now)) (map value_term store.old.list) path.now (act_term act.now)) (option_map (λ u. at (tree_term u) (map value_term store.new.list))) purse.old purse.new result }
 {
     match picks(path, act) {
         Some(first) => {
@@ -294,9 +294,9 @@ fn picked_side(
     purse: &mut Purse,
 ) -> Result<Option<Tree>, Stop>
     ensures height { OnOk result (purse.new.height ≡ purse.old.height) }
-    ensures ran { Ran (rules_term rules.now) (model.unless_failing (rules_term rules.now) (delay_term side.now).body (delay_term side.now).slots (map value_term store.old.list)) (option_map (λ u. at (tree_term u) (map value_term store.new.list))) purse.old purse.new result }
+    ensures ran { RunsPlan (rules_term rules.now) (model.unless_failing (rules_term rules.now) (delay_term side.now).body (delay_term side.now).slots (map value_term store.old.list)) (option_map (λ u. at (tree_term u) (map value_term store.new.list))) purse.old purse.new result }
 {
-    let slots = memory(copy_slots(alloc, side.slots.as_slice()))?;
+    let slots = copy_slots(alloc, side.slots.as_slice())?;
     unless_failing(alloc, rules, side.body, slots, store, purse)
 }
 
@@ -310,7 +310,7 @@ fn unless_failing(
     purse: &mut Purse,
 ) -> Result<Option<Tree>, Stop>
     ensures height { OnOk result (purse.new.height ≡ purse.old.height) }
-    ensures ran { Ran (rules_term rules.now) (model.unless_failing (rules_term rules.now) body (map slot_term slots.list) (map value_term store.old.list)) (option_map (λ u. at (tree_term u) (map value_term store.new.list))) purse.old purse.new result }
+    ensures ran { RunsPlan (rules_term rules.now) (model.unless_failing (rules_term rules.now) body (map slot_term slots.list) (map value_term store.old.list)) (option_map (λ u. at (tree_term u) (map value_term store.new.list))) purse.old purse.new result }
 {
     let t = normal_body(alloc, rules, body, slots, store, purse)?;
     let failing = fails_at(alloc, rules, &t, store.as_slice(), purse)?;

@@ -4,7 +4,7 @@ ghost use Rattle.task_model.specs.Value.{value_term};
 ghost use Rattle.task_model.specs.Tree.{tree_term};
 ghost use Rattle.task_model.specs.Widget as model;
 ghost use Rattle.task_model.specs.Widget.{AreWidgets, shape_term, widget_term};
-ghost use Rattle.plain_values.specs.Rules.{rules_term};
+ghost use Rattle.plain_values.specs.GivenRules.{rules_term};
 
 use crate::offering::turned_path;
 use crate::signs::{side_sign, step_sign};
@@ -27,9 +27,9 @@ pub fn widgets(
     ensures { IfOk result (λ ws. AreWidgets (rules_term rules.now) budget (tree_term t.now) (map value_term store.now) (map widget_term ws.list)) }
 {
     match t {
-        Tree::Edit(b, v) => one(alloc, edit_shape(alloc, b, v)?),
-        Tree::Enter(b) => one(alloc, Shape::Enter(copy_basic(alloc, b)?)),
-        Tree::Share(b, place) => one(alloc, share_shape(alloc, b, *place, store)?),
+        Tree::Edit(b, v) => one(alloc, edit_shape(b, v)?),
+        Tree::Enter(b) => one(alloc, Shape::Enter(copy_basic(b)?)),
+        Tree::Share(b, place) => one(alloc, share_shape(b, *place, store)?),
         Tree::Then(left, _) => {
             let below = widgets(alloc, rules, budget, left, store)?;
             above(alloc, Shape::Then, below)
@@ -58,19 +58,19 @@ pub fn widgets(
     }
 }
 
-fn edit_shape(alloc: Global, b: &Basic, v: &Value) -> Result<Shape, OutOfMemory>
+fn edit_shape(b: &Basic, v: &Value) -> Result<Shape, OutOfMemory>
     ensures { IfOk result (λ s. shape_term s ≡ model.edit_shape (basic_term b.now) (value_term v.now)) }
 {
-    let b = copy_basic(alloc, b)?;
-    Ok(Shape::Edit(b, copy_value(alloc, v)?))
+    let b = copy_basic(b)?;
+    Ok(Shape::Edit(b, copy_value(v)?))
 }
 
-fn share_shape(alloc: Global, b: &Basic, place: u64, store: &[Value]) -> Result<Shape, OutOfMemory>
+fn share_shape(b: &Basic, place: u64, store: &[Value]) -> Result<Shape, OutOfMemory>
     ensures { IfOk result (λ s. shape_term s ≡ model.share_shape (basic_term b.now) (model.stored (map value_term store.now) place)) }
 {
-    let b = copy_basic(alloc, b)?;
+    let b = copy_basic(b)?;
     match store.get(place as usize) {
-        Some(v) => Ok(Shape::Share(b, copy_value(alloc, v)?)),
+        Some(v) => Ok(Shape::Share(b, copy_value(v)?)),
         None => Ok(Shape::Share(b, Value::Unit)),
     }
 }
@@ -94,13 +94,13 @@ fn one(alloc: Global, shape: Shape) -> Result<Row<Widget>, OutOfMemory>
     Ok(all)
 }
 
-fn copy_sign_shape(alloc: Global, shape: &Shape) -> Result<Shape, OutOfMemory>
+fn copy_sign_shape(shape: &Shape) -> Result<Shape, OutOfMemory>
     ensures { IfOk result (λ copy. shape_term copy ≡ shape_term shape.now) }
 {
     match shape {
-        Shape::Edit(b, v) => edit_shape(alloc, b, v),
-        Shape::Enter(b) => Ok(Shape::Enter(copy_basic(alloc, b)?)),
-        Shape::Share(b, v) => shared_shape(alloc, b, v),
+        Shape::Edit(b, v) => edit_shape(b, v),
+        Shape::Enter(b) => Ok(Shape::Enter(copy_basic(b)?)),
+        Shape::Share(b, v) => shared_shape(b, v),
         Shape::Then => Ok(Shape::Then),
         Shape::Step(s) => Ok(Shape::Step(*s)),
         Shape::Fail => Ok(Shape::Fail),
@@ -110,11 +110,11 @@ fn copy_sign_shape(alloc: Global, shape: &Shape) -> Result<Shape, OutOfMemory>
     }
 }
 
-fn shared_shape(alloc: Global, b: &Basic, v: &Value) -> Result<Shape, OutOfMemory>
+fn shared_shape(b: &Basic, v: &Value) -> Result<Shape, OutOfMemory>
     ensures { IfOk result (λ s. shape_term s ≡ model.share_shape (basic_term b.now) (value_term v.now)) }
 {
-    let b = copy_basic(alloc, b)?;
-    Ok(Shape::Share(b, copy_value(alloc, v)?))
+    let b = copy_basic(b)?;
+    Ok(Shape::Share(b, copy_value(v)?))
 }
 
 // A widget with those below it, whose places stay.
@@ -136,7 +136,7 @@ fn copy_widget(alloc: Global, widget: &Widget) -> Result<Widget, OutOfMemory>
     ensures { IfOk result (λ copy. widget_term copy ≡ widget_term widget.now) }
 {
     let turns = copy_turns(alloc, widget.path.turns.as_slice())?;
-    let shape = copy_sign_shape(alloc, &widget.shape)?;
+    let shape = copy_sign_shape(&widget.shape)?;
     Ok(Widget {
         path: Path { turns },
         shape,
@@ -147,7 +147,7 @@ fn shifted(alloc: Global, turn: Turn, widget: &Widget) -> Result<Widget, OutOfMe
     ensures { IfOk result (λ w. widget_term w ≡ model.shifted turn (widget_term widget.now)) }
 {
     let path = turned_path(alloc, turn, &widget.path)?;
-    let shape = copy_sign_shape(alloc, &widget.shape)?;
+    let shape = copy_sign_shape(&widget.shape)?;
     Ok(Widget { path, shape })
 }
 

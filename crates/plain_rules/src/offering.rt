@@ -4,7 +4,7 @@ ghost use Rattle.task_model.specs.Value.{value_term};
 ghost use Rattle.task_model.specs.Tree.{tree_term};
 ghost use Rattle.task_model.specs.Offer as model;
 ghost use Rattle.task_model.specs.Offer.{AreOffers, offer_kind_term, offer_term};
-ghost use Rattle.plain_values.specs.Rules.{rules_term};
+ghost use Rattle.plain_values.specs.GivenRules.{rules_term};
 
 use crate::signs::{side_sign, step_sign};
 use plain_values::Rules;
@@ -66,7 +66,7 @@ fn set_offers(alloc: Global, b: &Basic) -> Result<Row<Offer>, OutOfMemory>
     ensures { IfOk result (λ os. map offer_term os.list ≡ model.offered (model.set_offer (basic_term b.now)) Sign.Yes) }
 {
     let mut all = Row::new(alloc);
-    let b = copy_basic(alloc, b)?;
+    let b = copy_basic(b)?;
     all.push(Offer {
         path: here(alloc),
         kind: OfferKind::Set(b),
@@ -119,11 +119,11 @@ fn pick_offers(alloc: Global, left: Sign, right: Sign) -> Result<Row<Offer>, Out
     Ok(all)
 }
 
-fn copy_kind(alloc: Global, kind: &OfferKind) -> Result<OfferKind, OutOfMemory>
+fn copy_kind(kind: &OfferKind) -> Result<OfferKind, OutOfMemory>
     ensures { IfOk result (λ copy. offer_kind_term copy ≡ offer_kind_term kind.now) }
 {
     match kind {
-        OfferKind::Set(b) => Ok(OfferKind::Set(copy_basic(alloc, b)?)),
+        OfferKind::Set(b) => Ok(OfferKind::Set(copy_basic(b)?)),
         OfferKind::Next => Ok(OfferKind::Next),
         OfferKind::Left => Ok(OfferKind::Left),
         OfferKind::Right => Ok(OfferKind::Right),
@@ -134,7 +134,7 @@ fn copy_offer(alloc: Global, offer: &Offer) -> Result<Offer, OutOfMemory>
     ensures { IfOk result (λ copy. offer_term copy ≡ offer_term offer.now) }
 {
     let turns = copy_turns(alloc, offer.path.turns.as_slice())?;
-    let kind = copy_kind(alloc, &offer.kind)?;
+    let kind = copy_kind(&offer.kind)?;
     Ok(Offer {
         path: Path { turns },
         kind,
@@ -160,7 +160,7 @@ fn turned(alloc: Global, turn: Turn, offer: &Offer) -> Result<Offer, OutOfMemory
     ensures { IfOk result (λ o. offer_term o ≡ model.turned turn (offer_term offer.now)) }
 {
     let path = turned_path(alloc, turn, &offer.path)?;
-    let kind = copy_kind(alloc, &offer.kind)?;
+    let kind = copy_kind(&offer.kind)?;
     Ok(Offer {
         path,
         kind,

@@ -3,7 +3,7 @@ ghost use Rattle.task_model.specs.Value.{value_term};
 ghost use Rattle.task_model.specs.Tree.{tree_term, at};
 ghost use Rattle.task_model.specs.Input.{input_term};
 ghost use Rattle.task_model.specs.Outcome.{IsOutcome};
-ghost use Rattle.plain_values.specs.Rules.{rules_term};
+ghost use Rattle.plain_values.specs.GivenRules.{rules_term};
 ghost use Rattle.plain_rules.specs.Outcomes.{outcome_term, Judged};
 
 use crate::handling::interact;

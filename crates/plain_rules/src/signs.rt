@@ -6,12 +6,12 @@ ghost use Rattle.task_model.specs.Sign.{IsSideSign, IsStepSign};
 ghost use Rattle.task_model.specs.Env.{slot_term};
 ghost use Rattle.task_model.specs.Plan.{give};
 ghost use Rattle.task_model.specs.Rules.{tested};
-ghost use Rattle.task_model.specs.Calls.{Ran};
-ghost use Rattle.plain_rules.specs.Signs.{Signed};
-ghost use Rattle.plain_values.specs.Rules.{rules_term};
+ghost use Rattle.task_model.specs.Calls.{RunsPlan};
+ghost use Rattle.plain_rules.specs.TestSigns.{Signed};
+ghost use Rattle.plain_values.specs.GivenRules.{rules_term};
 
 use plain_tasks::{fails_at, normal_body, side_fails, value_of, with_value};
-use plain_values::{Rules, memory};
+use plain_values::Rules;
 use std::alloc::Global;
 use task_model::{
     Cont, Delay, OutOfMemory, Purse, Row, Sign, Slot, Stop, Tree, Value, copy_values,
@@ -72,9 +72,9 @@ fn trial_fails(
     store: &[Value],
     purse: &mut Purse,
 ) -> Result<bool, Stop>
-    ensures { Ran (rules_term rules.now) (tested (rules_term rules.now) body (map slot_term slots.list) (map value_term store.now) (λ s no. give no)) (λ b. b) purse.old purse.new result }
+    ensures { RunsPlan (rules_term rules.now) (tested (rules_term rules.now) body (map slot_term slots.list) (map value_term store.now) (λ s no. give no)) (λ b. b) purse.old purse.new result }
 {
-    let mut trial = memory(copy_values(alloc, store))?;
+    let mut trial = copy_values(alloc, store)?;
     let t = normal_body(alloc, rules, body, slots, &mut trial, purse)?;
     fails_at(alloc, rules, &t, trial.as_slice(), purse)
 }

@@ -13,7 +13,7 @@ use Rattle.task_model.specs.Tree.{TreeTerm, share_tree, State}
 use Rattle.task_model.specs.Checked.{param_names}
 use Rattle.task_model.specs.Plan.{evaluates, Plan, give, ask, unit, after}
 use Rattle.task_model.specs.Rules.{slots_for}
-use Rattle.plain_values.specs.Words.{option_then, place_named}
+use Rattle.plain_values.specs.ValueWords.{option_then, place_named}
 use Rattle.plain_tasks.specs.declared.nodes.Start.{Start}
 
 abbrev pub start_term : Start → checked.Start
@@ -48,4 +48,5 @@ share_known o env x = option_then o (λ b. option_map (share_tree b) (place_name
 -- a call of a task before whose body so many nodes stand
 abbrev pub call_task_plan : Called → ℕ → List HostTerm → EnvTerm → List ValueTerm → Plan State
 call_task_plan d first args env σ =
-    unit (after (slots_for env σ [] args d.params) (λ vs. ask (evaluates d.task (record { names = param_names d.params; slots = vs; first = first }) σ) give))
+    unit (after (slots_for env σ [] args d.params)
+    (λ vs. ask (evaluates d.task (record { names = param_names d.params; slots = vs; first = first }) σ) give))

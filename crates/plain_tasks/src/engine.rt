@@ -8,15 +8,15 @@ ghost use Rattle.task_model.specs.Plan.{fails, strides, settles, normal, evaluat
 ghost use Rattle.task_model.specs.Rules as model;
 ghost use Rattle.task_model.specs.Judgements as judgements;
 ghost use Rattle.task_model.specs.Spends.{Spends};
-ghost use Rattle.task_model.specs.Calls.{Asked, Ran};
+ghost use Rattle.task_model.specs.Calls.{RunsJudgement, RunsPlan};
 ghost use Rattle.std.specs.Option.{option_map};
 ghost use Rattle.plain_tasks.specs.Bodies.{applied_plan, normal_plan};
-ghost use Rattle.plain_values.specs.Rules.{rules_term};
+ghost use Rattle.plain_values.specs.GivenRules.{rules_term};
 
 use crate::evaluation::{evaluate_at, opened_env};
 use crate::made::{and_tree, has_value, next_tree, or_of, then_tree, value_of, with_value};
 use crate::same::same_state;
-use plain_values::{Rules, memory};
+use plain_values::Rules;
 use std::alloc::Global;
 use task_model::{
     Body, Cont, Delay, Env, Purse, Row, Slot, Stop, Task, Tree, Value, copy_slots, copy_tree,
@@ -84,7 +84,7 @@ pub fn settle_at(
     purse: &mut Purse,
 ) -> Result<Tree, Stop>
     ensures height { OnOk result (purse.new.height ≡ purse.old.height) }
-    ensures asked { Asked (rules_term rules.now) (settles (at (tree_term t) (map value_term store.old.list))) (λ u. at (tree_term u) (map value_term store.new.list)) purse.old purse.new result }
+    ensures asked { RunsJudgement (rules_term rules.now) (settles (at (tree_term t) (map value_term store.old.list))) (λ u. at (tree_term u) (map value_term store.new.list)) purse.old purse.new result }
 {
     let height = purse.height_left();
     purse.enter()?;
@@ -102,7 +102,7 @@ pub fn fails_at(
     purse: &mut Purse,
 ) -> Result<bool, Stop>
     ensures height { OnOk result (purse.new.height ≡ purse.old.height) }
-    ensures asked { Asked (rules_term rules.now) (fails (at (tree_term t.now) (map value_term store.now))) (λ b. b) purse.old purse.new result }
+    ensures asked { RunsJudgement (rules_term rules.now) (fails (at (tree_term t.now) (map value_term store.now))) (λ b. b) purse.old purse.new result }
 {
     let height = purse.height_left();
     purse.enter()?;
@@ -121,7 +121,7 @@ fn fails_form(
     purse: &mut Purse,
 ) -> Result<bool, Stop>
     ensures height { OnOk result (purse.new.height ≡ purse.old.height) }
-    ensures ran { Ran (rules_term rules.now) (model.fail_rule (rules_term rules.now) (tree_term t.now) (map value_term store.now)) (λ b. b) purse.old purse.new result }
+    ensures ran { RunsPlan (rules_term rules.now) (model.fail_rule (rules_term rules.now) (tree_term t.now) (map value_term store.now)) (λ b. b) purse.old purse.new result }
 {
     match t {
         Tree::Edit(..) => Ok(false),
@@ -146,7 +146,7 @@ fn both_fail(
     purse: &mut Purse,
 ) -> Result<bool, Stop>
     ensures height { OnOk result (purse.new.height ≡ purse.old.height) }
-    ensures ran { Ran (rules_term rules.now) (model.fail_rule (rules_term rules.now) (trees.and_tree (tree_term a.now) (tree_term b.now)) (map value_term store.now)) (λ b. b) purse.old purse.new result }
+    ensures ran { RunsPlan (rules_term rules.now) (model.fail_rule (rules_term rules.now) (trees.and_tree (tree_term a.now) (tree_term b.now)) (map value_term store.now)) (λ b. b) purse.old purse.new result }
 {
     let first = fails_at(alloc, rules, a, store, purse)?;
     if first {
@@ -166,7 +166,7 @@ fn sides_fail(
     purse: &mut Purse,
 ) -> Result<bool, Stop>
     ensures height { OnOk result (purse.new.height ≡ purse.old.height) }
-    ensures ran { Ran (rules_term rules.now) (model.fail_rule (rules_term rules.now) (trees.xor_tree (delay_term a.now) (delay_term b.now)) (map value_term store.now)) (λ b. b) purse.old purse.new result }
+    ensures ran { RunsPlan (rules_term rules.now) (model.fail_rule (rules_term rules.now) (trees.xor_tree (delay_term a.now) (delay_term b.now)) (map value_term store.now)) (λ b. b) purse.old purse.new result }
 {
     let first = side_fails(alloc, rules, a, store, purse)?;
     if first {
@@ -186,10 +186,10 @@ pub fn side_fails(
     purse: &mut Purse,
 ) -> Result<bool, Stop>
     ensures height { OnOk result (purse.new.height ≡ purse.old.height) }
-    ensures ran { Ran (rules_term rules.now) (model.side (rules_term rules.now) (delay_term k.now) (map value_term store.now)) (λ b. b) purse.old purse.new result }
+    ensures ran { RunsPlan (rules_term rules.now) (model.side (rules_term rules.now) (delay_term k.now) (map value_term store.now)) (λ b. b) purse.old purse.new result }
 {
-    let slots = memory(copy_slots(alloc, k.slots.as_slice()))?;
-    let mut trial = memory(copy_values(alloc, store))?;
+    let slots = copy_slots(alloc, k.slots.as_slice())?;
+    let mut trial = copy_values(alloc, store)?;
     let t = normal_body(alloc, rules, k.body, slots, &mut trial, purse)?;
     fails_at(alloc, rules, &t, trial.as_slice(), purse)
 }
@@ -212,11 +212,11 @@ pub fn normal_body(
     purse: &mut Purse,
 ) -> Result<Tree, Stop>
     ensures height { OnOk result (purse.new.height ≡ purse.old.height) }
-    ensures ran { Ran (rules_term rules.now) (normal_plan (rules_term rules.now) body (map slot_term slots.list) (map value_term store.old.list)) (λ u. at (tree_term u) (map value_term store.new.list)) purse.old purse.new result }
+    ensures ran { RunsPlan (rules_term rules.now) (normal_plan (rules_term rules.now) body (map slot_term slots.list) (map value_term store.old.list)) (λ u. at (tree_term u) (map value_term store.new.list)) purse.old purse.new result }
 {
     match body_at(rules, body) {
         Some(own) => {
-            let inner = memory(opened_env(alloc, rules, body, own, slots))?;
+            let inner = opened_env(alloc, rules, body, own, slots)?;
             normal_at(alloc, rules, &own.task, &inner, store, purse)
         }
         None => Err(Stop::Over),
@@ -233,11 +233,11 @@ fn applied(
     purse: &mut Purse,
 ) -> Result<Tree, Stop>
     ensures height { OnOk result (purse.new.height ≡ purse.old.height) }
-    ensures ran { Ran (rules_term rules.now) (applied_plan (rules_term rules.now) body (map slot_term slots.list) (map value_term store.old.list)) (λ u. at (tree_term u) (map value_term store.new.list)) purse.old purse.new result }
+    ensures ran { RunsPlan (rules_term rules.now) (applied_plan (rules_term rules.now) body (map slot_term slots.list) (map value_term store.old.list)) (λ u. at (tree_term u) (map value_term store.new.list)) purse.old purse.new result }
 {
     match body_at(rules, body) {
         Some(own) => {
-            let inner = memory(opened_env(alloc, rules, body, own, slots))?;
+            let inner = opened_env(alloc, rules, body, own, slots)?;
             evaluate_at(alloc, rules, &own.task, &inner, store, purse)
         }
         None => Err(Stop::Over),
@@ -254,7 +254,7 @@ fn normal_at(
     purse: &mut Purse,
 ) -> Result<Tree, Stop>
     ensures height { OnOk result (purse.new.height ≡ purse.old.height) }
-    ensures asked { Asked (rules_term rules.now) (normal (task_term t.now) (env_term env.now) (map value_term store.old.list)) (λ u. at (tree_term u) (map value_term store.new.list)) purse.old purse.new result }
+    ensures asked { RunsJudgement (rules_term rules.now) (normal (task_term t.now) (env_term env.now) (map value_term store.old.list)) (λ u. at (tree_term u) (map value_term store.new.list)) purse.old purse.new result }
 {
     let height = purse.height_left();
     purse.enter()?;
@@ -273,7 +273,7 @@ fn normal_form(
     purse: &mut Purse,
 ) -> Result<Tree, Stop>
     ensures height { OnOk result (purse.new.height ≡ purse.old.height) }
-    ensures ran { Ran (rules_term rules.now) (ask (evaluates (task_term t.now) (env_term env.now) (map value_term store.old.list)) (λ s. stride_on s give)) (λ u. at (tree_term u) (map value_term store.new.list)) purse.old purse.new result }
+    ensures ran { RunsPlan (rules_term rules.now) (ask (evaluates (task_term t.now) (env_term env.now) (map value_term store.old.list)) (λ s. stride_on s give)) (λ u. at (tree_term u) (map value_term store.new.list)) purse.old purse.new result }
 {
     let u = evaluate_at(alloc, rules, t, env, store, purse)?;
     stride_all(alloc, rules, u, store, purse)
@@ -289,12 +289,12 @@ fn stride_all(
     purse: &mut Purse,
 ) -> Result<Tree, Stop>
     ensures height { OnOk result (purse.new.height ≡ purse.old.height) }
-    ensures ran { Ran (rules_term rules.now) (stride_on (at (tree_term t) (map value_term store.old.list)) give) (λ u. at (tree_term u) (map value_term store.new.list)) purse.old purse.new result }
+    ensures ran { RunsPlan (rules_term rules.now) (stride_on (at (tree_term t) (map value_term store.old.list)) give) (λ u. at (tree_term u) (map value_term store.new.list)) purse.old purse.new result }
 {
     let mut tree = t;
     'strides: loop {
         purse.spend()?;
-        let held = memory(copy_values(alloc, store.as_slice()))?;
+        let held = copy_values(alloc, store.as_slice())?;
         let next = stride_at(alloc, rules, &tree, store, purse)?;
         if same_state(&next, store.as_slice(), &tree, held.as_slice()) {
             return Ok(next);
@@ -312,7 +312,7 @@ fn stride_at(
     purse: &mut Purse,
 ) -> Result<Tree, Stop>
     ensures height { OnOk result (purse.new.height ≡ purse.old.height) }
-    ensures asked { Asked (rules_term rules.now) (strides (at (tree_term t.now) (map value_term store.old.list))) (λ u. at (tree_term u) (map value_term store.new.list)) purse.old purse.new result }
+    ensures asked { RunsJudgement (rules_term rules.now) (strides (at (tree_term t.now) (map value_term store.old.list))) (λ u. at (tree_term u) (map value_term store.new.list)) purse.old purse.new result }
 {
     let height = purse.height_left();
     purse.enter()?;
@@ -331,14 +331,14 @@ fn stride_form(
     purse: &mut Purse,
 ) -> Result<Tree, Stop>
     ensures height { OnOk result (purse.new.height ≡ purse.old.height) }
-    ensures ran { Ran (rules_term rules.now) (model.stride_rule (rules_term rules.now) (tree_term t.now) (map value_term store.old.list)) (λ u. at (tree_term u) (map value_term store.new.list)) purse.old purse.new result }
+    ensures ran { RunsPlan (rules_term rules.now) (model.stride_rule (rules_term rules.now) (tree_term t.now) (map value_term store.old.list)) (λ u. at (tree_term u) (map value_term store.new.list)) purse.old purse.new result }
 {
     match t {
-        Tree::Edit(..) => memory(copy_tree(alloc, t)),
-        Tree::Enter(_) => memory(copy_tree(alloc, t)),
-        Tree::Share(..) => memory(copy_tree(alloc, t)),
-        Tree::Fail => memory(copy_tree(alloc, t)),
-        Tree::Xor(..) => memory(copy_tree(alloc, t)),
+        Tree::Edit(..) => Ok(copy_tree(alloc, t)?),
+        Tree::Enter(_) => Ok(copy_tree(alloc, t)?),
+        Tree::Share(..) => Ok(copy_tree(alloc, t)?),
+        Tree::Fail => Ok(copy_tree(alloc, t)?),
+        Tree::Xor(..) => Ok(copy_tree(alloc, t)?),
         Tree::Then(left, k) => then_form(alloc, rules, left, k, store, purse),
         Tree::Next(left, k) => next_form(alloc, rules, left, k, store, purse),
         Tree::And(a, b) => and_form(alloc, rules, a, b, store, purse),
@@ -356,10 +356,10 @@ fn next_form(
     purse: &mut Purse,
 ) -> Result<Tree, Stop>
     ensures height { OnOk result (purse.new.height ≡ purse.old.height) }
-    ensures ran { Ran (rules_term rules.now) (model.stride_rule (rules_term rules.now) (trees.next_tree (tree_term left.now) (cont_term k.now)) (map value_term store.old.list)) (λ u. at (tree_term u) (map value_term store.new.list)) purse.old purse.new result }
+    ensures ran { RunsPlan (rules_term rules.now) (model.stride_rule (rules_term rules.now) (trees.next_tree (tree_term left.now) (cont_term k.now)) (map value_term store.old.list)) (λ u. at (tree_term u) (map value_term store.new.list)) purse.old purse.new result }
 {
     let left = stride_at(alloc, rules, left, store, purse)?;
-    memory(next_tree(alloc, left, k))
+    Ok(next_tree(alloc, left, k)?)
 }
 
 #[cycle(engine)]
@@ -372,11 +372,11 @@ fn and_form(
     purse: &mut Purse,
 ) -> Result<Tree, Stop>
     ensures height { OnOk result (purse.new.height ≡ purse.old.height) }
-    ensures ran { Ran (rules_term rules.now) (model.stride_rule (rules_term rules.now) (trees.and_tree (tree_term a.now) (tree_term b.now)) (map value_term store.old.list)) (λ u. at (tree_term u) (map value_term store.new.list)) purse.old purse.new result }
+    ensures ran { RunsPlan (rules_term rules.now) (model.stride_rule (rules_term rules.now) (trees.and_tree (tree_term a.now) (tree_term b.now)) (map value_term store.old.list)) (λ u. at (tree_term u) (map value_term store.new.list)) purse.old purse.new result }
 {
     let t = stride_at(alloc, rules, a, store, purse)?;
     let u = stride_at(alloc, rules, b, store, purse)?;
-    memory(and_tree(alloc, t, u))
+    Ok(and_tree(alloc, t, u)?)
 }
 
 #[cycle(engine)]
@@ -389,14 +389,14 @@ fn or_form(
     purse: &mut Purse,
 ) -> Result<Tree, Stop>
     ensures height { OnOk result (purse.new.height ≡ purse.old.height) }
-    ensures ran { Ran (rules_term rules.now) (model.stride_rule (rules_term rules.now) (trees.or_tree (tree_term a.now) (tree_term b.now)) (map value_term store.old.list)) (λ u. at (tree_term u) (map value_term store.new.list)) purse.old purse.new result }
+    ensures ran { RunsPlan (rules_term rules.now) (model.stride_rule (rules_term rules.now) (trees.or_tree (tree_term a.now) (tree_term b.now)) (map value_term store.old.list)) (λ u. at (tree_term u) (map value_term store.new.list)) purse.old purse.new result }
 {
     let t = stride_at(alloc, rules, a, store, purse)?;
     if has_value(&t, store.as_slice()) {
         Ok(t)
     } else {
         let u = stride_at(alloc, rules, b, store, purse)?;
-        memory(or_of(alloc, t, u, store.as_slice()))
+        Ok(or_of(alloc, t, u, store.as_slice())?)
     }
 }
 
@@ -410,7 +410,7 @@ fn then_form(
     purse: &mut Purse,
 ) -> Result<Tree, Stop>
     ensures height { OnOk result (purse.new.height ≡ purse.old.height) }
-    ensures ran { Ran (rules_term rules.now) (model.stride_rule (rules_term rules.now) (trees.then_tree (tree_term left.now) (cont_term k.now)) (map value_term store.old.list)) (λ u. at (tree_term u) (map value_term store.new.list)) purse.old purse.new result }
+    ensures ran { RunsPlan (rules_term rules.now) (model.stride_rule (rules_term rules.now) (trees.then_tree (tree_term left.now) (cont_term k.now)) (map value_term store.old.list)) (λ u. at (tree_term u) (map value_term store.new.list)) purse.old purse.new result }
 {
     let left = stride_at(alloc, rules, left, store, purse)?;
     fired(alloc, rules, left, k, store, purse)
@@ -427,11 +427,11 @@ fn fired(
     purse: &mut Purse,
 ) -> Result<Tree, Stop>
     ensures height { OnOk result (purse.new.height ≡ purse.old.height) }
-    ensures ran { Ran (rules_term rules.now) (model.fired (rules_term rules.now) (model.value_of (tree_term left) (map value_term store.old.list)) (cont_term k.now) (at (tree_term left) (map value_term store.old.list))) (λ u. at (tree_term u) (map value_term store.new.list)) purse.old purse.new result }
+    ensures ran { RunsPlan (rules_term rules.now) (model.fired (rules_term rules.now) (model.value_of (tree_term left) (map value_term store.old.list)) (cont_term k.now) (at (tree_term left) (map value_term store.old.list))) (λ u. at (tree_term u) (map value_term store.new.list)) purse.old purse.new result }
 {
-    let value = memory(value_of(alloc, &left, store.as_slice()))?;
+    let value = value_of(alloc, &left, store.as_slice())?;
     match value {
-        None => memory(then_tree(alloc, left, k)),
+        None => Ok(then_tree(alloc, left, k)?),
         Some(v) => tried(alloc, rules, left, v, k, store, purse),
     }
 }
@@ -448,14 +448,14 @@ fn tried(
     purse: &mut Purse,
 ) -> Result<Tree, Stop>
     ensures height { OnOk result (purse.new.height ≡ purse.old.height) }
-    ensures ran { Ran (rules_term rules.now) (model.fired (rules_term rules.now) (Some (value_term v)) (cont_term k.now) (at (tree_term left) (map value_term store.old.list))) (λ u. at (tree_term u) (map value_term store.new.list)) purse.old purse.new result }
+    ensures ran { RunsPlan (rules_term rules.now) (model.fired (rules_term rules.now) (Some (value_term v)) (cont_term k.now) (at (tree_term left) (map value_term store.old.list))) (λ u. at (tree_term u) (map value_term store.new.list)) purse.old purse.new result }
 {
-    let slots = memory(with_value(alloc, k.slots.as_slice(), v))?;
-    let mut trial = memory(copy_values(alloc, store.as_slice()))?;
+    let slots = with_value(alloc, k.slots.as_slice(), v)?;
+    let mut trial = copy_values(alloc, store.as_slice())?;
     let t = applied(alloc, rules, k.body, slots, &mut trial, purse)?;
     let failing = fails_at(alloc, rules, &t, trial.as_slice(), purse)?;
     if failing {
-        memory(then_tree(alloc, left, k))
+        Ok(then_tree(alloc, left, k)?)
     } else {
         *store = trial;
         Ok(t)

@@ -12,8 +12,8 @@ ghost use Rattle.task_model.specs.Plan.{evaluates, give, ask, known};
 ghost use Rattle.task_model.specs.Rules as model;
 ghost use Rattle.task_model.specs.Judgements.{Evaluates};
 ghost use Rattle.task_model.specs.Spends.{Spends};
-ghost use Rattle.task_model.specs.Calls.{Asked, Ran};
-ghost use Rattle.plain_values.specs.Rules.{rules_term};
+ghost use Rattle.task_model.specs.Calls.{RunsJudgement, RunsPlan};
+ghost use Rattle.plain_values.specs.GivenRules.{rules_term};
 ghost use Rattle.plain_values.specs.Known.{Known};
 ghost use Rattle.plain_tasks.specs.Starts.{call_task_plan, called, share_known};
 
@@ -21,12 +21,12 @@ use crate::definitions::task_named;
 use crate::made::{and_tree, enter_tree, next_task, or_tree, replaced, then_task, xor_task};
 use crate::nodes::{body_first, nodes_before, nodes_of};
 use plain_values::{
-    Rules, bound, env_at, memory, opened_list, param_names, place_named, slots_at, truth, value_at,
+    Rules, bound, env_at, opened_list, param_names, place_named, slots_at, truth, value_at,
 };
 use std::alloc::Global;
 use task_model::{
     Basic, Body, Env, Host, OutOfMemory, Param, Purse, Row, Slot, Stop, Task, TaskText, Tree,
-    Value, copy_basic, copy_text, copy_texts,
+    Value, copy_basic, copy_text,
 };
 
 /// The tree of a task, with the task's effects on the store.
@@ -53,7 +53,7 @@ pub fn evaluate_at(
     purse: &mut Purse,
 ) -> Result<Tree, Stop>
     ensures height { OnOk result (purse.new.height ≡ purse.old.height) }
-    ensures asked { Asked (rules_term rules.now) (evaluates (task_term t.now) (env_term env.now) (map value_term store.old.list)) (λ u. at (tree_term u) (map value_term store.new.list)) purse.old purse.new result }
+    ensures asked { RunsJudgement (rules_term rules.now) (evaluates (task_term t.now) (env_term env.now) (map value_term store.old.list)) (λ u. at (tree_term u) (map value_term store.new.list)) purse.old purse.new result }
 {
     let height = purse.height_left();
     purse.enter()?;
@@ -73,12 +73,12 @@ fn evaluate_form(
     purse: &mut Purse,
 ) -> Result<Tree, Stop>
     ensures height { OnOk result (purse.new.height ≡ purse.old.height) }
-    ensures ran { Ran (rules_term rules.now) (model.evaluate_rule (rules_term rules.now) (task_term t.now) (env_term env.now) (map value_term store.old.list)) (λ u. at (tree_term u) (map value_term store.new.list)) purse.old purse.new result }
+    ensures ran { RunsPlan (rules_term rules.now) (model.evaluate_rule (rules_term rules.now) (task_term t.now) (env_term env.now) (map value_term store.old.list)) (λ u. at (tree_term u) (map value_term store.new.list)) purse.old purse.new result }
 {
     match t {
         Task::Edit(e) => edit_form(alloc, rules, e, env, store.as_slice(), purse),
-        Task::Enter(b) => memory(enter_tree(alloc, b)),
-        Task::Share(name) => share_form(alloc, rules, name, env),
+        Task::Enter(b) => Ok(enter_tree(b)?),
+        Task::Share(name) => share_form(rules, name, env),
         Task::Fail(_) => Ok(Tree::Fail),
         Task::Call { name, args } => {
             call_form(alloc, rules, name, args.as_slice(), env, store, purse)
@@ -87,7 +87,7 @@ fn evaluate_form(
         Task::Next { left, body } => next_form(alloc, rules, left, *body, env, store, purse),
         Task::And(a, b) => and_form(alloc, rules, a, b, env, store, purse),
         Task::Or(a, b) => or_form(alloc, rules, a, b, env, store, purse),
-        Task::Xor { left, right } => memory(xor_task(alloc, *left, *right, env)),
+        Task::Xor { left, right } => Ok(xor_task(alloc, *left, *right, env)?),
         Task::Let { name, bound, rest } => {
             let_form(alloc, rules, name, bound, rest, env, store, purse)
         }
@@ -111,11 +111,11 @@ fn evaluate_form(
 }
 
 // The type of the node at which an environment stands.
-fn node_type(alloc: Global, rules: &Rules, env: &Env) -> Result<Basic, Stop>
+fn node_type(rules: &Rules, env: &Env) -> Result<Basic, Stop>
     ensures { Known (slice_get (rules_term rules.now).types (env_term env.now).first) basic_term result }
 {
     match rules.types.as_slice().get(env.first as usize) {
-        Some(b) => memory(copy_basic(alloc, b)),
+        Some(b) => Ok(copy_basic(b)?),
         None => Err(Stop::Over),
     }
 }
@@ -140,17 +140,17 @@ fn edit_form(
     purse: &mut Purse,
 ) -> Result<Tree, Stop>
     ensures height { OnOk result (purse.new.height ≡ purse.old.height) }
-    ensures ran { Ran (rules_term rules.now) (model.evaluate_rule (rules_term rules.now) (tasks.edit (host_term e.now)) (env_term env.now) (map value_term store.now)) (λ u. at (tree_term u) (map value_term store.now)) purse.old purse.new result }
+    ensures ran { RunsPlan (rules_term rules.now) (model.evaluate_rule (rules_term rules.now) (tasks.edit (host_term e.now)) (env_term env.now) (map value_term store.now)) (λ u. at (tree_term u) (map value_term store.now)) purse.old purse.new result }
 {
-    let b = node_type(alloc, rules, env)?;
+    let b = node_type(rules, env)?;
     let v = value_at(alloc, rules, e, env, store, purse)?;
     Ok(Tree::Edit(b, v))
 }
 
-fn share_form(alloc: Global, rules: &Rules, name: &TaskText, env: &Env) -> Result<Tree, Stop>
+fn share_form(rules: &Rules, name: &TaskText, env: &Env) -> Result<Tree, Stop>
     ensures { Known (share_known (slice_get (rules_term rules.now).types (env_term env.now).first) (env_term env.now) name.now) tree_term result }
 {
-    let b = node_type(alloc, rules, env)?;
+    let b = node_type(rules, env)?;
     let place = place_named(env, name)?;
     Ok(Tree::Share(b, place))
 }
@@ -166,10 +166,10 @@ fn then_form(
     purse: &mut Purse,
 ) -> Result<Tree, Stop>
     ensures height { OnOk result (purse.new.height ≡ purse.old.height) }
-    ensures ran { Ran (rules_term rules.now) (model.evaluate_rule (rules_term rules.now) (tasks.then_task (task_term left.now) body) (env_term env.now) (map value_term store.old.list)) (λ u. at (tree_term u) (map value_term store.new.list)) purse.old purse.new result }
+    ensures ran { RunsPlan (rules_term rules.now) (model.evaluate_rule (rules_term rules.now) (tasks.then_task (task_term left.now) body) (env_term env.now) (map value_term store.old.list)) (λ u. at (tree_term u) (map value_term store.new.list)) purse.old purse.new result }
 {
     let left = evaluate_at(alloc, rules, left, env, store, purse)?;
-    memory(then_task(alloc, left, body, env))
+    Ok(then_task(alloc, left, body, env)?)
 }
 
 #[cycle(evaluate)]
@@ -183,10 +183,10 @@ fn next_form(
     purse: &mut Purse,
 ) -> Result<Tree, Stop>
     ensures height { OnOk result (purse.new.height ≡ purse.old.height) }
-    ensures ran { Ran (rules_term rules.now) (model.evaluate_rule (rules_term rules.now) (tasks.next_task (task_term left.now) body) (env_term env.now) (map value_term store.old.list)) (λ u. at (tree_term u) (map value_term store.new.list)) purse.old purse.new result }
+    ensures ran { RunsPlan (rules_term rules.now) (model.evaluate_rule (rules_term rules.now) (tasks.next_task (task_term left.now) body) (env_term env.now) (map value_term store.old.list)) (λ u. at (tree_term u) (map value_term store.new.list)) purse.old purse.new result }
 {
     let left = evaluate_at(alloc, rules, left, env, store, purse)?;
-    memory(next_task(alloc, left, body, env))
+    Ok(next_task(alloc, left, body, env)?)
 }
 
 #[cycle(evaluate)]
@@ -200,12 +200,12 @@ fn and_form(
     purse: &mut Purse,
 ) -> Result<Tree, Stop>
     ensures height { OnOk result (purse.new.height ≡ purse.old.height) }
-    ensures ran { Ran (rules_term rules.now) (model.evaluate_rule (rules_term rules.now) (tasks.and_task (task_term a.now) (task_term b.now)) (env_term env.now) (map value_term store.old.list)) (λ u. at (tree_term u) (map value_term store.new.list)) purse.old purse.new result }
+    ensures ran { RunsPlan (rules_term rules.now) (model.evaluate_rule (rules_term rules.now) (tasks.and_task (task_term a.now) (task_term b.now)) (env_term env.now) (map value_term store.old.list)) (λ u. at (tree_term u) (map value_term store.new.list)) purse.old purse.new result }
 {
-    let inner = memory(env_after(alloc, rules, a, env))?;
+    let inner = env_after(alloc, rules, a, env)?;
     let t = evaluate_at(alloc, rules, a, env, store, purse)?;
     let u = evaluate_at(alloc, rules, b, &inner, store, purse)?;
-    memory(and_tree(alloc, t, u))
+    Ok(and_tree(alloc, t, u)?)
 }
 
 #[cycle(evaluate)]
@@ -219,12 +219,12 @@ fn or_form(
     purse: &mut Purse,
 ) -> Result<Tree, Stop>
     ensures height { OnOk result (purse.new.height ≡ purse.old.height) }
-    ensures ran { Ran (rules_term rules.now) (model.evaluate_rule (rules_term rules.now) (tasks.or_task (task_term a.now) (task_term b.now)) (env_term env.now) (map value_term store.old.list)) (λ u. at (tree_term u) (map value_term store.new.list)) purse.old purse.new result }
+    ensures ran { RunsPlan (rules_term rules.now) (model.evaluate_rule (rules_term rules.now) (tasks.or_task (task_term a.now) (task_term b.now)) (env_term env.now) (map value_term store.old.list)) (λ u. at (tree_term u) (map value_term store.new.list)) purse.old purse.new result }
 {
-    let inner = memory(env_after(alloc, rules, a, env))?;
+    let inner = env_after(alloc, rules, a, env)?;
     let t = evaluate_at(alloc, rules, a, env, store, purse)?;
     let u = evaluate_at(alloc, rules, b, &inner, store, purse)?;
-    memory(or_tree(alloc, t, u))
+    Ok(or_tree(alloc, t, u)?)
 }
 
 #[cycle(evaluate)]
@@ -239,10 +239,10 @@ fn let_form(
     purse: &mut Purse,
 ) -> Result<Tree, Stop>
     ensures height { OnOk result (purse.new.height ≡ purse.old.height) }
-    ensures ran { Ran (rules_term rules.now) (model.evaluate_rule (rules_term rules.now) (tasks.let_task name.now (host_term e.now) (task_term rest.now)) (env_term env.now) (map value_term store.old.list)) (λ u. at (tree_term u) (map value_term store.new.list)) purse.old purse.new result }
+    ensures ran { RunsPlan (rules_term rules.now) (model.evaluate_rule (rules_term rules.now) (tasks.let_task name.now (host_term e.now) (task_term rest.now)) (env_term env.now) (map value_term store.old.list)) (λ u. at (tree_term u) (map value_term store.new.list)) purse.old purse.new result }
 {
     let v = value_at(alloc, rules, e, env, store.as_slice(), purse)?;
-    let inner = memory(bound(alloc, env, name, Slot::Plain(v)))?;
+    let inner = bound(alloc, env, name, Slot::Plain(v))?;
     evaluate_at(alloc, rules, rest, &inner, store, purse)
 }
 
@@ -258,9 +258,9 @@ fn if_form(
     purse: &mut Purse,
 ) -> Result<Tree, Stop>
     ensures height { OnOk result (purse.new.height ≡ purse.old.height) }
-    ensures ran { Ran (rules_term rules.now) (model.evaluate_rule (rules_term rules.now) (tasks.if_task (host_term test.now) (task_term yes.now) (task_term no.now)) (env_term env.now) (map value_term store.old.list)) (λ u. at (tree_term u) (map value_term store.new.list)) purse.old purse.new result }
+    ensures ran { RunsPlan (rules_term rules.now) (model.evaluate_rule (rules_term rules.now) (tasks.if_task (host_term test.now) (task_term yes.now) (task_term no.now)) (env_term env.now) (map value_term store.old.list)) (λ u. at (tree_term u) (map value_term store.new.list)) purse.old purse.new result }
 {
-    let inner = memory(env_after(alloc, rules, yes, env))?;
+    let inner = env_after(alloc, rules, yes, env)?;
     let v = value_at(alloc, rules, test, env, store.as_slice(), purse)?;
     let truth = truth(v)?;
     if truth {
@@ -284,9 +284,9 @@ fn case_form(
     purse: &mut Purse,
 ) -> Result<Tree, Stop>
     ensures height { OnOk result (purse.new.height ≡ purse.old.height) }
-    ensures ran { Ran (rules_term rules.now) (model.evaluate_rule (rules_term rules.now) (tasks.case_task (host_term list.now) (task_term empty.now) head.now tail.now (task_term more.now)) (env_term env.now) (map value_term store.old.list)) (λ u. at (tree_term u) (map value_term store.new.list)) purse.old purse.new result }
+    ensures ran { RunsPlan (rules_term rules.now) (model.evaluate_rule (rules_term rules.now) (tasks.case_task (host_term list.now) (task_term empty.now) head.now tail.now (task_term more.now)) (env_term env.now) (map value_term store.old.list)) (λ u. at (tree_term u) (map value_term store.new.list)) purse.old purse.new result }
 {
-    let later = memory(env_after(alloc, rules, empty, env))?;
+    let later = env_after(alloc, rules, empty, env)?;
     let v = value_at(alloc, rules, list, env, store.as_slice(), purse)?;
     let opened = opened_list(alloc, &later, head, tail, v)?;
     match &opened {
@@ -307,12 +307,12 @@ fn new_form(
     purse: &mut Purse,
 ) -> Result<Tree, Stop>
     ensures height { OnOk result (purse.new.height ≡ purse.old.height) }
-    ensures ran { Ran (rules_term rules.now) (model.evaluate_rule (rules_term rules.now) (tasks.new_task name.now (host_term e.now) (task_term rest.now)) (env_term env.now) (map value_term store.old.list)) (λ u. at (tree_term u) (map value_term store.new.list)) purse.old purse.new result }
+    ensures ran { RunsPlan (rules_term rules.now) (model.evaluate_rule (rules_term rules.now) (tasks.new_task name.now (host_term e.now) (task_term rest.now)) (env_term env.now) (map value_term store.old.list)) (λ u. at (tree_term u) (map value_term store.new.list)) purse.old purse.new result }
 {
     let place = store.as_slice().len() as u64;
     let v = value_at(alloc, rules, e, env, store.as_slice(), purse)?;
-    let inner = memory(bound(alloc, env, name, Slot::Place(place)))?;
-    memory(store.push(v))?;
+    let inner = bound(alloc, env, name, Slot::Place(place))?;
+    store.push(v)?;
     evaluate_at(alloc, rules, rest, &inner, store, purse)
 }
 
@@ -328,11 +328,11 @@ fn put_form(
     purse: &mut Purse,
 ) -> Result<Tree, Stop>
     ensures height { OnOk result (purse.new.height ≡ purse.old.height) }
-    ensures ran { Ran (rules_term rules.now) (model.evaluate_rule (rules_term rules.now) (tasks.put_task name.now (host_term e.now) (task_term rest.now)) (env_term env.now) (map value_term store.old.list)) (λ u. at (tree_term u) (map value_term store.new.list)) purse.old purse.new result }
+    ensures ran { RunsPlan (rules_term rules.now) (model.evaluate_rule (rules_term rules.now) (tasks.put_task name.now (host_term e.now) (task_term rest.now)) (env_term env.now) (map value_term store.old.list)) (λ u. at (tree_term u) (map value_term store.new.list)) purse.old purse.new result }
 {
     let place = place_named(env, name)?;
     let v = value_at(alloc, rules, e, env, store.as_slice(), purse)?;
-    let changed = memory(replaced(alloc, store.as_slice(), place, &v))?;
+    let changed = replaced(alloc, store.as_slice(), place, &v)?;
     *store = changed;
     evaluate_at(alloc, rules, rest, env, store, purse)
 }
@@ -348,12 +348,12 @@ fn call_form(
     purse: &mut Purse,
 ) -> Result<Tree, Stop>
     ensures height { OnOk result (purse.new.height ≡ purse.old.height) }
-    ensures ran { Ran (rules_term rules.now) (model.evaluate_rule (rules_term rules.now) (tasks.call_task name.now (map host_term args.now)) (env_term env.now) (map value_term store.old.list)) (λ u. at (tree_term u) (map value_term store.new.list)) purse.old purse.new result }
+    ensures ran { RunsPlan (rules_term rules.now) (model.evaluate_rule (rules_term rules.now) (tasks.call_task name.now (map host_term args.now)) (env_term env.now) (map value_term store.old.list)) (λ u. at (tree_term u) (map value_term store.new.list)) purse.old purse.new result }
 {
     match task_named(&rules.program, name) {
         None => Err(Stop::Over),
         Some((params, body)) => {
-            let first = memory(nodes_before(alloc, &rules.program, name))?;
+            let first = nodes_before(alloc, &rules.program, name)?;
             call_at(alloc, rules, params, body, first, args, env, store, purse)
         }
     }
@@ -373,11 +373,11 @@ fn call_at(
     purse: &mut Purse,
 ) -> Result<Tree, Stop>
     ensures height { OnOk result (purse.new.height ≡ purse.old.height) }
-    ensures ran { Ran (rules_term rules.now) (call_task_plan (called (map param_term params.now) (task_term body.now)) first (map host_term args.now) (env_term env.now) (map value_term store.old.list)) (λ u. at (tree_term u) (map value_term store.new.list)) purse.old purse.new result }
+    ensures ran { RunsPlan (rules_term rules.now) (call_task_plan (called (map param_term params.now) (task_term body.now)) first (map host_term args.now) (env_term env.now) (map value_term store.old.list)) (λ u. at (tree_term u) (map value_term store.new.list)) purse.old purse.new result }
 {
     purse.spend()?;
     let slots = slots_at(alloc, rules, args, params, env, store.as_slice(), purse)?;
-    let names = memory(param_names(alloc, params))?;
+    let names = param_names(alloc, params)?;
     let inner = Env {
         names,
         slots,
@@ -396,10 +396,9 @@ pub fn opened_env(
 ) -> Result<Env, OutOfMemory>
     ensures { IfOk result (λ e. env_term e ≡ model.opened_env (rules_term rules.now) number (body_term body.now) (map slot_term slots.list)) }
 {
-    let mut names = copy_texts(alloc, body.scope.as_slice())?;
+    let mut names = body.scope.names(alloc)?;
     if let Some(binder) = &body.binder {
-        let binder = copy_text(alloc, binder)?;
-        names.push(binder)?;
+        names.push(copy_text(binder)?)?;
     }
     let first = body_first(alloc, &rules.program, number)?;
     Ok(Env {

@@ -11,13 +11,13 @@ ghost use Rattle.task_model.specs.Rules as rules;
 use std::alloc::Global;
 use task_model::{
     Basic, Cont, Delay, Env, OutOfMemory, Row, Slot, Tree, Value, boxed, copy_basic, copy_slots,
-    copy_value,
+    copy_value, shared,
 };
 
-pub fn enter_tree(alloc: Global, b: &Basic) -> Result<Tree, OutOfMemory>
+pub fn enter_tree(b: &Basic) -> Result<Tree, OutOfMemory>
     ensures { IfOk result (λ t. tree_term t ≡ trees.enter_tree (basic_term b.now)) }
 {
-    Ok(Tree::Enter(copy_basic(alloc, b)?))
+    Ok(Tree::Enter(copy_basic(b)?))
 }
 
 fn later_cont(alloc: Global, body: u32, env: &Env) -> Result<Cont, OutOfMemory>
@@ -127,8 +127,8 @@ pub fn value_of(alloc: Global, t: &Tree, store: &[Value]) -> Result<Option<Value
     ensures { IfOk result (λ v. option_map value_term v ≡ rules.value_of (tree_term t.now) (map value_term store.now)) }
 {
     match t {
-        Tree::Edit(_, v) => Ok(Some(copy_value(alloc, v)?)),
-        Tree::Share(_, place) => value_at_place(alloc, *place, store),
+        Tree::Edit(_, v) => Ok(Some(copy_value(v)?)),
+        Tree::Share(_, place) => value_at_place(*place, store),
         Tree::And(a, b) => {
             let v = value_of(alloc, a, store)?;
             let w = value_of(alloc, b, store)?;
@@ -149,11 +149,11 @@ pub fn value_of(alloc: Global, t: &Tree, store: &[Value]) -> Result<Option<Value
     }
 }
 
-fn value_at_place(alloc: Global, place: u64, store: &[Value]) -> Result<Option<Value>, OutOfMemory>
+fn value_at_place(place: u64, store: &[Value]) -> Result<Option<Value>, OutOfMemory>
     ensures { IfOk result (λ v. option_map value_term v ≡ slice_get (map value_term store.now) place) }
 {
     match store.get(place as usize) {
-        Some(v) => Ok(Some(copy_value(alloc, v)?)),
+        Some(v) => Ok(Some(copy_value(v)?)),
         None => Ok(None),
     }
 }
@@ -171,7 +171,8 @@ fn paired(alloc: Global, v: Option<Value>, w: Option<Value>) -> Result<Option<Va
 pub fn pair_value(alloc: Global, v: Value, w: Value) -> Result<Value, OutOfMemory>
     ensures { IfOk result (λ p. value_term p ≡ values.pair_value (value_term v) (value_term w)) }
 {
-    Ok(Value::Pair(boxed(alloc, v)?, boxed(alloc, w)?))
+    let v = shared(alloc, v)?;
+    Ok(Value::Pair(v, shared(alloc, w)?))
 }
 
 /// The slots of a body with one value more.
@@ -194,18 +195,14 @@ pub fn replaced(
 {
     let mut all = Row::new(alloc);
     for (i, held) in store.iter().enumerate() {
-        let copy = copy_either(alloc, i as u64 == place, v, held)?;
+        let copy = copy_either(i as u64 == place, v, held)?;
         all.push(copy)?;
     }
     Ok(all)
 }
 
-fn copy_either(alloc: Global, first: bool, v: &Value, w: &Value) -> Result<Value, OutOfMemory>
+fn copy_either(first: bool, v: &Value, w: &Value) -> Result<Value, OutOfMemory>
     ensures { IfOk result (λ copy. value_term copy ≡ (if first then value_term v.now else value_term w.now)) }
 {
-    if first {
-        copy_value(alloc, v)
-    } else {
-        copy_value(alloc, w)
-    }
+    if first { copy_value(v) } else { copy_value(w) }
 }

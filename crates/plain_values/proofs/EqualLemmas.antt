@@ -54,7 +54,8 @@ mutual
       ap (λ z. more_values z vs) (same_value_true v w q.0) ∙ ap (more_values w) (same_values_true vs ws q.1)
   same_values_true vs ws e = absurd (cc)
 
-by_test : (v w : ValueTerm) (b test : Bool) → (IsTrue b → v ≡ w) → (v ≡ w → IsTrue b) → (test ≡ true → v ≡ w) → (v ≡ w → test ≡ true) → test ≡ b
+by_test : (v w : ValueTerm) (b test : Bool) → (IsTrue b → v ≡ w) → (v ≡ w → IsTrue b) → (test ≡ true → v ≡ w) → (v ≡ w → test ≡ true)
+    → test ≡ b
 by_test v w true true f g p q = refl
 by_test v w false false f g p q = refl
 by_test v w true false f g p q = q (f refl)
@@ -62,4 +63,5 @@ by_test v w false true f g p q = absurd (true≢false (sym (g (p refl))))
 
 -- a test that tells equal terms is the rules' test
 pub same_value_is : (v w : ValueTerm) (b : Bool) → (IsTrue b → v ≡ w) × (v ≡ w → IsTrue b) → same_value v w ≡ b
-same_value_is v w b h = by_test v w b (same_value v w) h.0 h.1 (same_value_true v w) (λ e. ap (λ z. same_value v z) (sym e) ∙ same_value_refl v)
+same_value_is v w b h = by_test v w b (same_value v w) h.0 h.1 (same_value_true v w)
+    (λ e. ap (λ z. same_value v z) (sym e) ∙ same_value_refl v)

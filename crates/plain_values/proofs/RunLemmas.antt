@@ -10,7 +10,7 @@ use Rattle.task_model.specs.Program.{KindTerm, plain_kind, ref_kind, kind_term, 
 use Rattle.task_model.specs.Checked.{CheckedTerm, Function, slot_of, what_nodes, def_in, function_of}
 use Rattle.task_model.specs.Plan.{gives_value, Plan, give, stuck, ask, after, known}
 use Rattle.task_model.specs.Rules.{bound, as_value, as_place, branch, chosen, matched, bare_name, exprs_of, value_rule, slot_for, slots_for, values_for, op_rule}
-use Rattle.task_model.specs.Calls.{Ran}
+use Rattle.task_model.specs.Calls.{RunsPlan}
 use Rattle.task_model.specs.declared.host.Op.{Op}
 use Rattle.task_model.specs.declared.host.Op.TheVariants as ops
 use Rattle.task_model.specs.declared.purse.Stop.{Stop}
@@ -23,24 +23,28 @@ use Rattle.task_model.specs.declared.value.Value as value
 use Rattle.task_model.specs.declared.env.Slot.{Slot}
 use Rattle.task_model.specs.declared.program.Param.{Param}
 use Rattle.plain_values.specs.Known.{Known}
-use Rattle.plain_values.specs.Words.{option_then, value_in, place_in, value_named, place_named, truth_of, opened_list, decider, lazy_plan, strict_plan, call_plan, place_argument, function_in}
+use Rattle.plain_values.specs.ValueWords.{option_then, value_in, place_in, value_named, place_named, truth_of, opened_list, decider, lazy_plan, strict_plan, call_plan, place_argument, function_in}
 use Rattle.std.specs.Option.{option_map}
 
-pub ran_is : {c : CheckedTerm} {A X : Type 0} {p q : Plan A} {view : X → A} {old new : Left} {r : Result X Stop} → p ≡ q → Ran c q view old new r → Ran c p view old new r
-ran_is {c = c} {view = view} {old = old} {new = new} {r = r} e a = subst (λ z. Ran c z view old new r) (sym e) a
+pub ran_is : {c : CheckedTerm} {A X : Type 0} {p q : Plan A} {view : X → A} {old new : Left} {r : Result X Stop} → p ≡ q
+    → RunsPlan c q view old new r → RunsPlan c p view old new r
+ran_is {c = c} {view = view} {old = old} {new = new} {r = r} e a = subst (λ z. RunsPlan c z view old new r) (sym e) a
 
-pub ran_stuck : {c : CheckedTerm} {A X : Type 0} {view : X → A} {old new : Left} → Ran c stuck view old new (Err Over)
+pub ran_stuck : {c : CheckedTerm} {A X : Type 0} {view : X → A} {old new : Left} → RunsPlan c stuck view old new (Err Over)
 ran_stuck {view = view} {old = old} {new = new} = record { runs = stops_never view old new Over }
 
 -- ---- what is looked for
-pub ran_known_ok : {c : CheckedTerm} {A Y B : Type 0} {o : Option A} {x : A} (f : A → Plan B) {vb : Y → B} {old new : Left} {r : Result Y Stop} → o ≡ Some x → Ran c (f x) vb old new r → Ran c (known o f) vb old new r
+pub ran_known_ok : {c : CheckedTerm} {A Y B : Type 0} {o : Option A} {x : A} (f : A → Plan B) {vb : Y → B} {old new : Left}
+    {r : Result Y Stop} → o ≡ Some x → RunsPlan c (f x) vb old new r → RunsPlan c (known o f) vb old new r
 ran_known_ok f e a = ran_is (ap (λ z. known z f) e) a
 
-pub ran_known_stops : {c : CheckedTerm} {A X Y B : Type 0} (o : Option A) (view : X → A) (s : Stop) (f : A → Plan B) {vb : Y → B} {old new : Left} → Known o view (Err s) → Ran c (known o f) vb old new (Err s)
+pub ran_known_stops : {c : CheckedTerm} {A X Y B : Type 0} (o : Option A) (view : X → A) (s : Stop) (f : A → Plan B) {vb : Y → B}
+    {old new : Left} → Known o view (Err s) → RunsPlan c (known o f) vb old new (Err s)
 ran_known_stops o view Over f e = ran_is (ap (λ z. known z f) e) ran_stuck
 ran_known_stops o view Memory f e = ran_memory refl
 
-pub ran_known : {c : CheckedTerm} {A X : Type 0} (o : Option A) (view : X → A) (r : Result X Stop) {old : Left} → Known o view r → Ran c (known o give) view old old r
+pub ran_known : {c : CheckedTerm} {A X : Type 0} (o : Option A) (view : X → A) (r : Result X Stop) {old : Left} → Known o view r
+    → RunsPlan c (known o give) view old old r
 ran_known o view (Ok x) e = ran_is (ap (λ z. known z give) e) (ran_give refl)
 ran_known o view (Err s) e = ran_known_stops o view s give e
 
@@ -57,14 +61,17 @@ as_place_is (plain_slot v) f = refl
 as_place_is (place_slot n) f = refl
 
 -- a plain name
-pub named_is : {A : Type 0} (env : EnvTerm) (x : Text) (f : ValueTerm → Plan A) → known (slot_of env x) (λ s. as_value s f) ≡ known (value_named env x) f
+pub named_is : {A : Type 0} (env : EnvTerm) (x : Text) (f : ValueTerm → Plan A) → known (slot_of env x) (λ s. as_value s f)
+    ≡ known (value_named env x) f
 named_is env x f = (λ i. known (slot_of env x) (λ s. as_value_is s f i)) ∙ sym (known_then (slot_of env x) value_in f)
 
 -- a reference
-pub placed_is : {A : Type 0} (env : EnvTerm) (x : Text) (f : ℕ → Plan A) → known (slot_of env x) (λ s. as_place s f) ≡ known (place_named env x) f
+pub placed_is : {A : Type 0} (env : EnvTerm) (x : Text) (f : ℕ → Plan A) → known (slot_of env x) (λ s. as_place s f)
+    ≡ known (place_named env x) f
 placed_is env x f = (λ i. known (slot_of env x) (λ s. as_place_is s f i)) ∙ sym (known_then (slot_of env x) place_in f)
 
-pub read_is : {A B : Type 0} (env : EnvTerm) (x : Text) (g : ℕ → Option B) (f : B → Plan A) → known (slot_of env x) (λ s. as_place s (λ n. known (g n) f)) ≡ known (option_then (place_named env x) g) f
+pub read_is : {A B : Type 0} (env : EnvTerm) (x : Text) (g : ℕ → Option B) (f : B → Plan A)
+    → known (slot_of env x) (λ s. as_place s (λ n. known (g n) f)) ≡ known (option_then (place_named env x) g) f
 read_is env x g f = placed_is env x (λ n. known (g n) f) ∙ sym (known_then (place_named env x) g f)
 
 -- ---- choices
@@ -72,62 +79,84 @@ pub chosen_is : {A : Type 0} (v : ValueTerm) (a b : Plan A) → chosen v a b ≡
 chosen_is (bool_value t) a b = refl
 chosen_is v a b = refl
 
-pub ran_chosen : {c : CheckedTerm} {A Y : Type 0} (v : ValueTerm) {t : Bool} (a b : Plan A) {view : Y → A} {old new : Left} {r : Result Y Stop} → truth_of v ≡ Some t → Ran c (branch t a b) view old new r → Ran c (chosen v a b) view old new r
+pub ran_chosen : {c : CheckedTerm} {A Y : Type 0} (v : ValueTerm) {t : Bool} (a b : Plan A) {view : Y → A} {old new : Left}
+    {r : Result Y Stop} → truth_of v ≡ Some t → RunsPlan c (branch t a b) view old new r → RunsPlan c (chosen v a b) view old new r
 ran_chosen v a b e p = ran_is (chosen_is v a b) (ran_known_ok (λ t. branch t a b) e p)
 
-pub ran_chosen_stops : {c : CheckedTerm} {A Y : Type 0} (v : ValueTerm) (s : Stop) (a b : Plan A) {view : Y → A} {old new : Left} → Known {X = Bool} (truth_of v) (λ t. t) (Err s) → Ran c (chosen v a b) view old new (Err s)
+pub ran_chosen_stops : {c : CheckedTerm} {A Y : Type 0} (v : ValueTerm) (s : Stop) (a b : Plan A) {view : Y → A} {old new : Left}
+    → Known {X = Bool} (truth_of v) (λ t. t) (Err s) → RunsPlan c (chosen v a b) view old new (Err s)
 ran_chosen_stops v s a b e = ran_is (chosen_is v a b) (ran_known_stops {X = Bool} (truth_of v) (λ t. t) s (λ t. branch t a b) e)
 
 abbrev pub empty_or : {A : Type 0} → Plan A → (EnvTerm → Plan A) → Option EnvTerm → Plan A
 empty_or a f None = a
 empty_or a f (Some env) = f env
 
-pub matched_is : {A : Type 0} (env : EnvTerm) (x y : Text) (v : ValueTerm) (a : Plan A) (f : EnvTerm → Plan A) → matched v a (λ head tail. f (bound (bound env x (plain_slot head)) y (plain_slot tail))) ≡ known (opened_list env x y v) (empty_or a f)
+pub matched_is : {A : Type 0} (env : EnvTerm) (x y : Text) (v : ValueTerm) (a : Plan A) (f : EnvTerm → Plan A)
+    → matched v a (λ head tail. f (bound (bound env x (plain_slot head)) y (plain_slot tail))) ≡ known (opened_list env x y v)
+    (empty_or a f)
 matched_is env x y (list_value no_values) a f = refl
 matched_is env x y (list_value (more_values v vs)) a f = refl
 matched_is env x y v a f = refl
 
-pub ran_matched : {c : CheckedTerm} {A Y : Type 0} (env : EnvTerm) (x y : Text) (v : ValueTerm) (o : Option EnvTerm) (a : Plan A) (f : EnvTerm → Plan A) {view : Y → A} {old new : Left} {r : Result Y Stop} → opened_list env x y v ≡ Some o → Ran c (empty_or a f o) view old new r → Ran c (matched v a (λ head tail. f (bound (bound env x (plain_slot head)) y (plain_slot tail)))) view old new r
+pub ran_matched : {c : CheckedTerm} {A Y : Type 0} (env : EnvTerm) (x y : Text) (v : ValueTerm) (o : Option EnvTerm) (a : Plan A)
+    (f : EnvTerm → Plan A) {view : Y → A} {old new : Left} {r : Result Y Stop} → opened_list env x y v ≡ Some o
+    → RunsPlan c (empty_or a f o) view old new r
+    → RunsPlan c (matched v a (λ head tail. f (bound (bound env x (plain_slot head)) y (plain_slot tail)))) view old new r
 ran_matched env x y v o a f e p = ran_is (matched_is env x y v a f) (ran_known_ok (empty_or a f) e p)
 
-pub ran_matched_stops : {c : CheckedTerm} {A X Y : Type 0} (env : EnvTerm) (x y : Text) (v : ValueTerm) (to_env : X → Option EnvTerm) (s : Stop) (a : Plan A) (f : EnvTerm → Plan A) {view : Y → A} {old new : Left} → Known (opened_list env x y v) to_env (Err s) → Ran c (matched v a (λ head tail. f (bound (bound env x (plain_slot head)) y (plain_slot tail)))) view old new (Err s)
-ran_matched_stops env x y v to_env s a f e = ran_is (matched_is env x y v a f) (ran_known_stops (opened_list env x y v) to_env s (empty_or a f) e)
+pub ran_matched_stops : {c : CheckedTerm} {A X Y : Type 0} (env : EnvTerm) (x y : Text) (v : ValueTerm) (to_env : X → Option EnvTerm)
+    (s : Stop) (a : Plan A) (f : EnvTerm → Plan A) {view : Y → A} {old new : Left} → Known (opened_list env x y v) to_env (Err s)
+    → RunsPlan c (matched v a (λ head tail. f (bound (bound env x (plain_slot head)) y (plain_slot tail)))) view old new (Err s)
+ran_matched_stops env x y v to_env s a f e = ran_is (matched_is env x y v a f)
+    (ran_known_stops (opened_list env x y v) to_env s (empty_or a f) e)
 
 -- ---- calls
 exprs_of-as_exprs : (es : List HostTerm) → exprs_of (as_exprs es) ≡ es
 exprs_of-as_exprs [] = refl
 exprs_of-as_exprs (e ∷ es) = ap (λ l. e ∷ l) (exprs_of-as_exprs es)
 
-function_in-any : (p : ProgramTerm) (n : ℕ) (ds : List DefTerm) (f : Text) → def_in p (λ first d. function_of d.params d.what) n ds f ≡ function_in ds f
+function_in-any : (p : ProgramTerm) (n : ℕ) (ds : List DefTerm) (f : Text) → def_in p (λ first d. function_of d.params d.what) n ds f
+    ≡ function_in ds f
 function_in-any p n [] f = refl
 function_in-any p n (d ∷ ds) f = by_test (same_text d.name f) (function_in-any p (n + what_nodes p d.what) ds f)
   where
-    by_test : (b : Bool) → def_in p (λ first d. function_of d.params d.what) (n + what_nodes p d.what) ds f ≡ function_in ds f → cond b (function_of d.params d.what) (def_in p (λ first d. function_of d.params d.what) (n + what_nodes p d.what) ds f) ≡ cond b (function_of d.params d.what) (function_in ds f)
+    by_test : (b : Bool) → def_in p (λ first d. function_of d.params d.what) (n + what_nodes p d.what) ds f ≡ function_in ds f
+        → cond b (function_of d.params d.what) (def_in p (λ first d. function_of d.params d.what) (n + what_nodes p d.what) ds f)
+        ≡ cond b (function_of d.params d.what) (function_in ds f)
     by_test true e = refl
     by_test false e = e
 
-pub ran_call : {c : CheckedTerm} {Y : Type 0} (f : Text) (d : Function) (args : List HostTerm) (env : EnvTerm) (σ : List ValueTerm) {view : Y → ValueTerm} {old new : Left} {r : Result Y Stop} → function_in c.program.defs f ≡ Some d → Ran c (call_plan d.expr d.params args env σ) view old new r → Ran c (value_rule c (call_expr f (as_exprs args)) env σ) view old new r
+pub ran_call : {c : CheckedTerm} {Y : Type 0} (f : Text) (d : Function) (args : List HostTerm) (env : EnvTerm)
+    (σ : List ValueTerm) {view : Y → ValueTerm} {old new : Left} {r : Result Y Stop} → function_in c.program.defs f ≡ Some d
+    → RunsPlan c (call_plan d.expr d.params args env σ) view old new r
+    → RunsPlan c (value_rule c (call_expr f (as_exprs args)) env σ) view old new r
 ran_call {c = c} f d args env σ {view = view} {old = old} {new = new} {r = r} e a =
-    ran_known_ok _ (function_in-any c.program 0 c.program.defs f ∙ e) (subst (λ es. Ran c (call_plan d.expr d.params es env σ) view old new r) (sym (exprs_of-as_exprs args)) a)
+    ran_known_ok _ (function_in-any c.program 0 c.program.defs f ∙ e)
+    (subst (λ es. RunsPlan c (call_plan d.expr d.params es env σ) view old new r) (sym (exprs_of-as_exprs args)) a)
 
-pub ran_call_none : {c : CheckedTerm} {Y : Type 0} (f : Text) (es : HostTerms) (env : EnvTerm) (σ : List ValueTerm) {view : Y → ValueTerm} {old new : Left} → function_in c.program.defs f ≡ None → Ran c (value_rule c (call_expr f es) env σ) view old new (Err Over)
+pub ran_call_none : {c : CheckedTerm} {Y : Type 0} (f : Text) (es : HostTerms) (env : EnvTerm) (σ : List ValueTerm) {view : Y → ValueTerm}
+    {old new : Left} → function_in c.program.defs f ≡ None → RunsPlan c (value_rule c (call_expr f es) env σ) view old new (Err Over)
 ran_call_none {c = c} f es env σ e = ran_known_stops {X = Function} _ (λ d. d) Over _ (function_in-any c.program 0 c.program.defs f ∙ e)
 
 -- the slot of an argument that is a reference
-pub argument_is : (env : EnvTerm) (e : HostTerm) → known (bare_name e) (λ x. known (slot_of env x) (λ s. as_place s (λ n. give (place_slot n)))) ≡ known (place_argument env e) give
-argument_is env e = (λ i. known (bare_name e) (λ x. placed_is env x (λ n. give (place_slot n)) i)) ∙ sym (known_then (bare_name e) (place_named env) (λ n. give (place_slot n))) ∙ known_map (option_then (bare_name e) (place_named env))
+pub argument_is : (env : EnvTerm) (e : HostTerm)
+    → known (bare_name e) (λ x. known (slot_of env x) (λ s. as_place s (λ n. give (place_slot n)))) ≡ known (place_argument env e) give
+argument_is env e = (λ i. known (bare_name e) (λ x. placed_is env x (λ n. give (place_slot n)) i))
+    ∙ sym (known_then (bare_name e) (place_named env) (λ n. give (place_slot n))) ∙ known_map (option_then (bare_name e) (place_named env))
   where
     known_map : (o : Option ℕ) → known o (λ n. give (place_slot n)) ≡ known (option_map place_slot o) give
     known_map None = refl
     known_map (Some n) = refl
 
 -- ---- operators
-or_is : (v : ValueTerm) (b : Plan ValueTerm) → chosen v (give (bool_value true)) b ≡ known (truth_of v) (λ t. branch (Rattle.task_model.specs.Operators.same_bool t true) (give (bool_value true)) b)
+or_is : (v : ValueTerm) (b : Plan ValueTerm) → chosen v (give (bool_value true)) b
+    ≡ known (truth_of v) (λ t. branch (Rattle.task_model.specs.Operators.same_bool t true) (give (bool_value true)) b)
 or_is (bool_value true) b = refl
 or_is (bool_value false) b = refl
 or_is v b = refl
 
-and_is : (v : ValueTerm) (b : Plan ValueTerm) → chosen v b (give (bool_value false)) ≡ known (truth_of v) (λ t. branch (Rattle.task_model.specs.Operators.same_bool t false) (give (bool_value false)) b)
+and_is : (v : ValueTerm) (b : Plan ValueTerm) → chosen v b (give (bool_value false))
+    ≡ known (truth_of v) (λ t. branch (Rattle.task_model.specs.Operators.same_bool t false) (give (bool_value false)) b)
 and_is (bool_value true) b = refl
 and_is (bool_value false) b = refl
 and_is v b = refl
@@ -136,7 +165,8 @@ abbrev op_plan : Op → Option Bool → HostTerm → HostTerm → EnvTerm → Li
 op_plan o None a b env σ = strict_plan o a b env σ
 op_plan o (Some d) a b env σ = lazy_plan d a b env σ
 
-op_is : (c : CheckedTerm) (o : Op) (a b : HostTerm) (env : EnvTerm) (σ : List ValueTerm) → op_rule c o a b env σ ≡ op_plan o (decider o) a b env σ
+op_is : (c : CheckedTerm) (o : Op) (a b : HostTerm) (env : EnvTerm) (σ : List ValueTerm)
+    → op_rule c o a b env σ ≡ op_plan o (decider o) a b env σ
 op_is c ops.Or a b env σ = λ i. ask (gives_value a env σ) (λ v. or_is v (ask (gives_value b env σ) give) i)
 op_is c ops.And a b env σ = λ i. ask (gives_value a env σ) (λ v. and_is v (ask (gives_value b env σ) give) i)
 op_is c ops.Eq a b env σ = refl
@@ -153,27 +183,35 @@ op_is c ops.Mul a b env σ = refl
 op_is c ops.Quot a b env σ = refl
 op_is c ops.Rem a b env σ = refl
 
-pub lazy_is : (c : CheckedTerm) (o : Op) (a b : HostTerm) (env : EnvTerm) (σ : List ValueTerm) (d : Bool) → Some d ≡ decider o → op_rule c o a b env σ ≡ lazy_plan d a b env σ
+pub lazy_is : (c : CheckedTerm) (o : Op) (a b : HostTerm) (env : EnvTerm) (σ : List ValueTerm) (d : Bool) → Some d ≡ decider o
+    → op_rule c o a b env σ ≡ lazy_plan d a b env σ
 lazy_is c o a b env σ d e = op_is c o a b env σ ∙ ap (λ z. op_plan o z a b env σ) (sym e)
 
-pub strict_is : (c : CheckedTerm) (o : Op) (a b : HostTerm) (env : EnvTerm) (σ : List ValueTerm) → None ≡ decider o → op_rule c o a b env σ ≡ strict_plan o a b env σ
+pub strict_is : (c : CheckedTerm) (o : Op) (a b : HostTerm) (env : EnvTerm) (σ : List ValueTerm) → None ≡ decider o
+    → op_rule c o a b env σ ≡ strict_plan o a b env σ
 strict_is c o a b env σ e = op_is c o a b env σ ∙ ap (λ z. op_plan o z a b env σ) (sym e)
 
 -- ---- several expressions
-pub values_next : {c : CheckedTerm} {Y : Type 0} (env : EnvTerm) (σ done : List ValueTerm) (rest : List host.Host) (item : host.Host) {view : Y → List ValueTerm} {old new : Left} {r : Result Y Stop} → 1 ≤ length rest → item ≡ get_or rest 0 item
-    → Ran c (ask (gives_value (host_term item) env σ) (λ v. values_for env σ (done ++ v ∷ []) (as_exprs (map host_term (take (length rest - 1) (drop 1 rest)))))) view old new r → Ran c (values_for env σ done (as_exprs (map host_term rest))) view old new r
+pub values_next : {c : CheckedTerm} {Y : Type 0} (env : EnvTerm) (σ done : List ValueTerm) (rest : List host.Host)
+    (item : host.Host) {view : Y → List ValueTerm} {old new : Left} {r : Result Y Stop} → 1 ≤ length rest → item ≡ get_or rest 0 item
+    → RunsPlan c (ask (gives_value (host_term item) env σ)
+    (λ v. values_for env σ (done ++ v ∷ []) (as_exprs (map host_term (take (length rest - 1) (drop 1 rest)))))) view old new r
+    → RunsPlan c (values_for env σ done (as_exprs (map host_term rest))) view old new r
 values_next {c = c} env σ done rest item {view = view} {old = old} {new = new} {r = r} le e a =
-    subst (λ es. Ran c (values_for env σ done (as_exprs (map host_term es))) view old new r) (sym (in_front rest item le e)) a
+    subst (λ es. RunsPlan c (values_for env σ done (as_exprs (map host_term es))) view old new r) (sym (in_front rest item le e)) a
 
-pub values_more : {c : CheckedTerm} {Y : Type 0} (env : EnvTerm) (σ : List ValueTerm) (es : HostTerms) (done more : List value.Value) (v : value.Value) {view : Y → List ValueTerm} {old new : Left} {r : Result Y Stop} → more ≡ done ++ v ∷ []
-    → Ran c (values_for env σ (map value_term more) es) view old new r → Ran c (values_for env σ (map value_term done ++ value_term v ∷ []) es) view old new r
+pub values_more : {c : CheckedTerm} {Y : Type 0} (env : EnvTerm) (σ : List ValueTerm) (es : HostTerms) (done more : List value.Value)
+    (v : value.Value) {view : Y → List ValueTerm} {old new : Left} {r : Result Y Stop} → more ≡ done ++ v ∷ []
+    → RunsPlan c (values_for env σ (map value_term more) es) view old new r
+    → RunsPlan c (values_for env σ (map value_term done ++ value_term v ∷ []) es) view old new r
 values_more {c = c} env σ es done more v {view = view} {old = old} {new = new} {r = r} e a =
-    subst (λ ws. Ran c (values_for env σ ws es) view old new r) (ap (map value_term) e ∙ map-append value_term done (v ∷ [])) a
+    subst (λ ws. RunsPlan c (values_for env σ ws es) view old new r) (ap (map value_term) e ∙ map-append value_term done (v ∷ [])) a
 
-pub values_end : {c : CheckedTerm} {Y : Type 0} (env : EnvTerm) (σ done : List ValueTerm) (rest : List host.Host) {view : Y → List ValueTerm} {old new : Left} {r : Result Y Stop} → length rest < 1
-    → Ran c (give done) view old new r → Ran c (values_for env σ done (as_exprs (map host_term rest))) view old new r
+pub values_end : {c : CheckedTerm} {Y : Type 0} (env : EnvTerm) (σ done : List ValueTerm) (rest : List host.Host) {view : Y
+    → List ValueTerm} {old new : Left} {r : Result Y Stop} → length rest < 1
+    → RunsPlan c (give done) view old new r → RunsPlan c (values_for env σ done (as_exprs (map host_term rest))) view old new r
 values_end {c = c} env σ done rest {view = view} {old = old} {new = new} {r = r} lt a =
-    subst (λ es. Ran c (values_for env σ done (as_exprs (map host_term es))) view old new r) (sym (empty rest lt)) a
+    subst (λ es. RunsPlan c (values_for env σ done (as_exprs (map host_term es))) view old new r) (sym (empty rest lt)) a
 
 -- ---- arguments
 as_place-after : {A B : Type 0} (s : SlotTerm) (g : ℕ → Plan A) (f : A → Plan B) → after (as_place s g) f ≡ as_place s (λ n. after (g n) f)
@@ -185,7 +223,8 @@ known_after None g f = refl
 known_after (Some x) g f = refl
 
 -- the slot of an argument, and then what follows
-slot_after : {A : Type 0} (env : EnvTerm) (σ : List ValueTerm) (e : HostTerm) (k : KindTerm) (f : SlotTerm → Plan A) → slot_for env σ e k f ≡ after (slot_for env σ e k give) f
+slot_after : {A : Type 0} (env : EnvTerm) (σ : List ValueTerm) (e : HostTerm) (k : KindTerm) (f : SlotTerm → Plan A)
+    → slot_for env σ e k f ≡ after (slot_for env σ e k give) f
 slot_after env σ e (plain_kind b) f = refl
 slot_after env σ e (ref_kind b) f =
     sym (known_after (bare_name e) (λ x. known (slot_of env x) (λ s. as_place s (λ n. give (place_slot n)))) f
@@ -195,32 +234,45 @@ slot_after env σ e (ref_kind b) f =
 abbrev pub tail_of : {X : Type 0} → List X → List X
 tail_of xs = take (length xs - 1) (drop 1 xs)
 
-pub slots_next : {c : CheckedTerm} {Y : Type 0} (env : EnvTerm) (σ : List ValueTerm) (done : List SlotTerm) (args : List host.Host) (params : List Param) (arg : host.Host) (param : Param) {view : Y → List SlotTerm} {old new : Left} {r : Result Y Stop}
+pub slots_next : {c : CheckedTerm} {Y : Type 0} (env : EnvTerm) (σ : List ValueTerm) (done : List SlotTerm) (args : List host.Host)
+    (params : List Param) (arg : host.Host) (param : Param) {view : Y → List SlotTerm} {old new : Left} {r : Result Y Stop}
     → 1 ≤ length args → arg ≡ get_or args 0 arg → 1 ≤ length params → param ≡ get_or params 0 param
-    → Ran c (after (slot_for env σ (host_term arg) (kind_term param.kind) give) (λ s. slots_for env σ (done ++ s ∷ []) (map host_term (tail_of args)) (map param_term (tail_of params)))) view old new r → Ran c (slots_for env σ done (map host_term args) (map param_term params)) view old new r
+    → RunsPlan c (after (slot_for env σ (host_term arg) (kind_term param.kind) give)
+    (λ s. slots_for env σ (done ++ s ∷ []) (map host_term (tail_of args)) (map param_term (tail_of params)))) view old new r
+    → RunsPlan c (slots_for env σ done (map host_term args) (map param_term params)) view old new r
 slots_next {c = c} env σ done args params arg param {view = view} {old = old} {new = new} {r = r} le e le' e' a =
-    subst (λ es. Ran c (slots_for env σ done (map host_term es) (map param_term params)) view old new r) (sym (in_front args arg le e))
-    (subst (λ qs. Ran c (slots_for env σ done (map host_term (arg ∷ tail_of args)) (map param_term qs)) view old new r) (sym (in_front params param le' e'))
-    (ran_is (slot_after env σ (host_term arg) (kind_term param.kind) (λ s. slots_for env σ (done ++ s ∷ []) (map host_term (tail_of args)) (map param_term (tail_of params)))) a))
+    subst (λ es. RunsPlan c (slots_for env σ done (map host_term es) (map param_term params)) view old new r) (sym (in_front args arg le e))
+    (subst (λ qs. RunsPlan c (slots_for env σ done (map host_term (arg ∷ tail_of args)) (map param_term qs)) view old new r)
+    (sym (in_front params param le' e'))
+    (ran_is (slot_after env σ (host_term arg) (kind_term param.kind)
+    (λ s. slots_for env σ (done ++ s ∷ []) (map host_term (tail_of args)) (map param_term (tail_of params)))) a))
 
-pub slots_more : {c : CheckedTerm} {Y : Type 0} (env : EnvTerm) (σ : List ValueTerm) (es : List HostTerm) (qs : List ParamTerm) (done more : List Slot) (s : Slot) {view : Y → List SlotTerm} {old new : Left} {r : Result Y Stop} → more ≡ done ++ s ∷ []
-    → Ran c (slots_for env σ (map slot_term more) es qs) view old new r → Ran c (slots_for env σ (map slot_term done ++ slot_term s ∷ []) es qs) view old new r
+pub slots_more : {c : CheckedTerm} {Y : Type 0} (env : EnvTerm) (σ : List ValueTerm) (es : List HostTerm) (qs : List ParamTerm)
+    (done more : List Slot) (s : Slot) {view : Y → List SlotTerm} {old new : Left} {r : Result Y Stop} → more ≡ done ++ s ∷ []
+    → RunsPlan c (slots_for env σ (map slot_term more) es qs) view old new r
+    → RunsPlan c (slots_for env σ (map slot_term done ++ slot_term s ∷ []) es qs) view old new r
 slots_more {c = c} env σ es qs done more s {view = view} {old = old} {new = new} {r = r} e a =
-    subst (λ ws. Ran c (slots_for env σ ws es qs) view old new r) (ap (map slot_term) e ∙ map-append slot_term done (s ∷ [])) a
+    subst (λ ws. RunsPlan c (slots_for env σ ws es qs) view old new r) (ap (map slot_term) e ∙ map-append slot_term done (s ∷ [])) a
 
 -- more arguments than parameters
-pub slots_too_many : {c : CheckedTerm} {Y : Type 0} (env : EnvTerm) (σ : List ValueTerm) (done : List SlotTerm) (args : List host.Host) (params : List Param) {view : Y → List SlotTerm} {old new : Left} → 1 ≤ length args → length params < 1 → Ran c (slots_for env σ done (map host_term args) (map param_term params)) view old new (Err Over)
+pub slots_too_many : {c : CheckedTerm} {Y : Type 0} (env : EnvTerm) (σ : List ValueTerm) (done : List SlotTerm) (args : List host.Host)
+    (params : List Param) {view : Y → List SlotTerm} {old new : Left} → 1 ≤ length args → length params < 1
+    → RunsPlan c (slots_for env σ done (map host_term args) (map param_term params)) view old new (Err Over)
 slots_too_many env σ done [] params le lt = absurd (omega arith)
 slots_too_many env σ done (e ∷ es) [] le lt = ran_stuck
 slots_too_many env σ done (e ∷ es) (q ∷ qs) le lt = absurd (omega arith)
 
 -- fewer arguments than parameters
-pub slots_too_few : {c : CheckedTerm} {Y : Type 0} (env : EnvTerm) (σ : List ValueTerm) (done : List SlotTerm) (args : List host.Host) (params : List Param) {view : Y → List SlotTerm} {old new : Left} → length args < 1 → 1 ≤ length params → Ran c (slots_for env σ done (map host_term args) (map param_term params)) view old new (Err Over)
+pub slots_too_few : {c : CheckedTerm} {Y : Type 0} (env : EnvTerm) (σ : List ValueTerm) (done : List SlotTerm) (args : List host.Host)
+    (params : List Param) {view : Y → List SlotTerm} {old new : Left} → length args < 1 → 1 ≤ length params
+    → RunsPlan c (slots_for env σ done (map host_term args) (map param_term params)) view old new (Err Over)
 slots_too_few env σ done [] [] lt le = absurd (omega arith)
 slots_too_few env σ done [] (q ∷ qs) lt le = ran_stuck
 slots_too_few env σ done (e ∷ es) params lt le = absurd (omega arith)
 
-pub slots_end : {c : CheckedTerm} {Y : Type 0} (env : EnvTerm) (σ : List ValueTerm) (done : List SlotTerm) (args : List host.Host) (params : List Param) {view : Y → List SlotTerm} {old new : Left} {r : Result Y Stop} → length args < 1 → length params < 1 → Ran c (give done) view old new r → Ran c (slots_for env σ done (map host_term args) (map param_term params)) view old new r
+pub slots_end : {c : CheckedTerm} {Y : Type 0} (env : EnvTerm) (σ : List ValueTerm) (done : List SlotTerm) (args : List host.Host)
+    (params : List Param) {view : Y → List SlotTerm} {old new : Left} {r : Result Y Stop} → length args < 1 → length params < 1
+    → RunsPlan c (give done) view old new r → RunsPlan c (slots_for env σ done (map host_term args) (map param_term params)) view old new r
 slots_end env σ done [] [] lt lt' a = a
 slots_end env σ done [] (q ∷ qs) lt lt' a = absurd (omega arith)
 slots_end env σ done (e ∷ es) params lt lt' a = absurd (omega arith)

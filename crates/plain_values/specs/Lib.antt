@@ -1,3 +1,3 @@
-pub mod Rules
+pub mod GivenRules
 pub mod Known
-pub mod Words
+pub mod ValueWords

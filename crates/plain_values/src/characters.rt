@@ -1,10 +1,10 @@
 ghost use Rattle.std.specs.Prelude.{◌≡◌, ◌<◌, ◌≤◌, true, ◌∷◌, ◌++◌, length, take, drop, IfOk, string_bytes};
 ghost use Rattle.task_model.specs.Characters.{continues, characters_of, cut_text};
 ghost use Rattle.task_model.specs.Characters as rules;
-ghost use Rattle.plain_values.specs.Words as words;
+ghost use Rattle.plain_values.specs.ValueWords as words;
 
 use std::alloc::{AllocError, Global};
-use task_model::{OutOfMemory, TEXT_LIMIT, TaskText};
+use task_model::{OutOfMemory, TEXT_BYTE_LIMIT, TaskText};
 
 fn continues(byte: u8) -> bool
     ensures { result ≡ rules.continues byte }
@@ -56,10 +56,8 @@ fn first_size(bytes: &[u8]) -> usize
 pub fn cut_join(alloc: Global, first: &str, second: &str) -> Result<TaskText, OutOfMemory>
     ensures { IfOk result (λ t. t ≡ cut_text (first.now ++ second.now)) }
 {
-    match joined(alloc, first, second) {
-        Ok(text) => TaskText::of(alloc, cut(text.as_str())),
-        Err(_) => Err(OutOfMemory),
-    }
+    let text = joined(alloc, first, second)?;
+    TaskText::of(alloc, cut(text.as_str()))
 }
 
 fn joined(alloc: Global, first: &str, second: &str) -> Result<String, AllocError>
@@ -87,7 +85,7 @@ fn fitting(bytes: &[u8]) -> usize
     let mut rest = bytes;
     while let [_, ..] = rest {
         let size = first_size(rest);
-        if size > TEXT_LIMIT - end {
+        if size > TEXT_BYTE_LIMIT - end {
             return end;
         }
         end += size;

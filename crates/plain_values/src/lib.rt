@@ -8,12 +8,10 @@ mod names;
 mod operators;
 mod rules;
 mod same;
-mod stops;
 mod values;
 
 pub use definitions::function_named;
 pub use names::{bound, env_at, opened_list, param_names, place_named};
 pub use rules::Rules;
 pub use same::{same_value, same_values};
-pub use stops::memory;
 pub use values::{evaluate_value, slots_at, truth, value_at};

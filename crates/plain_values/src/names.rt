@@ -6,13 +6,12 @@ ghost use Rattle.task_model.specs.Program.{param_term};
 ghost use Rattle.task_model.specs.Checked as checked;
 ghost use Rattle.task_model.specs.Rules as rules;
 ghost use Rattle.plain_values.specs.Known.{Known};
-ghost use Rattle.plain_values.specs.Words as words;
+ghost use Rattle.plain_values.specs.ValueWords as words;
 
-use crate::stops::memory;
 use std::alloc::Global;
 use task_model::{
     Env, OutOfMemory, Param, Row, Slot, Stop, TaskText, Value, copy_slots, copy_text, copy_texts,
-    copy_value, copy_values,
+    copy_value, copy_values, shared,
 };
 
 // The innermost slot of a name.
@@ -38,20 +37,20 @@ fn slot_of<'a>(env: &'a Env, name: &TaskText) -> Option<&'a Slot>
 }
 
 /// The value that a name stands for.
-pub fn value_named(alloc: Global, env: &Env, name: &TaskText) -> Result<Value, Stop>
+pub fn value_named(env: &Env, name: &TaskText) -> Result<Value, Stop>
     ensures { Known (words.value_named (env_term env.now) name.now) value_term result }
 {
     match slot_of(env, name) {
-        Some(slot) => value_in(alloc, slot),
+        Some(slot) => value_in(slot),
         None => Err(Stop::Over),
     }
 }
 
-fn value_in(alloc: Global, slot: &Slot) -> Result<Value, Stop>
+fn value_in(slot: &Slot) -> Result<Value, Stop>
     ensures { Known (words.value_in (slot_term slot.now)) value_term result }
 {
     match slot {
-        Slot::Plain(v) => memory(copy_value(alloc, v)),
+        Slot::Plain(v) => Ok(copy_value(v)?),
         Slot::Place(_) => Err(Stop::Over),
     }
 }
@@ -93,8 +92,7 @@ pub fn bound(alloc: Global, env: &Env, name: &TaskText, slot: Slot) -> Result<En
     ensures { IfOk result (λ e. env_term e ≡ rules.bound (env_term env.now) name.now (slot_term slot)) }
 {
     let mut names = copy_texts(alloc, env.names.as_slice())?;
-    let name = copy_text(alloc, name)?;
-    names.push(name)?;
+    names.push(copy_text(name)?)?;
     let mut slots = copy_slots(alloc, env.slots.as_slice())?;
     slots.push(slot)?;
     Ok(Env {
@@ -115,7 +113,7 @@ pub fn opened_list(
     ensures { Known (words.opened_list (env_term env.now) head.now tail.now (value_term list)) (option_map env_term) result }
 {
     match &list {
-        Value::List(items) => memory(bound_list(alloc, env, head, tail, items.as_slice())),
+        Value::List(items) => Ok(bound_list(alloc, env, head, tail, items.as_slice())?),
         _ => Err(Stop::Over),
     }
 }
@@ -132,8 +130,8 @@ fn bound_list(
     let [first, rest @ ..] = items else {
         return Ok(None);
     };
-    let first = copy_value(alloc, first)?;
-    let rest = copy_values(alloc, rest)?;
+    let first = copy_value(first)?;
+    let rest = shared(alloc, copy_values(alloc, rest)?)?;
     let inner = bound(alloc, env, head, Slot::Plain(first))?;
     let inner = bound(alloc, &inner, tail, Slot::Plain(Value::List(rest)))?;
     Ok(Some(inner))
@@ -146,8 +144,7 @@ pub fn param_names(alloc: Global, params: &[Param]) -> Result<Row<TaskText>, Out
     let mut names = Row::new(alloc);
     let mut rest = params;
     while let [param, more @ ..] = rest {
-        let name = copy_text(alloc, &param.name)?;
-        names.push(name)?;
+        names.push(copy_text(&param.name)?)?;
         rest = more;
     }
     Ok(names)

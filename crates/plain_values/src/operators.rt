@@ -3,13 +3,14 @@ ghost use Rattle.task_model.specs.Characters.{cut_text};
 ghost use Rattle.task_model.specs.Value.{int_value, text_value, value_term};
 ghost use Rattle.task_model.specs.Operators as rules;
 ghost use Rattle.plain_values.specs.Known.{Known};
-ghost use Rattle.plain_values.specs.Words as words;
+ghost use Rattle.plain_values.specs.ValueWords as words;
 
 use crate::characters::{characters, cut_join};
 use crate::same::same_value;
-use crate::stops::memory;
 use std::alloc::Global;
-use task_model::{LIST_LIMIT, Op, OutOfMemory, Row, Stop, TaskText, Value, copy_value};
+use task_model::{
+    LIST_ELEMENT_LIMIT, Op, OutOfMemory, Row, Stop, TaskText, Value, copy_value, shared,
+};
 
 /// A form with one operand.
 #[derive(Clone, Copy, Debug, PartialEq, Eq)]
@@ -22,14 +23,14 @@ pub enum Unary {
 }
 
 /// What a form with one operand gives.
-pub fn computed(alloc: Global, form: Unary, v: &Value) -> Result<Value, Stop>
+pub fn computed(form: Unary, v: &Value) -> Result<Value, Stop>
     ensures { Known (words.computed form (value_term v.now)) value_term result }
 {
     match form {
         Unary::Neg => negated(v),
         Unary::Not => opposite(v),
-        Unary::First => first_of(alloc, v),
-        Unary::Second => second_of(alloc, v),
+        Unary::First => first_of(v),
+        Unary::Second => second_of(v),
         Unary::Length => length_of(v),
     }
 }
@@ -52,20 +53,20 @@ fn opposite(v: &Value) -> Result<Value, Stop>
     }
 }
 
-fn first_of(alloc: Global, v: &Value) -> Result<Value, Stop>
+fn first_of(v: &Value) -> Result<Value, Stop>
     ensures { Known (rules.first_of (value_term v.now)) value_term result }
 {
     match v {
-        Value::Pair(first, _) => memory(copy_value(alloc, first)),
+        Value::Pair(first, _) => Ok(copy_value(first)?),
         _ => Err(Stop::Over),
     }
 }
 
-fn second_of(alloc: Global, v: &Value) -> Result<Value, Stop>
+fn second_of(v: &Value) -> Result<Value, Stop>
     ensures { Known (rules.second_of (value_term v.now)) value_term result }
 {
     match v {
-        Value::Pair(_, second) => memory(copy_value(alloc, second)),
+        Value::Pair(_, second) => Ok(copy_value(second)?),
         _ => Err(Stop::Over),
     }
 }
@@ -140,7 +141,7 @@ fn consed(alloc: Global, v: &Value, w: &Value) -> Result<Value, Stop>
     ensures { Known (rules.consed (value_term v.now) (value_term w.now)) value_term result }
 {
     match w {
-        Value::List(items) => memory(prepended(alloc, v, items.as_slice())),
+        Value::List(items) => Ok(prepended(alloc, v, items.as_slice())?),
         _ => Err(Stop::Over),
     }
 }
@@ -150,23 +151,21 @@ fn prepended(alloc: Global, v: &Value, items: &[Value]) -> Result<Value, OutOfMe
     ensures { IfOk result (λ w. value_term w ≡ rules.list_of (value_term v.now ∷ map value_term items.now)) }
 {
     let mut all = Row::new(alloc);
-    let first = copy_value(alloc, v)?;
-    all.push(first)?;
+    all.push(copy_value(v)?)?;
     let mut rest = items;
     while let [item, more @ ..] = rest {
-        let copy = copy_value(alloc, item)?;
-        all.push(copy)?;
+        all.push(copy_value(item)?)?;
         rest = more;
     }
-    Ok(list_of(all))
+    list_of(alloc, all)
 }
 
 /// Values as a list value, of which the first 1,024 are kept.
-pub fn list_of(mut items: Row<Value>) -> Value
-    ensures { value_term result ≡ rules.list_of (map value_term items.list) }
+pub fn list_of(alloc: Global, mut items: Row<Value>) -> Result<Value, OutOfMemory>
+    ensures { IfOk result (λ w. value_term w ≡ rules.list_of (map value_term items.list)) }
 {
-    items.truncate(LIST_LIMIT);
-    Value::List(items)
+    items.truncate(LIST_ELEMENT_LIMIT);
+    Ok(Value::List(shared(alloc, items)?))
 }
 
 fn joined_texts(alloc: Global, v: &Value, w: &Value) -> Result<Value, Stop>
@@ -181,7 +180,7 @@ fn joined_texts(alloc: Global, v: &Value, w: &Value) -> Result<Value, Stop>
 fn joined(alloc: Global, t: &TaskText, u: &TaskText) -> Result<Value, Stop>
     ensures { Known (Some (text_value (cut_text (t.now ++ u.now)))) value_term result }
 {
-    let text = memory(cut_join(alloc, t.as_str(), u.as_str()))?;
+    let text = cut_join(alloc, t.as_str(), u.as_str())?;
     Ok(Value::Text(text))
 }
 

@@ -7,20 +7,19 @@ ghost use Rattle.task_model.specs.Plan.{gives_value, give, ask, known};
 ghost use Rattle.task_model.specs.Rules.{value_rule, op_rule, slot_for, slots_for, values_for};
 ghost use Rattle.task_model.specs.Judgements.{Gives};
 ghost use Rattle.task_model.specs.Spends.{Spends};
-ghost use Rattle.task_model.specs.Calls.{Asked, Ran};
-ghost use Rattle.plain_values.specs.Rules.{rules_term};
+ghost use Rattle.task_model.specs.Calls.{RunsJudgement, RunsPlan};
+ghost use Rattle.plain_values.specs.GivenRules.{rules_term};
 ghost use Rattle.plain_values.specs.Known.{Known};
-ghost use Rattle.plain_values.specs.Words.{computed, truth_of, value_read, place_argument, lazy_plan, strict_plan, call_plan};
+ghost use Rattle.plain_values.specs.ValueWords.{computed, truth_of, value_read, place_argument, lazy_plan, strict_plan, call_plan};
 
 use crate::definitions::function_named;
 use crate::names::{bound, opened_list, param_names, place_named, value_named};
 use crate::operators::{Unary, computed, decider, list_of, operated};
 use crate::rules::Rules;
-use crate::stops::memory;
 use std::alloc::Global;
 use task_model::{
-    Env, Host, Kind, Op, OutOfMemory, Param, Purse, Row, Slot, Stop, TaskText, Value, boxed,
-    copy_text, copy_value,
+    Env, Host, Kind, Op, OutOfMemory, Param, Purse, Row, Slot, Stop, TaskText, Value, copy_text,
+    copy_value, shared,
 };
 
 /// The value of an expression. `Over` comes where no derivation is within the purse.
@@ -47,7 +46,7 @@ pub fn value_at(
     purse: &mut Purse,
 ) -> Result<Value, Stop>
     ensures height { OnOk result (purse.new.height ≡ purse.old.height) }
-    ensures asked { Asked (rules_term rules.now) (gives_value (host_term e.now) (env_term env.now) (map value_term store.now)) value_term purse.old purse.new result }
+    ensures asked { RunsJudgement (rules_term rules.now) (gives_value (host_term e.now) (env_term env.now) (map value_term store.now)) value_term purse.old purse.new result }
 {
     let height = purse.height_left();
     purse.enter()?;
@@ -67,21 +66,21 @@ fn value_form(
     purse: &mut Purse,
 ) -> Result<Value, Stop>
     ensures height { OnOk result (purse.new.height ≡ purse.old.height) }
-    ensures ran { Ran (rules_term rules.now) (value_rule (rules_term rules.now) (host_term e.now) (env_term env.now) (map value_term store.now)) value_term purse.old purse.new result }
+    ensures ran { RunsPlan (rules_term rules.now) (value_rule (rules_term rules.now) (host_term e.now) (env_term env.now) (map value_term store.now)) value_term purse.old purse.new result }
 {
     match e {
         Host::Unit => Ok(Value::Unit),
         Host::Bool(b) => Ok(Value::Bool(*b)),
         Host::Int(i) => Ok(Value::Int(*i)),
-        Host::Text(text) => memory(text_value(alloc, text)),
-        Host::Name(name) => value_named(alloc, env, name),
-        Host::Read(name) => value_read(alloc, env, name, store),
+        Host::Text(text) => Ok(text_value(text)?),
+        Host::Name(name) => value_named(env, name),
+        Host::Read(name) => value_read(env, name, store),
         Host::Call { name, args } => {
             call_form(alloc, rules, name, args.as_slice(), env, store, purse)
         }
         Host::Pair(a, b) => pair_form(alloc, rules, a, b, env, store, purse),
         Host::List(items) => list_form(alloc, rules, items.as_slice(), env, store, purse),
-        Host::Nil(_) => Ok(Value::List(Row::new(alloc))),
+        Host::Nil(_) => Ok(Value::List(shared(alloc, Row::new(alloc))?)),
         Host::Neg(a) => unary_form(alloc, rules, Unary::Neg, a, env, store, purse),
         Host::Not(a) => unary_form(alloc, rules, Unary::Not, a, env, store, purse),
         Host::Fst(a) => unary_form(alloc, rules, Unary::First, a, env, store, purse),
@@ -106,25 +105,25 @@ fn value_form(
     }
 }
 
-fn text_value(alloc: Global, text: &TaskText) -> Result<Value, OutOfMemory>
+fn text_value(text: &TaskText) -> Result<Value, OutOfMemory>
     ensures { IfOk result (λ v. value_term v ≡ text_value text.now) }
 {
-    Ok(Value::Text(copy_text(alloc, text)?))
+    Ok(Value::Text(copy_text(text)?))
 }
 
 // The value at the place that a name stands for.
-fn value_read(alloc: Global, env: &Env, name: &TaskText, store: &[Value]) -> Result<Value, Stop>
+fn value_read(env: &Env, name: &TaskText, store: &[Value]) -> Result<Value, Stop>
     ensures { Known (value_read (env_term env.now) name.now (map value_term store.now)) value_term result }
 {
     let place = place_named(env, name)?;
-    value_stored(alloc, store, place)
+    value_stored(store, place)
 }
 
-fn value_stored(alloc: Global, store: &[Value], place: u64) -> Result<Value, Stop>
+fn value_stored(store: &[Value], place: u64) -> Result<Value, Stop>
     ensures { Known (slice_get (map value_term store.now) place) value_term result }
 {
     match store.get(place as usize) {
-        Some(v) => memory(copy_value(alloc, v)),
+        Some(v) => Ok(copy_value(v)?),
         None => Err(Stop::Over),
     }
 }
@@ -140,17 +139,18 @@ fn pair_form(
     purse: &mut Purse,
 ) -> Result<Value, Stop>
     ensures height { OnOk result (purse.new.height ≡ purse.old.height) }
-    ensures ran { Ran (rules_term rules.now) (value_rule (rules_term rules.now) (pair_expr (host_term a.now) (host_term b.now)) (env_term env.now) (map value_term store.now)) value_term purse.old purse.new result }
+    ensures ran { RunsPlan (rules_term rules.now) (value_rule (rules_term rules.now) (pair_expr (host_term a.now) (host_term b.now)) (env_term env.now) (map value_term store.now)) value_term purse.old purse.new result }
 {
     let v = value_at(alloc, rules, a, env, store, purse)?;
     let w = value_at(alloc, rules, b, env, store, purse)?;
-    memory(paired(alloc, v, w))
+    Ok(paired(alloc, v, w)?)
 }
 
 fn paired(alloc: Global, v: Value, w: Value) -> Result<Value, OutOfMemory>
     ensures { IfOk result (λ p. value_term p ≡ pair_value (value_term v) (value_term w)) }
 {
-    Ok(Value::Pair(boxed(alloc, v)?, boxed(alloc, w)?))
+    let v = shared(alloc, v)?;
+    Ok(Value::Pair(v, shared(alloc, w)?))
 }
 
 #[cycle(value)]
@@ -164,10 +164,10 @@ fn unary_form(
     purse: &mut Purse,
 ) -> Result<Value, Stop>
     ensures height { OnOk result (purse.new.height ≡ purse.old.height) }
-    ensures ran { Ran (rules_term rules.now) (ask (gives_value (host_term a.now) (env_term env.now) (map value_term store.now)) (λ v. known (computed form v) give)) value_term purse.old purse.new result }
+    ensures ran { RunsPlan (rules_term rules.now) (ask (gives_value (host_term a.now) (env_term env.now) (map value_term store.now)) (λ v. known (computed form v) give)) value_term purse.old purse.new result }
 {
     let v = value_at(alloc, rules, a, env, store, purse)?;
-    computed(alloc, form, &v)
+    computed(form, &v)
 }
 
 #[cycle(value)]
@@ -182,7 +182,7 @@ fn op_form(
     purse: &mut Purse,
 ) -> Result<Value, Stop>
     ensures height { OnOk result (purse.new.height ≡ purse.old.height) }
-    ensures ran { Ran (rules_term rules.now) (op_rule (rules_term rules.now) op (host_term a.now) (host_term b.now) (env_term env.now) (map value_term store.now)) value_term purse.old purse.new result }
+    ensures ran { RunsPlan (rules_term rules.now) (op_rule (rules_term rules.now) op (host_term a.now) (host_term b.now) (env_term env.now) (map value_term store.now)) value_term purse.old purse.new result }
 {
     match decider(op) {
         Some(decided) => lazy_form(alloc, rules, decided, a, b, env, store, purse),
@@ -203,7 +203,7 @@ fn lazy_form(
     purse: &mut Purse,
 ) -> Result<Value, Stop>
     ensures height { OnOk result (purse.new.height ≡ purse.old.height) }
-    ensures ran { Ran (rules_term rules.now) (lazy_plan decided (host_term a.now) (host_term b.now) (env_term env.now) (map value_term store.now)) value_term purse.old purse.new result }
+    ensures ran { RunsPlan (rules_term rules.now) (lazy_plan decided (host_term a.now) (host_term b.now) (env_term env.now) (map value_term store.now)) value_term purse.old purse.new result }
 {
     let v = value_at(alloc, rules, a, env, store, purse)?;
     let truth = truth(v)?;
@@ -226,7 +226,7 @@ fn strict_form(
     purse: &mut Purse,
 ) -> Result<Value, Stop>
     ensures height { OnOk result (purse.new.height ≡ purse.old.height) }
-    ensures ran { Ran (rules_term rules.now) (strict_plan op (host_term a.now) (host_term b.now) (env_term env.now) (map value_term store.now)) value_term purse.old purse.new result }
+    ensures ran { RunsPlan (rules_term rules.now) (strict_plan op (host_term a.now) (host_term b.now) (env_term env.now) (map value_term store.now)) value_term purse.old purse.new result }
 {
     let v = value_at(alloc, rules, a, env, store, purse)?;
     let w = value_at(alloc, rules, b, env, store, purse)?;
@@ -255,10 +255,10 @@ fn let_form(
     purse: &mut Purse,
 ) -> Result<Value, Stop>
     ensures height { OnOk result (purse.new.height ≡ purse.old.height) }
-    ensures ran { Ran (rules_term rules.now) (value_rule (rules_term rules.now) (let_expr name.now (host_term a.now) (host_term rest.now)) (env_term env.now) (map value_term store.now)) value_term purse.old purse.new result }
+    ensures ran { RunsPlan (rules_term rules.now) (value_rule (rules_term rules.now) (let_expr name.now (host_term a.now) (host_term rest.now)) (env_term env.now) (map value_term store.now)) value_term purse.old purse.new result }
 {
     let v = value_at(alloc, rules, a, env, store, purse)?;
-    let inner = memory(bound(alloc, env, name, Slot::Plain(v)))?;
+    let inner = bound(alloc, env, name, Slot::Plain(v))?;
     value_at(alloc, rules, rest, &inner, store, purse)
 }
 
@@ -274,7 +274,7 @@ fn if_form(
     purse: &mut Purse,
 ) -> Result<Value, Stop>
     ensures height { OnOk result (purse.new.height ≡ purse.old.height) }
-    ensures ran { Ran (rules_term rules.now) (value_rule (rules_term rules.now) (if_expr (host_term test.now) (host_term yes.now) (host_term no.now)) (env_term env.now) (map value_term store.now)) value_term purse.old purse.new result }
+    ensures ran { RunsPlan (rules_term rules.now) (value_rule (rules_term rules.now) (if_expr (host_term test.now) (host_term yes.now) (host_term no.now)) (env_term env.now) (map value_term store.now)) value_term purse.old purse.new result }
 {
     let v = value_at(alloc, rules, test, env, store, purse)?;
     let truth = truth(v)?;
@@ -299,7 +299,7 @@ fn case_form(
     purse: &mut Purse,
 ) -> Result<Value, Stop>
     ensures height { OnOk result (purse.new.height ≡ purse.old.height) }
-    ensures ran { Ran (rules_term rules.now) (value_rule (rules_term rules.now) (case_expr (host_term list.now) (host_term empty.now) head.now tail.now (host_term more.now)) (env_term env.now) (map value_term store.now)) value_term purse.old purse.new result }
+    ensures ran { RunsPlan (rules_term rules.now) (value_rule (rules_term rules.now) (case_expr (host_term list.now) (host_term empty.now) head.now tail.now (host_term more.now)) (env_term env.now) (map value_term store.now)) value_term purse.old purse.new result }
 {
     let v = value_at(alloc, rules, list, env, store, purse)?;
     let opened = opened_list(alloc, env, head, tail, v)?;
@@ -319,10 +319,10 @@ fn list_form(
     purse: &mut Purse,
 ) -> Result<Value, Stop>
     ensures height { OnOk result (purse.new.height ≡ purse.old.height) }
-    ensures ran { Ran (rules_term rules.now) (value_rule (rules_term rules.now) (list_expr (as_exprs (map host_term items.now))) (env_term env.now) (map value_term store.now)) value_term purse.old purse.new result }
+    ensures ran { RunsPlan (rules_term rules.now) (value_rule (rules_term rules.now) (list_expr (as_exprs (map host_term items.now))) (env_term env.now) (map value_term store.now)) value_term purse.old purse.new result }
 {
     let values = values_at(alloc, rules, items, env, store, purse)?;
-    Ok(list_of(values))
+    Ok(list_of(alloc, values)?)
 }
 
 // Several expressions, in order.
@@ -336,13 +336,13 @@ fn values_at(
     purse: &mut Purse,
 ) -> Result<Row<Value>, Stop>
     ensures height { OnOk result (purse.new.height ≡ purse.old.height) }
-    ensures ran { Ran (rules_term rules.now) (values_for (env_term env.now) (map value_term store.now) [] (as_exprs (map host_term items.now))) (λ r. map value_term r.list) purse.old purse.new result }
+    ensures ran { RunsPlan (rules_term rules.now) (values_for (env_term env.now) (map value_term store.now) [] (as_exprs (map host_term items.now))) (λ r. map value_term r.list) purse.old purse.new result }
 {
     let mut values = Row::new(alloc);
     let mut rest = items;
     while let [item, more @ ..] = rest {
         let v = value_at(alloc, rules, item, env, store, purse)?;
-        memory(values.push(v))?;
+        values.push(v)?;
         rest = more;
     }
     Ok(values)
@@ -359,7 +359,7 @@ fn call_form(
     purse: &mut Purse,
 ) -> Result<Value, Stop>
     ensures height { OnOk result (purse.new.height ≡ purse.old.height) }
-    ensures ran { Ran (rules_term rules.now) (value_rule (rules_term rules.now) (call_expr name.now (as_exprs (map host_term args.now))) (env_term env.now) (map value_term store.now)) value_term purse.old purse.new result }
+    ensures ran { RunsPlan (rules_term rules.now) (value_rule (rules_term rules.now) (call_expr name.now (as_exprs (map host_term args.now))) (env_term env.now) (map value_term store.now)) value_term purse.old purse.new result }
 {
     match function_named(&rules.program, name) {
         None => Err(Stop::Over),
@@ -380,11 +380,11 @@ fn call_at(
     purse: &mut Purse,
 ) -> Result<Value, Stop>
     ensures height { OnOk result (purse.new.height ≡ purse.old.height) }
-    ensures ran { Ran (rules_term rules.now) (call_plan (host_term body.now) (map param_term params.now) (map host_term args.now) (env_term env.now) (map value_term store.now)) value_term purse.old purse.new result }
+    ensures ran { RunsPlan (rules_term rules.now) (call_plan (host_term body.now) (map param_term params.now) (map host_term args.now) (env_term env.now) (map value_term store.now)) value_term purse.old purse.new result }
 {
     purse.spend()?;
     let slots = slots_at(alloc, rules, args, params, env, store, purse)?;
-    let names = memory(param_names(alloc, params))?;
+    let names = param_names(alloc, params)?;
     let inner = Env {
         names,
         slots,
@@ -405,7 +405,7 @@ pub fn slots_at(
     purse: &mut Purse,
 ) -> Result<Row<Slot>, Stop>
     ensures height { OnOk result (purse.new.height ≡ purse.old.height) }
-    ensures ran { Ran (rules_term rules.now) (slots_for (env_term env.now) (map value_term store.now) [] (map host_term args.now) (map param_term params.now)) (λ r. map slot_term r.list) purse.old purse.new result }
+    ensures ran { RunsPlan (rules_term rules.now) (slots_for (env_term env.now) (map value_term store.now) [] (map host_term args.now) (map param_term params.now)) (λ r. map slot_term r.list) purse.old purse.new result }
 {
     let mut slots = Row::new(alloc);
     let mut rest = args;
@@ -415,7 +415,7 @@ pub fn slots_at(
             return Err(Stop::Over);
         };
         let slot = slot_at(alloc, rules, arg, &param.kind, env, store, purse)?;
-        memory(slots.push(slot))?;
+        slots.push(slot)?;
         rest = more;
         at = more_params;
     }
@@ -436,7 +436,7 @@ fn slot_at(
     purse: &mut Purse,
 ) -> Result<Slot, Stop>
     ensures height { OnOk result (purse.new.height ≡ purse.old.height) }
-    ensures ran { Ran (rules_term rules.now) (slot_for (env_term env.now) (map value_term store.now) (host_term arg.now) (kind_term kind.now) give) slot_term purse.old purse.new result }
+    ensures ran { RunsPlan (rules_term rules.now) (slot_for (env_term env.now) (map value_term store.now) (host_term arg.now) (kind_term kind.now) give) slot_term purse.old purse.new result }
 {
     match kind {
         Kind::Plain(_) => {

@@ -1,13 +1,13 @@
 -- The productions of expressions.
 use Rattle.std.proofs.Common.{◌≡◌, ℕ, Bool, true, false, List, [], ◌∷◌, refl, sym, ap, ◌∙◌, subst, arith, append_assoc, ◌⊎◌, inl, inr}
 use Rattle.task_model.specs.Text.{Text}
-use Rattle.task_syntax.specs.declared.keyword.Keyword.TheVariants as words
-use Rattle.task_syntax.specs.declared.symbol.Symbol.{Symbol}
-use Rattle.task_syntax.specs.declared.symbol.Symbol.TheVariants as signs
-use Rattle.program_grammar.specs.Lexemes.{Lexeme, word, sign, name, number, quote}
-use Rattle.program_grammar.specs.Grammar.{basic, expression, comparison, listed, operand, atom, series, arguments, Series, list, choice, either, sum, product, Operator, comma, internal, external, together, or, and, plus, minus, join, times, quot, rem, operator, Relation, equal, unequal, less, less_equal, greater, greater_equal, relation, Prefix, negative, not, fst, snd, len, prefix, truth, Parse, let_in, if_then, case_of, plain, uncompared, compared, unlisted, cons, prefixed, unprefixed, digits, quoted, constant, content, elements, nil, tokens}
-use Rattle.program_grammar.specs.Lexemes.{place_of}
-use Rattle.program_grammar.specs.Languages.{stops_at, rank}
+use Rattle.task_model.specs.declared.keyword.Keyword.TheVariants as words
+use Rattle.task_model.specs.declared.symbol.Symbol.{Symbol}
+use Rattle.task_model.specs.declared.symbol.Symbol.TheVariants as signs
+use Rattle.task_model.specs.Lexemes.{Lexeme, keyword, symbol, name, number, quoted_text}
+use Rattle.task_model.specs.Grammar.{basic, expression, comparison, listed, operand, atom, series, arguments, Series, list, choice, either, sum, product, Operator, comma, internal, external, together, or, and, plus, minus, join, times, quot, rem, operator, Relation, equal, unequal, less, less_equal, greater, greater_equal, relation, Prefix, negative, not, fst, snd, len, prefix, truth, Parse, let_in, if_then, case_of, plain, uncompared, compared, unlisted, cons, prefixed, unprefixed, digits, quoted, constant, content, elements, nil, tokens}
+use Rattle.task_model.specs.Lexemes.{token_place}
+use Rattle.program_grammar.specs.Languages.{stops_at, rank, reach}
 use Rattle.exact_reading.proofs.Symbols.{Sym, one, part, Values}
 use Rattle.program_grammar.proofs.GrammarLemmas.{grammar, head, head_starts, starts, a_word, a_sign, a_name}
 use Rattle.program_grammar.proofs.RuleLemmas.{Rule, tokens_of}
@@ -17,14 +17,14 @@ use Rattle.program_grammar.proofs.OptionalLemmas.{Optional}
 
 -- ---- operators of series, by their tokens
 told : (s : Series) → Operator s → Lexeme → Operator s
-told sum o (sign signs.Plus p) = plus
-told sum o (sign signs.Minus p) = minus
-told sum o (sign signs.Join p) = join
-told product o (sign signs.Star p) = times
-told product o (word words.Quot p) = quot
-told product o (word words.Rem p) = rem
-told choice o (sign signs.InternalChoice p) = internal
-told choice o (sign signs.ExternalChoice p) = external
+told sum o (symbol signs.Plus p) = plus
+told sum o (symbol signs.Minus p) = minus
+told sum o (symbol signs.Join p) = join
+told product o (symbol signs.Star p) = times
+told product o (keyword words.Quot p) = quot
+told product o (keyword words.Rem p) = rem
+told choice o (symbol signs.InternalChoice p) = internal
+told choice o (symbol signs.ExternalChoice p) = external
 told s o t = o
 
 told_operator : {s : Series} (d o : Operator s) (p : ℕ) → told s d (operator o p) ≡ o
@@ -42,7 +42,7 @@ told_operator d times p = refl
 told_operator d quot p = refl
 told_operator d rem p = refl
 
-place_operator : {s : Series} (o : Operator s) (p : ℕ) → place_of (operator o p) ≡ p
+place_operator : {s : Series} (o : Operator s) (p : ℕ) → token_place (operator o p) ≡ p
 place_operator (comma l) p = refl
 place_operator internal p = refl
 place_operator external p = refl
@@ -57,14 +57,18 @@ place_operator quot p = refl
 place_operator rem p = refl
 
 pub operators_apart : (s : Series) → Apart s
-operators_apart s o q p n e = (sym (told_operator o o p) ∙ ap (told s o) e ∙ told_operator o q n, sym (place_operator o p) ∙ ap place_of e ∙ place_operator q n)
+operators_apart s o q p n e = (
+  sym (told_operator o o p) ∙ ap (told s o) e ∙ told_operator o q n,
+  sym (place_operator o p) ∙ ap token_place e
+      ∙ place_operator q n,
+)
 
 -- ---- operators before an operand
 told_prefix : Lexeme → Prefix
-told_prefix (word words.Not p) = not
-told_prefix (word words.Fst p) = fst
-told_prefix (word words.Snd p) = snd
-told_prefix (word words.Len p) = len
+told_prefix (keyword words.Not p) = not
+told_prefix (keyword words.Fst p) = fst
+told_prefix (keyword words.Snd p) = snd
+told_prefix (keyword words.Len p) = len
 told_prefix t = negative
 
 prefix_told : (o : Prefix) (p : ℕ) → told_prefix (prefix o p) ≡ o
@@ -75,7 +79,7 @@ prefix_told fst p = refl
 prefix_told snd p = refl
 prefix_told len p = refl
 
-prefix_place : (o : Prefix) (p : ℕ) → place_of (prefix o p) ≡ p
+pub prefix_place : (o : Prefix) (p : ℕ) → token_place (prefix o p) ≡ p
 prefix_place negative p = refl
 prefix_place not p = refl
 prefix_place fst p = refl
@@ -92,10 +96,11 @@ no_atom_starts len p = refl
 abbrev pub prefix_symbols : List (Sym grammar)
 prefix_symbols = part operand ∷ []
 
-pub prefix_back : (o : Prefix) (p : ℕ) (d : Parse operand) → head d ≡ prefix o p → (vs : Values grammar prefix_symbols) × (prefixed o p vs.0 ≡ d)
+pub prefix_back : (o : Prefix) (p : ℕ) (d : Parse operand) → head d ≡ prefix o p
+    → (vs : Values grammar prefix_symbols) × (prefixed o p vs.0 ≡ d)
 prefix_back o p (prefixed q r a) e =
     let op_is : q ≡ o = sym (prefix_told q r) ∙ ap told_prefix e ∙ prefix_told o p in
-    let place_is : r ≡ p = sym (prefix_place q r) ∙ ap place_of e ∙ prefix_place o p in
+    let place_is : r ≡ p = sym (prefix_place q r) ∙ ap token_place e ∙ prefix_place o p in
     ((a, tt), sym (ap (λ x. prefixed x r a) op_is ∙ ap (λ x. prefixed o x a) place_is))
 prefix_back o p (unprefixed a) e =
     let yes' : starts atom (prefix o p) ≡ true = subst (λ t. starts atom t ≡ true) e (head_starts a) in
@@ -103,15 +108,30 @@ prefix_back o p (unprefixed a) e =
     absurd cc
 
 abbrev pub prefix_rule : (o : Prefix) (p : ℕ) → Rule operand 1 (prefix o p)
-prefix_rule o p = record { some = tt; symbols = prefix_symbols; build = λ vs. prefixed o p vs.0; tokens_are = λ vs. refl; levels_are = λ vs. omega arith; back = prefix_back o p }
+prefix_rule o p = record {
+  some = tt;
+  symbols = prefix_symbols;
+  build = λ vs. prefixed o p vs.0;
+  tokens_are = λ vs. refl;
+  levels_are = λ vs. omega arith;
+  back = prefix_back o p;
+}
 
 -- an operand that begins with none of them
-pub atom_back : (ts : List Lexeme) → ((o : Prefix) (p : ℕ) (s : List Lexeme) → ts ≡ prefix o p ∷ s → ⊥) → (d : Parse operand) (s : List Lexeme) → ts ≡ head d ∷ s → (e : Parse atom) × (unprefixed e ≡ d)
+pub atom_back : (ts : List Lexeme) → ((o : Prefix) (p : ℕ) (s : List Lexeme) → ts ≡ prefix o p ∷ s → ⊥)
+    → (d : Parse operand) (s : List Lexeme) → ts ≡ head d ∷ s → (e : Parse atom) × (unprefixed e ≡ d)
 atom_back ts none (prefixed o p a) s e = absurd (none o p s e)
 atom_back ts none (unprefixed a) s e = (a, refl)
 
 abbrev pub as_atom : (ts : List Lexeme) → ((o : Prefix) (p : ℕ) (s : List Lexeme) → ts ≡ prefix o p ∷ s → ⊥) → Passing operand atom ts
-as_atom ts none = record { some = tt; pass = unprefixed; tokens_are = λ d. refl; levels_are = λ d. refl; within = omega arith; back = atom_back ts none }
+as_atom ts none = record {
+  some = tt;
+  pass = unprefixed;
+  tokens_are = λ d. refl;
+  levels_are = λ d. refl;
+  within = omega arith;
+  back = atom_back ts none;
+}
 
 -- ---- comparisons
 told_relation : Symbol → Relation
@@ -135,7 +155,7 @@ abbrev pub Related : Type 0
 Related = Relation × ℕ
 
 abbrev pub related : Related → Lexeme
-related l = sign (relation l.0) l.1
+related l = symbol (relation l.0) l.1
 
 pub related_apart : (l m : Related) → related l ≡ related m → l ≡ m
 related_apart l m e =
@@ -143,7 +163,7 @@ related_apart l m e =
     let place_is : l.1 ≡ m.1 = cc in
     ap (λ o. (o, l.1)) (sym (relation_told l.0) ∙ ap told_relation same ∙ relation_told m.0) ∙ ap (λ p. (m.0, p)) place_is
 
-pub related_past : (l : Related) → stops_at 4 (rank (related l)) ≡ true
+pub related_past : (l : Related) → stops_at (reach listed) (rank (related l)) ≡ true
 related_past (equal, p) = refl
 related_past (unequal, p) = refl
 related_past (less, p) = refl
@@ -151,7 +171,7 @@ related_past (less_equal, p) = refl
 related_past (greater, p) = refl
 related_past (greater_equal, p) = refl
 
-pub related_goes_on : (l : Related) → stops_at 5 (rank (related l)) ≡ false
+pub related_goes_on : (l : Related) → stops_at (reach comparison) (rank (related l)) ≡ false
 related_goes_on (equal, p) = refl
 related_goes_on (unequal, p) = refl
 related_goes_on (less, p) = refl
@@ -162,7 +182,9 @@ related_goes_on (greater_equal, p) = refl
 abbrev pub listed_symbols : List (Sym grammar)
 listed_symbols = part listed ∷ []
 
-pub comparison_cases : (d : Parse comparison) → ((e : Parse listed) × (uncompared e ≡ d)) ⊎ ((e : Parse listed) × (l : Related) × (vs : Values grammar listed_symbols) × (compared e l.0 l.1 vs.0 ≡ d))
+pub comparison_cases : (d : Parse comparison)
+    → ((e : Parse listed) × (uncompared e ≡ d)) ⊎
+    ((e : Parse listed) × (l : Related) × (vs : Values grammar listed_symbols) × (compared e l.0 l.1 vs.0 ≡ d))
 comparison_cases (uncompared a) = inl (a, refl)
 comparison_cases (compared a o p b) = inr (a, (o, p), (b, tt), refl)
 
@@ -175,7 +197,7 @@ comparisons = record {
   bare_levels = λ d. refl;
   Lead = Related;
   lead = related;
-  symbols = listed_symbols;
+  symbols = λ l. listed_symbols;
   build = λ d l vs. compared d l.0 l.1 vs.0;
   build_among = λ d l vs. tt;
   tokens_are = λ d l vs. refl;
@@ -188,7 +210,8 @@ comparisons = record {
 }
 
 -- ---- one more element in front of a list
-pub listed_cases : (d : Parse listed) → ((e : Parse (series sum)) × (unlisted e ≡ d)) ⊎ ((e : Parse (series sum)) × (p : ℕ) × (vs : Values grammar listed_symbols) × (cons e p vs.0 ≡ d))
+pub listed_cases : (d : Parse listed) → ((e : Parse (series sum)) × (unlisted e ≡ d)) ⊎
+    ((e : Parse (series sum)) × (p : ℕ) × (vs : Values grammar listed_symbols) × (cons e p vs.0 ≡ d))
 listed_cases (unlisted a) = inl (a, refl)
 listed_cases (cons a p b) = inr (a, p, (b, tt), refl)
 
@@ -200,8 +223,8 @@ listings = record {
   bare_tokens = λ d. refl;
   bare_levels = λ d. refl;
   Lead = ℕ;
-  lead = λ p. sign signs.Cons p;
-  symbols = listed_symbols;
+  lead = λ p. symbol signs.Cons p;
+  symbols = λ l. listed_symbols;
   build = λ d p vs. cons d p vs.0;
   build_among = λ d l vs. tt;
   tokens_are = λ d l vs. refl;
@@ -220,13 +243,22 @@ let_symbols = one a_name ∷ one (a_sign signs.Define) ∷ part expression ∷ o
 abbrev pub let_build : ℕ → Values grammar let_symbols → Parse expression
 let_build p vs = let_in p vs.0.0 vs.0.1 vs.1.0 vs.1.1.0 vs.1.1.1.0 vs.1.1.1.1.0
 
-pub let_back : (p : ℕ) (d : Parse expression) → head d ≡ word words.Let p → (vs : Values grammar let_symbols) × (let_build p vs ≡ d)
+pub let_back : (p : ℕ) (d : Parse expression) → head d ≡ keyword words.Let p → (vs : Values grammar let_symbols) × (let_build p vs ≡ d)
 let_back p (let_in q x r s e t d) h = let same : q ≡ p = cc in (((x, r), (s, (e, (t, (d, tt))))), ap (λ n. let_in n x r s e t d) (sym same))
-let_back p (plain e) h = let yes' : starts (series either) (word words.Let p) ≡ true = subst (λ t. starts (series either) t ≡ true) h (head_starts e) in absurd cc
+let_back p (plain e) h =
+    let yes' : starts (series either) (keyword words.Let p) ≡ true = subst (λ t. starts (series either) t ≡ true) h (head_starts e) in
+    absurd cc
 let_back p d h = absurd cc
 
-abbrev pub let_rule : (p : ℕ) → Rule expression 1 (word words.Let p)
-let_rule p = record { some = tt; symbols = let_symbols; build = let_build p; tokens_are = λ vs. refl; levels_are = λ vs. omega arith; back = let_back p }
+abbrev pub let_rule : (p : ℕ) → Rule expression 1 (keyword words.Let p)
+let_rule p = record {
+  some = tt;
+  symbols = let_symbols;
+  build = let_build p;
+  tokens_are = λ vs. refl;
+  levels_are = λ vs. omega arith;
+  back = let_back p;
+}
 
 abbrev pub if_symbols : List (Sym grammar)
 if_symbols = part expression ∷ one (a_word words.Then) ∷ part expression ∷ one (a_word words.Else) ∷ part expression ∷ []
@@ -234,40 +266,71 @@ if_symbols = part expression ∷ one (a_word words.Then) ∷ part expression ∷
 abbrev pub if_build : ℕ → Values grammar if_symbols → Parse expression
 if_build p vs = if_then p vs.0 vs.1.0 vs.1.1.0 vs.1.1.1.0 vs.1.1.1.1.0
 
-pub if_back : (p : ℕ) (d : Parse expression) → head d ≡ word words.If p → (vs : Values grammar if_symbols) × (if_build p vs ≡ d)
+pub if_back : (p : ℕ) (d : Parse expression) → head d ≡ keyword words.If p → (vs : Values grammar if_symbols) × (if_build p vs ≡ d)
 if_back p (if_then q e r a s b) h = let same : q ≡ p = cc in ((e, (r, (a, (s, (b, tt))))), ap (λ n. if_then n e r a s b) (sym same))
-if_back p (plain e) h = let yes' : starts (series either) (word words.If p) ≡ true = subst (λ t. starts (series either) t ≡ true) h (head_starts e) in absurd cc
+if_back p (plain e) h =
+    let yes' : starts (series either) (keyword words.If p) ≡ true = subst (λ t. starts (series either) t ≡ true) h (head_starts e) in
+    absurd cc
 if_back p d h = absurd cc
 
-abbrev pub if_rule : (p : ℕ) → Rule expression 1 (word words.If p)
-if_rule p = record { some = tt; symbols = if_symbols; build = if_build p; tokens_are = λ vs. append_assoc (word words.If p ∷ tokens vs.0) (word words.Then vs.1.0 ∷ tokens vs.1.1.0) (word words.Else vs.1.1.1.0 ∷ tokens vs.1.1.1.1.0); levels_are = λ vs. omega arith; back = if_back p }
+abbrev pub if_rule : (p : ℕ) → Rule expression 1 (keyword words.If p)
+if_rule p = record {
+  some = tt;
+  symbols = if_symbols;
+  build = if_build p;
+  tokens_are = λ vs. append_assoc (keyword words.If p ∷ tokens vs.0) (keyword words.Then vs.1.0 ∷ tokens vs.1.1.0)
+      (keyword words.Else vs.1.1.1.0 ∷ tokens vs.1.1.1.1.0);
+  levels_are = λ vs. omega arith;
+  back = if_back p;
+}
 
 abbrev pub case_symbols : List (Sym grammar)
 case_symbols =
-    part expression ∷ one (a_word words.Of) ∷ one (a_sign signs.OpenBracket) ∷ one (a_sign signs.CloseBracket) ∷ one (a_sign signs.Arrow) ∷ part expression
+    part expression ∷ one (a_word words.Of) ∷ one (a_sign signs.OpenBracket) ∷ one (a_sign signs.CloseBracket) ∷ one (a_sign signs.Arrow)
+    ∷ part expression
     ∷ one (a_sign signs.Bar) ∷ one a_name ∷ one (a_sign signs.Cons) ∷ one a_name ∷ one (a_sign signs.Arrow) ∷ part expression ∷ []
 
 abbrev pub case_build : ℕ → Values grammar case_symbols → Parse expression
 case_build p vs =
     let after = vs.1.1.1.1.1.1 in
-    case_of p vs.0 vs.1.0 vs.1.1.0 vs.1.1.1.0 vs.1.1.1.1.0 vs.1.1.1.1.1.0 after.0 after.1.0.0 after.1.0.1 after.1.1.0 after.1.1.1.0.0 after.1.1.1.0.1 after.1.1.1.1.0 after.1.1.1.1.1.0
+    case_of p vs.0 vs.1.0 vs.1.1.0 vs.1.1.1.0 vs.1.1.1.1.0 vs.1.1.1.1.1.0 after.0 after.1.0.0 after.1.0.1 after.1.1.0 after.1.1.1.0.0
+    after.1.1.1.0.1 after.1.1.1.1.0 after.1.1.1.1.1.0
 
-pub case_back : (p : ℕ) (d : Parse expression) → head d ≡ word words.Case p → (vs : Values grammar case_symbols) × (case_build p vs ≡ d)
-case_back p (case_of o e q r s a d b x i j y k c u) h = let same : o ≡ p = cc in ((e, (q, (r, (s, (a, (d, (b, ((x, i), (j, ((y, k), (c, (u, tt)))))))))))), ap (λ n. case_of n e q r s a d b x i j y k c u) (sym same))
-case_back p (plain e) h = let yes' : starts (series either) (word words.Case p) ≡ true = subst (λ t. starts (series either) t ≡ true) h (head_starts e) in absurd cc
+pub case_back : (p : ℕ) (d : Parse expression) → head d ≡ keyword words.Case p → (vs : Values grammar case_symbols) × (case_build p vs ≡ d)
+case_back p (case_of o e q r s a d b x i j y k c u) h =
+    let same : o ≡ p = cc in (
+      (e, (q, (r, (s, (a, (d, (b, ((x, i), (j, ((y, k), (c, (u, tt)))))))))))),
+      ap
+          (λ n. case_of n e q r s a d b x i j y k c u) (sym same),
+    )
+case_back p (plain e) h =
+    let yes' : starts (series either) (keyword words.Case p) ≡ true = subst (λ t. starts (series either) t ≡ true) h (head_starts e) in
+    absurd cc
 case_back p d h = absurd cc
 
-pub case_tokens : (p : ℕ) (vs : Values grammar case_symbols) → tokens (case_build p vs) ≡ word words.Case p ∷ tokens_of case_symbols vs
+pub case_tokens : (p : ℕ) (vs : Values grammar case_symbols) → tokens (case_build p vs) ≡ keyword words.Case p ∷ tokens_of case_symbols vs
 case_tokens p vs =
     let after = vs.1.1.1.1.1.1 in
-    append_assoc (word words.Case p ∷ tokens vs.0) (word words.Of vs.1.0 ∷ sign signs.OpenBracket vs.1.1.0 ∷ sign signs.CloseBracket vs.1.1.1.0 ∷ sign signs.Arrow vs.1.1.1.1.0 ∷ tokens vs.1.1.1.1.1.0)
-    (sign signs.Bar after.0 ∷ name after.1.0.0 after.1.0.1 ∷ sign signs.Cons after.1.1.0 ∷ name after.1.1.1.0.0 after.1.1.1.0.1 ∷ sign signs.Arrow after.1.1.1.1.0 ∷ tokens after.1.1.1.1.1.0)
+    append_assoc (keyword words.Case p ∷ tokens vs.0)
+    (keyword words.Of vs.1.0 ∷ symbol signs.OpenBracket vs.1.1.0 ∷ symbol signs.CloseBracket vs.1.1.1.0 ∷ symbol signs.Arrow vs.1.1.1.1.0
+    ∷ tokens vs.1.1.1.1.1.0)
+    (symbol signs.Bar after.0 ∷ name after.1.0.0 after.1.0.1 ∷ symbol signs.Cons after.1.1.0 ∷ name after.1.1.1.0.0 after.1.1.1.0.1
+    ∷ symbol signs.Arrow after.1.1.1.1.0 ∷ tokens after.1.1.1.1.1.0)
 
-abbrev pub case_rule : (p : ℕ) → Rule expression 1 (word words.Case p)
-case_rule p = record { some = tt; symbols = case_symbols; build = case_build p; tokens_are = case_tokens p; levels_are = λ vs. omega arith; back = case_back p }
+abbrev pub case_rule : (p : ℕ) → Rule expression 1 (keyword words.Case p)
+case_rule p = record {
+  some = tt;
+  symbols = case_symbols;
+  build = case_build p;
+  tokens_are = case_tokens p;
+  levels_are = λ vs. omega arith;
+  back = case_back p;
+}
 
 -- an expression that begins with none of these words
-module _ (ts : List Lexeme) (no_let : (p : ℕ) (s : List Lexeme) → ts ≡ word words.Let p ∷ s → ⊥) (no_if : (p : ℕ) (s : List Lexeme) → ts ≡ word words.If p ∷ s → ⊥) (no_case : (p : ℕ) (s : List Lexeme) → ts ≡ word words.Case p ∷ s → ⊥) where
+module _ (ts : List Lexeme) (no_let : (p : ℕ) (s : List Lexeme) → ts ≡ keyword words.Let p ∷ s → ⊥)
+    (no_if : (p : ℕ) (s : List Lexeme) → ts ≡ keyword words.If p ∷ s → ⊥)
+    (no_case : (p : ℕ) (s : List Lexeme) → ts ≡ keyword words.Case p ∷ s → ⊥) where
   pub plain_back : (d : Parse expression) (s : List Lexeme) → ts ≡ head d ∷ s → (e : Parse (series either)) × (plain e ≡ d)
   plain_back (let_in q x r i e t d) s h = absurd (no_let q s h)
   plain_back (if_then q e r a i b) s h = absurd (no_if q s h)
@@ -283,52 +346,98 @@ number_back t p (digits u q) h = let e : u ≡ t = cc in let e' : q ≡ p = cc i
 number_back t p d h = absurd cc
 
 abbrev pub number_rule : (t : Text) (p : ℕ) → Rule atom 1 (number t p)
-number_rule t p = record { some = tt; symbols = []; build = λ vs. digits t p; tokens_are = λ vs. refl; levels_are = λ vs. refl; back = number_back t p }
+number_rule t p = record {
+  some = tt;
+  symbols = [];
+  build = λ vs. digits t p;
+  tokens_are = λ vs. refl;
+  levels_are = λ vs. refl;
+  back = number_back t p;
+}
 
-pub quote_back : (t v : Text) (p : ℕ) (d : Parse atom) → head d ≡ quote t v p → (vs : Values grammar []) × (quoted t v p ≡ d)
-quote_back t v p (quoted u w q) h = let e : u ≡ t = cc in let e' : w ≡ v = cc in let e'' : q ≡ p = cc in (tt, sym (ap (λ x. quoted x w q) e ∙ ap (λ x. quoted t x q) e' ∙ ap (λ x. quoted t v x) e''))
+pub quote_back : (t v : Text) (p : ℕ) (d : Parse atom) → head d ≡ quoted_text t v p → (vs : Values grammar []) × (quoted t v p ≡ d)
+quote_back t v p (quoted u w q) h =
+    let e : u ≡ t = cc in let e' : w ≡ v = cc in let e'' : q ≡ p = cc in
+    (tt, sym (ap (λ x. quoted x w q) e ∙ ap (λ x. quoted t x q) e' ∙ ap (λ x. quoted t v x) e''))
 quote_back t v p d h = absurd cc
 
-abbrev pub quote_rule : (t v : Text) (p : ℕ) → Rule atom 1 (quote t v p)
-quote_rule t v p = record { some = tt; symbols = []; build = λ vs. quoted t v p; tokens_are = λ vs. refl; levels_are = λ vs. refl; back = quote_back t v p }
+abbrev pub quote_rule : (t v : Text) (p : ℕ) → Rule atom 1 (quoted_text t v p)
+quote_rule t v p = record {
+  some = tt;
+  symbols = [];
+  build = λ vs. quoted t v p;
+  tokens_are = λ vs. refl;
+  levels_are = λ vs. refl;
+  back = quote_back t v p;
+}
 
-pub truth_back : (b : Bool) (p : ℕ) (d : Parse atom) → head d ≡ word (truth b) p → (vs : Values grammar []) × (constant b p ≡ d)
+pub truth_back : (b : Bool) (p : ℕ) (d : Parse atom) → head d ≡ keyword (truth b) p → (vs : Values grammar []) × (constant b p ≡ d)
 truth_back true p (constant true q) h = let e : q ≡ p = cc in (tt, ap (λ x. constant true x) (sym e))
 truth_back false p (constant false q) h = let e : q ≡ p = cc in (tt, ap (λ x. constant false x) (sym e))
 truth_back true p d h = absurd cc
 truth_back false p d h = absurd cc
 
-abbrev pub truth_rule : (b : Bool) (p : ℕ) → Rule atom 1 (word (truth b) p)
-truth_rule b p = record { some = tt; symbols = []; build = λ vs. constant b p; tokens_are = λ vs. refl; levels_are = λ vs. refl; back = truth_back b p }
+abbrev pub truth_rule : (b : Bool) (p : ℕ) → Rule atom 1 (keyword (truth b) p)
+truth_rule b p = record {
+  some = tt;
+  symbols = [];
+  build = λ vs. constant b p;
+  tokens_are = λ vs. refl;
+  levels_are = λ vs. refl;
+  back = truth_back b p;
+}
 
 abbrev pub content_symbols : List (Sym grammar)
 content_symbols = one a_name ∷ []
 
-pub content_back : (p : ℕ) (d : Parse atom) → head d ≡ sign signs.Bang p → (vs : Values grammar content_symbols) × (content p vs.0.0 vs.0.1 ≡ d)
+pub content_back : (p : ℕ) (d : Parse atom) → head d ≡ symbol signs.Bang p
+    → (vs : Values grammar content_symbols) × (content p vs.0.0 vs.0.1 ≡ d)
 content_back p (content q x r) h = let e : q ≡ p = cc in (((x, r), tt), ap (λ n. content n x r) (sym e))
 content_back p d h = absurd cc
 
-abbrev pub content_rule : (p : ℕ) → Rule atom 1 (sign signs.Bang p)
-content_rule p = record { some = tt; symbols = content_symbols; build = λ vs. content p vs.0.0 vs.0.1; tokens_are = λ vs. refl; levels_are = λ vs. refl; back = content_back p }
+abbrev pub content_rule : (p : ℕ) → Rule atom 1 (symbol signs.Bang p)
+content_rule p = record {
+  some = tt;
+  symbols = content_symbols;
+  build = λ vs. content p vs.0.0 vs.0.1;
+  tokens_are = λ vs. refl;
+  levels_are = λ vs. refl;
+  back = content_back p;
+}
 
 abbrev pub elements_symbols : List (Sym grammar)
 elements_symbols = part (series (list arguments)) ∷ one (a_sign signs.CloseBracket) ∷ []
 
-pub elements_back : (p : ℕ) (d : Parse atom) → head d ≡ sign signs.OpenBracket p → (vs : Values grammar elements_symbols) × (elements p vs.0 vs.1.0 ≡ d)
+pub elements_back : (p : ℕ) (d : Parse atom) → head d ≡ symbol signs.OpenBracket p
+    → (vs : Values grammar elements_symbols) × (elements p vs.0 vs.1.0 ≡ d)
 elements_back p (elements q es r) h = let e : q ≡ p = cc in ((es, (r, tt)), ap (λ n. elements n es r) (sym e))
 elements_back p d h = absurd cc
 
-abbrev pub elements_rule : (p : ℕ) → Rule atom 1 (sign signs.OpenBracket p)
-elements_rule p = record { some = tt; symbols = elements_symbols; build = λ vs. elements p vs.0 vs.1.0; tokens_are = λ vs. refl; levels_are = λ vs. omega arith; back = elements_back p }
+abbrev pub elements_rule : (p : ℕ) → Rule atom 1 (symbol signs.OpenBracket p)
+elements_rule p = record {
+  some = tt;
+  symbols = elements_symbols;
+  build = λ vs. elements p vs.0 vs.1.0;
+  tokens_are = λ vs. refl;
+  levels_are = λ vs. omega arith;
+  back = elements_back p;
+}
 
 abbrev pub nil_symbols : List (Sym grammar)
 nil_symbols = part basic ∷ []
 
-pub nil_back : (p : ℕ) (d : Parse atom) → head d ≡ word words.Nil p → (vs : Values grammar nil_symbols) × (nil p vs.0 ≡ d)
+pub nil_back : (p : ℕ) (d : Parse atom) → head d ≡ keyword words.Nil p → (vs : Values grammar nil_symbols) × (nil p vs.0 ≡ d)
 nil_back p (nil q b) h = let e : q ≡ p = cc in ((b, tt), ap (λ n. nil n b) (sym e))
 nil_back p (constant true q) h = absurd cc
 nil_back p (constant false q) h = absurd cc
 nil_back p d h = absurd cc
 
-abbrev pub nil_rule : (p : ℕ) → Rule atom 1 (word words.Nil p)
-nil_rule p = record { some = tt; symbols = nil_symbols; build = λ vs. nil p vs.0; tokens_are = λ vs. refl; levels_are = λ vs. omega arith; back = nil_back p }
+abbrev pub nil_rule : (p : ℕ) → Rule atom 1 (keyword words.Nil p)
+nil_rule p = record {
+  some = tt;
+  symbols = nil_symbols;
+  build = λ vs. nil p vs.0;
+  tokens_are = λ vs. refl;
+  levels_are = λ vs. omega arith;
+  back = nil_back p;
+}

@@ -1,11 +1,16 @@
 pub mod GrammarLemmas
 pub mod RuleLemmas
+pub mod Exits
 pub mod TypeRules
 pub mod SeriesLemmas
 pub mod PassingLemmas
 pub mod OptionalLemmas
 pub mod CountLemmas
+pub mod BodyCounts
 pub mod ExpressionRules
+pub mod ParsedLemmas
+pub mod StartLemmas
+pub mod SeriesReading
 pub mod OperatorLemmas
 pub mod AtomRules
 pub mod EnclosedRules

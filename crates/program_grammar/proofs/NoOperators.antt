@@ -1,18 +1,18 @@
 -- Where none of a level's operators stands first.
 use Rattle.std.proofs.Common.{◌≡◌, ℕ, List, ◌∷◌}
-use Rattle.task_syntax.specs.declared.keyword.Keyword.TheVariants as words
-use Rattle.task_syntax.specs.declared.symbol.Symbol.{Symbol}
-use Rattle.task_syntax.specs.declared.keyword.Keyword.{Keyword}
-use Rattle.task_syntax.specs.declared.symbol.Symbol.TheVariants as signs
-use Rattle.program_grammar.specs.Lexemes.{Lexeme, word, sign}
-use Rattle.program_grammar.specs.Grammar.{either, both, sum, product, or, and, plus, minus, join, times, quot, rem}
+use Rattle.task_model.specs.declared.keyword.Keyword.TheVariants as words
+use Rattle.task_model.specs.declared.symbol.Symbol.{Symbol}
+use Rattle.task_model.specs.declared.keyword.Keyword.{Keyword}
+use Rattle.task_model.specs.declared.symbol.Symbol.TheVariants as signs
+use Rattle.task_model.specs.Lexemes.{Lexeme, keyword, symbol}
+use Rattle.task_model.specs.Grammar.{either, both, sum, product, or, and, plus, minus, join, times, quot, rem}
 use Rattle.program_grammar.specs.Parts.{NoOperator}
 
 abbrev pub NoSign : List Lexeme → Symbol → Type 0
-NoSign ts s = (p : ℕ) (rest : List Lexeme) → ts ≡ sign s p ∷ rest → ⊥
+NoSign ts s = (p : ℕ) (rest : List Lexeme) → ts ≡ symbol s p ∷ rest → ⊥
 
 abbrev pub NoWord : List Lexeme → Keyword → Type 0
-NoWord ts k = (p : ℕ) (rest : List Lexeme) → ts ≡ word k p ∷ rest → ⊥
+NoWord ts k = (p : ℕ) (rest : List Lexeme) → ts ≡ keyword k p ∷ rest → ⊥
 
 pub no_either : (ts : List Lexeme) → NoSign ts signs.Or → NoOperator either ts
 no_either ts n or p rest e = n p rest e

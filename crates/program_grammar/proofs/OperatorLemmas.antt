@@ -1,21 +1,19 @@
--- Operators that group to the left, as the loop over them goes on.
-use Rattle.std.proofs.Common.{◌≡◌, ℕ, ◌+◌, ◌-◌, ◌≤◌, ◌<◌, max, List, ◌∷◌, ◌++◌, length, Ok, Err, refl, sym, ap, ◌∙◌, arith}
+-- Operators between expressions that group to the left, as the loop over them goes on.
+use Rattle.std.proofs.Common.{◌≡◌, ℕ, ◌+◌, ◌-◌, ◌≤◌, ◌<◌, List, ◌∷◌, length, Ok, Err, refl, sym, ap, ◌∙◌, arith}
 use Rattle.task_model.specs.Host.{HostTerm, op_expr}
 use Rattle.task_model.specs.declared.host.Op.{Op}
-use Rattle.exact_reading.specs.declared.stop.Stop.{Stop}
-use Rattle.exact_reading.specs.declared.stop.Stop.TheVariants.{Fault}
-use Rattle.exact_reading.specs.declared.stop.Kind.TheVariants.{TooNested}
-use Rattle.exact_reading.specs.Reading.{Within, Answer, Right}
-use Rattle.program_grammar.specs.Lexemes.{Lexeme}
+use Rattle.exact_reading.specs.declared.stop.ParseStop.{ParseStop}
+use Rattle.exact_reading.specs.declared.stop.ParseStop.TheVariants.{Fault}
+use Rattle.exact_reading.specs.declared.stop.FaultKind.TheVariants.{TooNested}
+use Rattle.task_model.specs.Lexemes.{Lexeme}
 use Rattle.program_grammar.specs.declared.series.Level.{Level}
 use Rattle.program_grammar.specs.declared.series.Level.TheVariants as levels_of
-use Rattle.program_grammar.specs.Grammar.{series, Operator, or, and, plus, minus, join, times, quot, rem, operator, part_of, above, Parse, single, joined, levels}
-use Rattle.program_grammar.specs.Languages.{Of, Stops, Reads}
-use Rattle.program_grammar.specs.Parts.{series_of, IsOperation, Shown, shown, shown_series, shown_part}
-use Rattle.program_grammar.proofs.GrammarLemmas.{least_levels}
-use Rattle.program_grammar.proofs.SeriesLemmas.{Tail, part_alive}
-use Rattle.program_grammar.proofs.SeriesLemmas as chains
-use Rattle.program_grammar.proofs.ExpressionRules.{operators_apart}
+use Rattle.task_model.specs.Grammar.{series, either, both, sum, product, Operator, or, and, plus, minus, join, times, quot, rem, operator, part_of, above, Parse, single, joined, levels}
+use Rattle.program_grammar.specs.Languages.{Reads}
+use Rattle.program_grammar.specs.Parts.{series_of, IsOperation, ParsedTerm, shown, shown_series, shown_part, over_two}
+use Rattle.program_grammar.proofs.ParsedLemmas.{starting}
+use Rattle.program_grammar.proofs.SeriesReading as loops
+use Rattle.program_grammar.proofs.StartLemmas.{start_joined}
 
 one_above : (l : Level) → above (series_of l) ≡ 1
 one_above levels_of.Either = refl
@@ -29,92 +27,70 @@ single_shown levels_of.Both d = refl
 single_shown levels_of.Sum d = refl
 single_shown levels_of.Product d = refl
 
-part_levels : (l : Level) (d : Parse (part_of (series_of l))) → (shown_part l d).levels ≡ levels d
-part_levels levels_of.Either d = refl
-part_levels levels_of.Both d = refl
-part_levels levels_of.Sum d = refl
-part_levels levels_of.Product d = refl
+series_levels : (l : Level) (d : Parse (series (series_of l))) → (shown_series l d).levels ≡ levels d
+series_levels levels_of.Either d = refl
+series_levels levels_of.Both d = refl
+series_levels levels_of.Sum d = refl
+series_levels levels_of.Product d = refl
 
--- a node of an operator and two parts
-abbrev pub over : Op → Shown HostTerm → Shown HostTerm → Shown HostTerm
-over op a b = record { term = op_expr op a.term b.term; levels = 1 + max a.levels b.levels; start = a.start; places = a.start ∷ (a.places ++ b.places) }
+-- an operator between two parts, which begins where the left one does
+abbrev pub over : Op → ParsedTerm HostTerm → ParsedTerm HostTerm → ParsedTerm HostTerm
+over op a b = over_two (op_expr op) a.start a b
 
-joined_shown : (l : Level) (x : Parse (series (series_of l))) (o : Operator (series_of l)) (op : Op) (p : ℕ) (y : Parse (part_of (series_of l))) → IsOperation (series_of l) o op → shown_series l (joined (series_of l) x o p y) ≡ over op (shown_series l x) (shown_part l y)
-joined_shown levels_of.Either x or op p y is = ap (λ q. over q (shown x) (shown y)) (sym is)
-joined_shown levels_of.Both x and op p y is = ap (λ q. over q (shown x) (shown y)) (sym is)
-joined_shown levels_of.Sum x plus op p y is = ap (λ q. over q (shown x) (shown y)) (sym is)
-joined_shown levels_of.Sum x minus op p y is = ap (λ q. over q (shown x) (shown y)) (sym is)
-joined_shown levels_of.Sum x join op p y is = ap (λ q. over q (shown x) (shown y)) (sym is)
-joined_shown levels_of.Product x times op p y is = ap (λ q. over q (shown x) (shown y)) (sym is)
-joined_shown levels_of.Product x quot op p y is = ap (λ q. over q (shown x) (shown y)) (sym is)
-joined_shown levels_of.Product x rem op p y is = ap (λ q. over q (shown x) (shown y)) (sym is)
+over_as : {op op' : Op} (a b : ParsedTerm HostTerm) {p : ℕ} → p ≡ a.start → op ≡ op' → starting p (over op' a b) ≡ over op a b
+over_as {op = op} {op' = op'} a b starts is = ap (λ n. starting n (over op' a b)) starts ∙ ap (λ q. over q a b) (sym is)
 
--- some parts were read, and the rest goes on
-pub record Going (l : Level) (room : ℕ) (ts : List Lexeme) (left : Shown HostTerm) (rest : List Lexeme) : Type 0 where
-  pub parse : Parse (series (series_of l)) × ℕ
-  pub shows : shown_series l parse.0 ≡ left
-  pub levels_are : parse.1 ≡ left.levels
-  pub some : 1 ≤ parse.1
-  pub fits : parse.1 ≤ room
-  pub goes_on : (r : Answer Lexeme (Parse (series (series_of l)) × ℕ)) → Right (Tail (series_of l) parse) (Within room) (Stops (series (series_of l))) rest r → Right (Of (series (series_of l))) (Within room) (Stops (series (series_of l))) ts r
+joined_shown : (l : Level) (x : Parse (series (series_of l))) (o : Operator (series_of l)) {op : Op} (p : ℕ)
+    (y : Parse (part_of (series_of l)))
+    → IsOperation (series_of l) o op → shown_series l (joined (series_of l) x o p y) ≡ over op (shown_series l x) (shown_part l y)
+joined_shown levels_of.Either x or p y is = over_as (shown x) (shown y) (start_joined either x or p y) is
+joined_shown levels_of.Both x and p y is = over_as (shown x) (shown y) (start_joined both x and p y) is
+joined_shown levels_of.Sum x plus p y is = over_as (shown x) (shown y) (start_joined sum x plus p y) is
+joined_shown levels_of.Sum x minus p y is = over_as (shown x) (shown y) (start_joined sum x minus p y) is
+joined_shown levels_of.Sum x join p y is = over_as (shown x) (shown y) (start_joined sum x join p y) is
+joined_shown levels_of.Product x times p y is = over_as (shown x) (shown y) (start_joined product x times p y) is
+joined_shown levels_of.Product x quot p y is = over_as (shown x) (shown y) (start_joined product x quot p y) is
+joined_shown levels_of.Product x rem p y is = over_as (shown x) (shown y) (start_joined product x rem p y) is
+
+abbrev pub Going : (l : Level) → ℕ → List Lexeme → ParsedTerm HostTerm → List Lexeme → Type 0
+Going l room ts left rest = loops.Going (series_of l) (shown_series l) room ts left rest
 
 module _ (l : Level) {room : ℕ} {ts : List Lexeme} where
-  pub begin_stop : {e : Stop} → Reads (part_of (series_of l)) (shown_part l) room ts (Err e) → Reads (series (series_of l)) (shown_series l) room ts (Err e)
-  begin_stop h = record { by = chains.part_stop (series_of l) h.by }
+  pub begin_stop : {e : ParseStop} → Reads (part_of (series_of l)) (shown_part l) room ts (Err e)
+      → Reads (series (series_of l)) (shown_series l) room ts (Err e)
+  begin_stop h = loops.begin_stop (series_of l) (shown_series l) (shown_part l) h
 
-  pub begin : {left : Shown HostTerm} {rest : List Lexeme} → Reads (part_of (series_of l)) (shown_part l) room ts (Ok (left, rest)) → Going l room ts left rest
-  begin {left = left} {rest = rest} h =
-      let (x, shows, right) = h.by in
-      let found = right.by.found in
-      let least_is = least_levels x.0 in
-      let one = part_alive (series_of l) in
-      let same = found.1 in
-      record {
-        parse = (single (series_of l) x.0, x.1);
-        shows = single_shown l x.0 ∙ shows;
-        levels_are = sym same ∙ sym (part_levels l x.0) ∙ ap (λ q. q.levels) shows;
-        some = omega (arith, least_is, one, same);
-        fits = right.by.fits;
-        goes_on = λ r tail. chains.part_found (series_of l) right tail;
-      }
+  pub begin : {left : ParsedTerm HostTerm} {rest : List Lexeme} → Reads (part_of (series_of l)) (shown_part l) room ts (Ok (left, rest))
+      → Going l room ts left rest
+  begin h = loops.begin (series_of l) (shown_series l) (λ d shows. single_shown l d ∙ shows) h
 
-  module _ {left : Shown HostTerm} {rest after : List Lexeme} (g : Going l room ts left rest) (o : Operator (series_of l)) (p : ℕ) (e : rest ≡ operator o p ∷ after) where
+  module _ {left : ParsedTerm HostTerm} {rest after : List Lexeme} (g : Going l room ts left rest) (o : Operator (series_of l)) (p : ℕ)
+      (e : rest ≡ operator o p ∷ after) where
     pub no_room : room ≤ left.levels → Reads (series (series_of l)) (shown_series l) room ts (Err (Fault TooNested (length rest)))
     no_room le =
         let a = one_above l in
-        let n = g.levels_are in
-        record { by = g.goes_on _ (chains.deep (series_of l) (operators_apart (series_of l)) o p e g.some (omega (arith, le, a, n))) }
+        loops.no_room (series_of l) (shown_series l) g o p e (λ q. q.levels) (series_levels l) (omega (arith, le, a))
 
     module _ (lt : left.levels < room) where
       up : above (series_of l) + (room - 1) ≡ room
       up = let a = one_above l in omega (arith, lt, a)
 
       enough : above (series_of l) + g.parse.1 ≤ room
-      enough = let a = one_above l in let n = g.levels_are in omega (arith, lt, a, n)
+      enough = let a = one_above l in loops.enough (series_of l) (shown_series l) g (λ q. q.levels) (series_levels l) (omega (arith, lt, a))
 
-      pub next_stop : {s : Stop} → Reads (part_of (series_of l)) (shown_part l) (room - 1) after (Err s) → Reads (series (series_of l)) (shown_series l) room ts (Err s)
-      next_stop h = record { by = g.goes_on _ (chains.more (series_of l) (operators_apart (series_of l)) o p e g.some enough (chains.next_stop (series_of l) g.parse o p up enough h.by)) }
+      pub next_stop : {s : ParseStop} → Reads (part_of (series_of l)) (shown_part l) (room - 1) after (Err s)
+          → Reads (series (series_of l)) (shown_series l) room ts (Err s)
+      next_stop h = loops.next_stop (series_of l) (shown_series l) g o p e up enough (shown_part l) h
 
-      pub next : {op : Op} {right new : Shown HostTerm} {behind : List Lexeme} → IsOperation (series_of l) o op → Reads (part_of (series_of l)) (shown_part l) (room - 1) after (Ok (right, behind)) → over op left right ≡ new → Going l room ts new behind
-      next {op = op} {right = right} {new = new} is h over_is =
-          let (y, shows, found) = h.by in
-          let fits = found.by.fits in
-          let same = found.by.found.1 in
-          let a = one_above l in
-          let some = g.some in
-          let few = enough in
-          let joined_is : shown_series l (joined (series_of l) g.parse.0 o p y.0) ≡ new = joined_shown l g.parse.0 o op p y.0 is ∙ ap (λ q. over op q (shown_part l y.0)) g.shows ∙ ap (λ q. over op left q) shows ∙ over_is in
-          let right_levels : y.1 ≡ right.levels = sym same ∙ sym (part_levels l y.0) ∙ ap (λ q. q.levels) shows in
-          let new_levels : 1 + max left.levels right.levels ≡ new.levels = ap (λ q. q.levels) over_is in
-          let left_levels = g.levels_are in
-          record {
-            parse = (joined (series_of l) g.parse.0 o p y.0, above (series_of l) + max g.parse.1 y.1);
-            shows = joined_is;
-            levels_are = omega (arith, a, right_levels, new_levels, left_levels);
-            some = omega (arith, some);
-            fits = omega (arith, a, few, fits, lt);
-            goes_on = λ r tail. g.goes_on r (chains.more (series_of l) (operators_apart (series_of l)) o p e g.some enough (chains.next_found (series_of l) g.parse o p up enough found tail));
-          }
+      pub next : {op : Op} {right new : ParsedTerm HostTerm} {behind : List Lexeme}
+          → IsOperation (series_of l) o op → Reads (part_of (series_of l)) (shown_part l) (room - 1) after (Ok (right, behind))
+          → over op left right ≡ new → Going l room ts new behind
+      next {op = op} {right = right} is h over_is =
+          loops.next (series_of l) (shown_series l) g o p e up enough
+          (λ x y left_is right_is. joined_shown l x o p y is ∙ ap (λ q. over op q (shown_part l y)) left_is
+          ∙ ap (λ q. over op left q) right_is ∙ over_is) h
 
-  pub finish : {left : Shown HostTerm} {rest : List Lexeme} → Going l room ts left rest → ((o : Operator (series_of l)) (p : ℕ) (s : List Lexeme) → rest ≡ operator o p ∷ s → ⊥) → Reads (series (series_of l)) (shown_series l) room ts (Ok (left, rest))
-  finish g none = record { by = (g.parse, g.shows, g.goes_on _ (chains.end (series_of l) none g.fits)) }
+  pub finish : {left : ParsedTerm HostTerm} {rest : List Lexeme} → Going l room ts left rest
+      → ((o : Operator (series_of l)) (p : ℕ) (s : List Lexeme) → rest ≡ operator o p ∷ s → ⊥)
+      → Reads (series (series_of l)) (shown_series l) room ts (Ok (left, rest))
+  finish g none = loops.finish (series_of l) (shown_series l) g none

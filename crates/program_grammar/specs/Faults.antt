@@ -3,24 +3,24 @@ use Rattle.std.specs.Prelude.{◌≡◌, ℕ, ◌<◌, ◌≤◌, List, [], ◌�
 use Rattle.std.specs.Str.{IsUtf8}
 use Rattle.task_model.specs.Text.{Text}
 use Rattle.task_model.specs.Program.{ProgramTerm}
-use Rattle.task_model.specs.Token.{TokenTerm, HasTokens, Spells, IsWithinLimits}
+use Rattle.task_model.specs.Token.{TokenTerm, HasTokens, Spells, IsWithinTokenLimits}
 use Rattle.task_syntax.specs.Fault.{HasFault}
-use Rattle.exact_reading.specs.declared.stop.Kind.{Kind}
-use Rattle.exact_reading.specs.declared.stop.Kind.TheVariants as kinds
-use Rattle.exact_reading.specs.Reading.{Within}
+use Rattle.exact_reading.specs.declared.stop.FaultKind.{FaultKind}
+use Rattle.exact_reading.specs.declared.stop.FaultKind.TheVariants as kinds
+use Rattle.exact_reading.specs.Reading.{IsWithinLevels}
 use Rattle.exact_reading.specs.Whole.{IsFirstFault}
-use Rattle.program_grammar.specs.declared.stop.ReadKind.{ReadKind}
-use Rattle.program_grammar.specs.declared.stop.ReadKind.TheVariants.{TooLong, NotUtf8, Lex, Unexpected, TooNested}
-use Rattle.program_grammar.specs.declared.stop.ReadStop.{ReadStop}
-use Rattle.program_grammar.specs.declared.stop.ReadStop.TheVariants as stops
-use Rattle.program_grammar.specs.Lexemes.{token_terms}
-use Rattle.program_grammar.specs.Grammar.{program, Parse, tokens, levels}
-use Rattle.program_grammar.specs.Meaning.{program_of}
+use Rattle.task_syntax.specs.declared.stop.ReadKind.{ReadKind}
+use Rattle.task_syntax.specs.declared.stop.ReadKind.TheVariants.{TooLong, NotUtf8, Lex, Unexpected, TooNested}
+use Rattle.task_syntax.specs.declared.stop.ReadStop.{ReadStop}
+use Rattle.task_syntax.specs.declared.stop.ReadStop.TheVariants as stops
+use Rattle.task_model.specs.Lexemes.{token_terms}
+use Rattle.task_model.specs.Grammar.{program, Parse, tokens, levels}
+use Rattle.task_model.specs.Meaning.{program_of}
 
 -- a token of this kind is spelled so, within the limits
 pub record IsSpelled (t : TokenTerm) : Type 0 where
   pub spells : Spells t.spelling t.kind
-  pub within : IsWithinLimits t.kind
+  pub within : IsWithinTokenLimits t.kind
 
 abbrev pub AreSpelled : List TokenTerm → Type 0
 AreSpelled [] = Unit {0}
@@ -34,18 +34,18 @@ pub record IsProgram (terms : List TokenTerm) (x : ProgramTerm × ℕ) : Type 0 
   pub stands_for : (program_of parse, levels parse) ≡ x
 
 -- the place of a token by its number, or the end of the source
-abbrev pub place_of : List TokenTerm → ℕ → ℕ → ℕ
-place_of [] n end = end
-place_of (t ∷ ts) zero end = t.from
-place_of (t ∷ ts) (suc n) end = place_of ts n end
+abbrev pub numbered_place : List TokenTerm → ℕ → ℕ → ℕ
+numbered_place [] n end = end
+numbered_place (t ∷ ts) zero end = t.from
+numbered_place (t ∷ ts) (suc n) end = numbered_place ts n end
 
 -- The first fault in the tokens of a source: the tokens before this one begin a program of at most 200 levels, and with it they begin
 -- none. Unexpected: they begin no program at all, or are none where they end. TooNested: they begin one, but none of at most 200 levels.
-pub record IsTokenFault (source : Text) (kind : Kind) (token place : ℕ) : Type 0 where
+pub record IsTokenFault (source : Text) (kind : FaultKind) (token place : ℕ) : Type 0 where
   pub terms : List TokenTerm
   pub has : HasTokens source terms
-  pub first : IsFirstFault IsProgram (Within 200) terms kind token
-  pub at : place ≡ place_of terms token (length source)
+  pub first : IsFirstFault IsProgram (IsWithinLevels 200) terms kind token
+  pub at : place ≡ numbered_place terms token (length source)
 
 -- the longest prefix in UTF-8 has so many bytes
 pub record IsLongestUtf8 (source : Text) (many : ℕ) : Type 0 where
@@ -62,6 +62,6 @@ IsFaultOf source (Unexpected token) place = (length source ≤ 1048576) × IsTok
 IsFaultOf source TooNested place = (length source ≤ 1048576) × (token : ℕ) × IsTokenFault source kinds.TooNested token place
 
 -- a stop is the source's fault; want of memory says nothing of the source
-abbrev pub IsStop : Text → ReadStop → Type 0
-IsStop source (stops.Fault place kind) = IsFaultOf source kind place
-IsStop source stops.Memory = Unit {0}
+abbrev pub IsReadStop : Text → ReadStop → Type 0
+IsReadStop source (stops.Fault place kind) = IsFaultOf source kind place
+IsReadStop source stops.Memory = Unit {0}

@@ -1,8 +1,3 @@
-pub mod Lexemes
-pub mod Grammar
-pub mod Meaning
-pub mod Nodes
-pub mod ProgramText
 pub mod Faults
 pub mod Languages
 pub mod Parts

@@ -3,33 +3,35 @@ use Rattle.std.specs.Prelude.{◌≡◌, ℕ, ◌+◌, max, List, [], ◌∷◌,
 use Rattle.task_model.specs.Basic.{BasicTerm, basic_term}
 use Rattle.program_grammar.specs.declared.lexeme.Lexeme.{Lexeme}
 use Rattle.program_grammar.specs.declared.lexeme.Lexeme.TheVariants as codes
-use Rattle.program_grammar.specs.declared.lexeme.Located.{Located}
+use Rattle.program_grammar.specs.declared.lexeme.PositionedToken.{PositionedToken}
 use Rattle.program_grammar.specs.declared.measured.Measured.{Measured}
-use Rattle.program_grammar.specs.Lexemes as terms
-use Rattle.program_grammar.specs.declared.node.Node.{Node}
+use Rattle.task_model.specs.Lexemes as terms
+use Rattle.program_grammar.specs.declared.parsed.Parsed.{Parsed}
+use Rattle.program_grammar.specs.declared.parts.Parts.{Parts}
 use Rattle.program_grammar.specs.declared.items.Items.{Items}
 use Rattle.program_grammar.specs.declared.series.Level.{Level}
 use Rattle.program_grammar.specs.declared.series.Level.TheVariants as codes_of
 use Rattle.task_model.specs.Host.{HostTerm, host_term}
 use Rattle.task_model.specs.declared.host.Host as host
+use Rattle.task_model.specs.Task.{BodyTerm, body_term}
 use Rattle.task_model.specs.declared.host.Op.{Op}
 use Rattle.task_model.specs.declared.host.Op.TheVariants as ops
-use Rattle.program_grammar.specs.Grammar.{Series, list, choice, chain, either, both, sum, product, Operator, or, and, plus, minus, join, times, quot, rem, operator, Form, basic, series, part_of, Parse, levels}
-use Rattle.program_grammar.specs.Meaning.{Meaning, meaning}
-use Rattle.program_grammar.specs.Nodes.{start, places}
+use Rattle.task_model.specs.Grammar.{Series, list, choice, chain, either, both, sum, product, Operator, or, and, plus, minus, join, times, quot, rem, operator, Form, basic, series, part_of, Parse, levels}
+use Rattle.task_model.specs.Meaning.{Meaning, meaning}
+use Rattle.task_model.specs.Nodes.{start, places}
 
 -- ---- tokens
 abbrev pub lexeme_at : Lexeme → ℕ → terms.Lexeme
-lexeme_at (codes.Word k) p = terms.word k p
-lexeme_at (codes.Sign s) p = terms.sign s p
+lexeme_at (codes.Keyword k) p = terms.keyword k p
+lexeme_at (codes.Symbol s) p = terms.symbol s p
 lexeme_at (codes.Name x) p = terms.name x.now p
 lexeme_at (codes.Number n) p = terms.number n.digits.now p
-lexeme_at (codes.Quote q) p = terms.quote q.spelling.now q.content.now p
+lexeme_at (codes.Text q) p = terms.quoted_text q.spelling.now q.content.now p
 
-abbrev pub lexeme : Located → terms.Lexeme
+abbrev pub lexeme : PositionedToken → terms.Lexeme
 lexeme t = lexeme_at t.lexeme t.from
 
-abbrev pub lexemes : List Located → List terms.Lexeme
+abbrev pub lexemes : List PositionedToken → List terms.Lexeme
 lexemes ts = map lexeme ts
 
 -- ---- types, with their levels
@@ -39,19 +41,32 @@ measured m = (basic_term m.basic, m.levels)
 abbrev pub shown_type : Parse basic → BasicTerm × ℕ
 shown_type d = (meaning d, levels d)
 
--- ---- nodes
--- what a reader hands on of a form
-pub record Shown (V : Type 0) : Type 0 where
+-- ---- parsed terms
+-- What a reader hands on of a form: what it stands for, its levels, the place of its first token, the places of its nodes in pre-order, and
+-- its bodies in the order in which their texts begin.
+pub record ParsedTerm (V : Type 0) : Type 0 where
   pub term : V
   pub levels : ℕ
   pub start : ℕ
   pub places : List ℕ
+  pub bodies : List BodyTerm
 
-abbrev pub shown : {f : Form} → Parse f → Shown (Meaning f)
-shown d = record { term = meaning d; levels = levels d; start = start d; places = places d }
+-- a parse that stands for this, with these bodies
+abbrev pub parsed : {f : Form} {V : Type 0} → V → List BodyTerm → Parse f → ParsedTerm V
+parsed term bodies d = record { term = term; levels = levels d; start = start d; places = places d; bodies = bodies }
 
-abbrev pub shown_host : Node host.Host → Shown HostTerm
-shown_host n = record { term = host_term n.term.value; levels = n.levels; start = n.start; places = n.places.items }
+-- a parse of a form that holds no bodies
+abbrev pub shown : {f : Form} → Parse f → ParsedTerm (Meaning f)
+shown d = parsed (meaning d) [] d
+
+abbrev pub shown_host : Parsed host.Host → ParsedTerm HostTerm
+shown_host n = record {
+  term = host_term n.term.value;
+  levels = n.levels;
+  start = n.start;
+  places = n.places.items;
+  bodies = map body_term n.bodies.items;
+}
 
 -- ---- listings
 -- what a reader hands on of arguments or elements: a listing is no node, and starts nowhere
@@ -69,10 +84,10 @@ shown_items r = record { list = map host_term r.list.list; levels = r.levels; pl
 abbrev pub no_items : Listed (List HostTerm)
 no_items = record { list = []; levels = 0; places = [] }
 
-abbrev pub one_item : Shown HostTerm → Listed (List HostTerm)
+abbrev pub one_item : ParsedTerm HostTerm → Listed (List HostTerm)
 one_item a = record { list = a.term ∷ []; levels = a.levels; places = a.places }
 
-abbrev pub more_items : Listed (List HostTerm) → Shown HostTerm → Listed (List HostTerm)
+abbrev pub more_items : Listed (List HostTerm) → ParsedTerm HostTerm → Listed (List HostTerm)
 more_items l a = record { list = l.list ++ a.term ∷ []; levels = max l.levels a.levels; places = l.places ++ a.places }
 
 -- ---- the levels of operators that group to the left
@@ -97,42 +112,64 @@ IsOperation product quot op = op ≡ ops.Quot
 IsOperation product rem op = op ≡ ops.Rem
 
 -- a series and its parts, as expressions
-abbrev pub shown_series : (l : Level) → Parse (series (series_of l)) → Shown HostTerm
+abbrev pub shown_series : (l : Level) → Parse (series (series_of l)) → ParsedTerm HostTerm
 shown_series codes_of.Either d = shown d
 shown_series codes_of.Both d = shown d
 shown_series codes_of.Sum d = shown d
 shown_series codes_of.Product d = shown d
 
-abbrev pub shown_part : (l : Level) → Parse (part_of (series_of l)) → Shown HostTerm
+abbrev pub shown_part : (l : Level) → Parse (part_of (series_of l)) → ParsedTerm HostTerm
 shown_part codes_of.Either d = shown d
 shown_part codes_of.Both d = shown d
 shown_part codes_of.Sum d = shown d
 shown_part codes_of.Product d = shown d
 
--- ---- expressions from their parts
-abbrev pub leaf_host : HostTerm → ℕ → Shown HostTerm
-leaf_host t p = record { term = t; levels = 1; start = p; places = p ∷ [] }
+-- ---- parsed terms from their parts
+-- what is said of the parts of a node: the most levels of one, the places of their nodes in pre-order, and their bodies
+pub record PartsTerm : Type 0 where
+  pub levels : ℕ
+  pub places : List ℕ
+  pub bodies : List BodyTerm
+
+abbrev pub parts_term : Parts → PartsTerm
+parts_term p = record { levels = p.levels; places = p.places.items; bodies = map body_term p.bodies.items }
+
+abbrev pub no_parts : PartsTerm
+no_parts = record { levels = 0; places = []; bodies = [] }
+
+abbrev pub one_part : {V : Type 0} → ParsedTerm V → PartsTerm
+one_part a = record { levels = a.levels; places = a.places; bodies = a.bodies }
+
+abbrev pub both_parts : PartsTerm → PartsTerm → PartsTerm
+both_parts a b = record { levels = max a.levels b.levels; places = a.places ++ b.places; bodies = a.bodies ++ b.bodies }
+
+-- a node of these parts, which begins here
+abbrev pub node : {V : Type 0} → V → ℕ → PartsTerm → ParsedTerm V
+node term p parts = record { term = term; levels = 1 + parts.levels; start = p; places = p ∷ parts.places; bodies = parts.bodies }
+
+abbrev pub leaf : {V : Type 0} → V → ℕ → ParsedTerm V
+leaf term p = node term p no_parts
 
 -- a node over a type, and over a listing, which begins here
-abbrev pub over_type : (BasicTerm → HostTerm) → ℕ → BasicTerm × ℕ → Shown HostTerm
-over_type make p b = record { term = make b.0; levels = 1 + b.1; start = p; places = p ∷ [] }
+abbrev pub over_type : {V : Type 0} → (BasicTerm → V) → ℕ → BasicTerm × ℕ → ParsedTerm V
+over_type make p b = node (make b.0) p (record { levels = b.1; places = []; bodies = [] })
 
-abbrev pub over_list : (List HostTerm → HostTerm) → ℕ → Listed (List HostTerm) → Shown HostTerm
-over_list make p l = record { term = make l.list; levels = 1 + l.levels; start = p; places = p ∷ l.places }
+abbrev pub over_list : {V : Type 0} → (List HostTerm → V) → ℕ → Listed (List HostTerm) → ParsedTerm V
+over_list make p l = node (make l.list) p (record { levels = l.levels; places = l.places; bodies = [] })
 
--- a node over one part, and over two, which begins here
-abbrev pub over_one : (HostTerm → HostTerm) → ℕ → Shown HostTerm → Shown HostTerm
-over_one make p a = record { term = make a.term; levels = 1 + a.levels; start = p; places = p ∷ a.places }
+-- a node over one part, over two and over three, which begins here
+abbrev pub over_one : {U V : Type 0} → (U → V) → ℕ → ParsedTerm U → ParsedTerm V
+over_one make p a = node (make a.term) p (one_part a)
 
-abbrev pub over_two : (HostTerm → HostTerm → HostTerm) → ℕ → Shown HostTerm → Shown HostTerm → Shown HostTerm
-over_two make p a b = record { term = make a.term b.term; levels = 1 + max a.levels b.levels; start = p; places = p ∷ (a.places ++ b.places) }
+abbrev pub over_two : {T U V : Type 0} → (T → U → V) → ℕ → ParsedTerm T → ParsedTerm U → ParsedTerm V
+over_two make p a b = node (make a.term b.term) p (both_parts (one_part a) (one_part b))
 
-abbrev pub over_three : (HostTerm → HostTerm → HostTerm → HostTerm) → ℕ → Shown HostTerm → Shown HostTerm → Shown HostTerm → Shown HostTerm
-over_three make p a b c = record { term = make a.term b.term c.term; levels = 1 + max a.levels (max b.levels c.levels); start = p; places = p ∷ (a.places ++ (b.places ++ c.places)) }
+abbrev pub over_three : {S T U V : Type 0} → (S → T → U → V) → ℕ → ParsedTerm S → ParsedTerm T → ParsedTerm U → ParsedTerm V
+over_three make p a b c = node (make a.term b.term c.term) p (both_parts (one_part a) (both_parts (one_part b) (one_part c)))
 
 -- a part in parentheses, the first of which stands here
-abbrev pub grouped : ℕ → Shown HostTerm → Shown HostTerm
-grouped p a = record { term = a.term; levels = 1 + a.levels; start = p; places = a.places }
+abbrev pub grouped : {V : Type 0} → ℕ → ParsedTerm V → ParsedTerm V
+grouped p a = record { term = a.term; levels = 1 + a.levels; start = p; places = a.places; bodies = a.bodies }
 
 -- no operator of the series stands first; this one does, as an operator of the code, and the rest follows it
 abbrev pub NoOperator : Series → List terms.Lexeme → Type 0

@@ -1,7 +1,7 @@
 -- Operators before an operand, and comparisons, as the grammar's.
 use Rattle.program_grammar.specs.declared.prefixes.Prefix.{Prefix}
 use Rattle.program_grammar.specs.declared.prefixes.Prefix.TheVariants as codes
-use Rattle.program_grammar.specs.Grammar as grammar
+use Rattle.task_model.specs.Grammar as grammar
 
 abbrev pub prefix_term : Prefix → grammar.Prefix
 prefix_term codes.Negative = grammar.negative

@@ -1,36 +1,36 @@
 ghost use Rattle.std.specs.Prelude.{◌≡◌, ℕ, List, ◌∷◌, MatchOption};
 ghost use Rattle.exact_reading.specs.Reading.{seen};
 ghost use Rattle.task_model.specs.Basic.{basic_term};
-ghost use Rattle.program_grammar.specs.Lexemes as terms;
-ghost use Rattle.program_grammar.specs.Grammar as grammar;
-ghost use Rattle.program_grammar.specs.Meaning.{scalar_of};
+ghost use Rattle.task_model.specs.Lexemes as terms;
+ghost use Rattle.task_model.specs.Grammar as grammar;
+ghost use Rattle.task_model.specs.Meaning.{scalar_of};
 ghost use Rattle.program_grammar.specs.Languages.{Reads};
 ghost use Rattle.program_grammar.specs.Parts.{lexemes, measured, shown_type};
 
-use crate::lexeme::Located;
+use crate::lexeme::PositionedToken;
 use crate::measured::Measured;
-use crate::steps::{expect_sign, strip_sign, strip_word};
-use exact_reading::{Stop, too_nested, unexpected};
+use crate::steps::{expect_symbol, strip_keyword, strip_symbol};
+use exact_reading::{ParseStop, too_nested, unexpected};
 use std::alloc::Global;
-use task_model::Basic;
-use task_syntax::{Keyword, Symbol};
+use std::sync::Arc;
+use task_model::{Basic, Keyword, Symbol};
 
 /// The type of one word that stands first, if one does, and what stands after it.
-fn scalar<'t>(tokens: &'t [Located<'t>]) -> Option<(Basic, &'t [Located<'t>])>
+fn scalar<'t>(tokens: &'t [PositionedToken<'t>]) -> Option<(Basic, &'t [PositionedToken<'t>])>
     ensures { MatchOption result
-        ((b : grammar.Scalar) (p : ℕ) (rest : List terms.Lexeme) → lexemes tokens.now ≡ terms.word (grammar.scalar b) p ∷ rest → ⊥)
-        (λ r. (b : grammar.Scalar) × (p : ℕ) × (lexemes tokens.now ≡ terms.word (grammar.scalar b) p ∷ lexemes r.1.now) × (basic_term r.0 ≡ scalar_of b)) }
+        ((b : grammar.Scalar) (p : ℕ) (rest : List terms.Lexeme) → lexemes tokens.now ≡ terms.keyword (grammar.scalar b) p ∷ rest → ⊥)
+        (λ r. (b : grammar.Scalar) × (p : ℕ) × (lexemes tokens.now ≡ terms.keyword (grammar.scalar b) p ∷ lexemes r.1.now) × (basic_term r.0 ≡ scalar_of b)) }
 {
-    if let Some((_, rest)) = strip_word(tokens, Keyword::Unit) {
+    if let Some((_, rest)) = strip_keyword(tokens, Keyword::Unit) {
         return Some((Basic::Unit, rest));
     }
-    if let Some((_, rest)) = strip_word(tokens, Keyword::Bool) {
+    if let Some((_, rest)) = strip_keyword(tokens, Keyword::Bool) {
         return Some((Basic::Bool, rest));
     }
-    if let Some((_, rest)) = strip_word(tokens, Keyword::Int) {
+    if let Some((_, rest)) = strip_keyword(tokens, Keyword::Int) {
         return Some((Basic::Int, rest));
     }
-    if let Some((_, rest)) = strip_word(tokens, Keyword::Text) {
+    if let Some((_, rest)) = strip_keyword(tokens, Keyword::Text) {
         return Some((Basic::Text, rest));
     }
     None
@@ -40,8 +40,8 @@ fn scalar<'t>(tokens: &'t [Located<'t>]) -> Option<(Basic, &'t [Located<'t>])>
 pub fn basic<'t>(
     alloc: Global,
     room: usize,
-    tokens: &'t [Located<'t>],
-) -> Result<(Measured, &'t [Located<'t>]), Stop>
+    tokens: &'t [PositionedToken<'t>],
+) -> Result<(Measured, &'t [PositionedToken<'t>]), ParseStop>
     ensures { Reads grammar.basic shown_type room (lexemes tokens.now) (seen (λ r. (measured r.0, lexemes r.1.now)) result) }
 {
     if let Some((basic, rest)) = scalar(tokens) {
@@ -50,29 +50,29 @@ pub fn basic<'t>(
         }
         return Ok((Measured { basic, levels: 1 }, rest));
     }
-    if let Some((_, rest)) = strip_sign(tokens, Symbol::Open) {
+    if let Some((_, rest)) = strip_symbol(tokens, Symbol::Open) {
         if room < 2 {
             return Err(too_nested(tokens));
         }
         let (first, rest) = basic(alloc, room - 1, rest)?;
-        let (_, rest) = expect_sign(rest, Symbol::Comma)?;
+        let (_, rest) = expect_symbol(rest, Symbol::Comma)?;
         let (second, rest) = basic(alloc, room - 1, rest)?;
-        let (_, rest) = expect_sign(rest, Symbol::Close)?;
+        let (_, rest) = expect_symbol(rest, Symbol::Close)?;
         let levels = 1 + first.levels.max(second.levels);
         let basic = Basic::Pair(
-            Box::new(alloc, first.basic)?,
-            Box::new(alloc, second.basic)?,
+            Arc::new(alloc, first.basic)?,
+            Arc::new(alloc, second.basic)?,
         );
         return Ok((Measured { basic, levels }, rest));
     }
-    if let Some((_, rest)) = strip_sign(tokens, Symbol::OpenBracket) {
+    if let Some((_, rest)) = strip_symbol(tokens, Symbol::OpenBracket) {
         if room < 2 {
             return Err(too_nested(tokens));
         }
         let (item, rest) = basic(alloc, room - 1, rest)?;
-        let (_, rest) = expect_sign(rest, Symbol::CloseBracket)?;
+        let (_, rest) = expect_symbol(rest, Symbol::CloseBracket)?;
         let levels = 1 + item.levels;
-        let basic = Basic::List(Box::new(alloc, item.basic)?);
+        let basic = Basic::List(Arc::new(alloc, item.basic)?);
         return Ok((Measured { basic, levels }, rest));
     }
     Err(unexpected(tokens))

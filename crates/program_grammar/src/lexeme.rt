@@ -1,8 +1,7 @@
 ghost use Rattle.std.specs.Prelude.{◌≡◌, pos};
 ghost use Rattle.task_model.specs.Token.{number_from};
 
-use task_model::TaskText;
-use task_syntax::{Keyword, Symbol};
+use task_model::{Keyword, Symbol, TaskText};
 
 /// The digits of a number, and its value.
 #[derive(Clone, Copy)]
@@ -14,7 +13,7 @@ pub struct Digits<'s> {
 
 /// A text as it is spelled, and its content.
 #[derive(Clone, Copy)]
-pub struct Quote<'s> {
+pub struct QuotedText<'s> {
     pub spelling: &'s [u8],
     pub content: &'s TaskText,
 }
@@ -22,16 +21,16 @@ pub struct Quote<'s> {
 /// A token as the grammar takes it.
 #[derive(Clone, Copy)]
 pub enum Lexeme<'s> {
-    Word(Keyword),
-    Sign(Symbol),
+    Keyword(Keyword),
+    Symbol(Symbol),
     Name(&'s str),
     Number(Digits<'s>),
-    Quote(Quote<'s>),
+    Text(QuotedText<'s>),
 }
 
 /// A token and the place of its first byte.
 #[derive(Clone, Copy)]
-pub struct Located<'s> {
+pub struct PositionedToken<'s> {
     pub lexeme: Lexeme<'s>,
     pub from: u64,
 }

@@ -5,23 +5,23 @@ mod basics;
 mod items;
 mod lexeme;
 mod measured;
-mod node;
 mod operators;
+mod parsed;
+mod parts;
 mod prefixes;
 mod series;
 mod steps;
-mod stop;
 
 pub use basics::basic;
 pub use items::Items;
-pub use lexeme::{Digits, Lexeme, Located, Quote};
+pub use lexeme::{Digits, Lexeme, PositionedToken, QuotedText};
 pub use measured::Measured;
-pub use node::{Node, joined, name_text, threefold};
 pub use operators::{prefix, relation};
+pub use parsed::{Parsed, name_text};
+pub use parts::Parts;
 pub use prefixes::Prefix;
 pub use series::{Level, operator};
 pub use steps::{
-    expect_name, expect_sign, expect_word, strip_name, strip_number, strip_quote, strip_sign,
-    strip_word,
+    expect_keyword, expect_name, expect_symbol, strip_keyword, strip_name, strip_number,
+    strip_symbol, strip_text,
 };
-pub use stop::{ReadKind, ReadStop};

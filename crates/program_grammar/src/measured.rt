@@ -1,3 +1,7 @@
+ghost use Rattle.std.specs.Prelude.{◌≡◌, []};
+
+use crate::parts::Parts;
+use std::alloc::Global;
 use task_model::Basic;
 
 /// A type that was read, and its levels.
@@ -5,4 +9,21 @@ use task_model::Basic;
 pub struct Measured {
     pub basic: Basic,
     pub levels: usize,
+}
+
+impl Measured {
+    /// The type, and what is said of it where it is part of a node.
+    pub fn into_parts(self, alloc: Global) -> (Basic, Parts)
+        ensures basic { result.0 ≡ self.basic }
+        ensures levels { result.1.levels ≡ self.levels }
+        ensures places { result.1.places.items ≡ [] }
+        ensures bodies { result.1.bodies.items ≡ [] }
+    {
+        let parts = Parts {
+            levels: self.levels,
+            places: Vec::new(alloc),
+            bodies: Vec::new(alloc),
+        };
+        (self.basic, parts)
+    }
 }

@@ -1,6 +1,6 @@
 ghost use Rattle.std.specs.Prelude.{◌≡◌};
 ghost use Rattle.task_model.specs.Host.{host_term};
-ghost use Rattle.program_grammar.specs.Meaning.{prefix_of};
+ghost use Rattle.task_model.specs.Meaning.{unary_expression};
 
 use task_model::Host;
 
@@ -19,7 +19,7 @@ impl Prefix {
 
     /// The expression of this operator and its operand.
     pub fn applied(self, operand: Box<Host>) -> Host
-        ensures { host_term result ≡ prefix_of (prefix_term self) (host_term operand.value) }
+        ensures { host_term result ≡ unary_expression (prefix_term self) (host_term operand.value) }
     {
         match self {
             Prefix::Negative => Host::Neg(operand),

@@ -6,10 +6,11 @@ use Rattle.std.specs.Prelude.{◌==◌}
 use Rattle.std.proofs.lemmas.Bool.Decides.{nat_tests}
 use Rattle.task_model.specs.Task.{BodyTerm, body_term}
 use Rattle.task_model.specs.declared.task.Body.{Body}
-use Rattle.program_printer.specs.Printed.{no_body, body_numbered, body_text, body_texts}
+use Rattle.task_model.specs.Printed.{no_body, body_numbered, body_text, body_texts}
 
 -- the body with this number, behind so many others
-pub numbered_there : (first : ℕ) (bodies : List BodyTerm) (before : List BodyTerm) (b : BodyTerm) (later : List BodyTerm) (i : ℕ) → bodies ≡ before ++ b ∷ later → i ≡ first + length before
+pub numbered_there : (first : ℕ) (bodies : List BodyTerm) (before : List BodyTerm) (b : BodyTerm) (later : List BodyTerm) (i : ℕ)
+    → bodies ≡ before ++ b ∷ later → i ≡ first + length before
     → body_numbered first (body_texts first bodies) i ≡ body_text (suc i) (body_texts (suc i) later) b
 numbered_there first [] [] b later i e is = absurd cc
 numbered_there first [] (x ∷ before) b later i e is = absurd cc
@@ -25,7 +26,8 @@ numbered_there first (y ∷ bodies) (x ∷ before) b later i e is =
     rw apart (numbered_there (suc first) bodies before b later i tail (omega (arith, is)))
 
 -- no body has a number outside
-pub numbered_nowhere : (first : ℕ) (bodies : List BodyTerm) (i : ℕ) → (i < first) ⊎ (first + length bodies ≤ i) → body_numbered first (body_texts first bodies) i ≡ no_body
+pub numbered_nowhere : (first : ℕ) (bodies : List BodyTerm) (i : ℕ) → (i < first) ⊎ (first + length bodies ≤ i)
+    → body_numbered first (body_texts first bodies) i ≡ no_body
 numbered_nowhere first [] i out = refl
 numbered_nowhere first (b ∷ bodies) i (inl below) =
     let apart : (i == first) ≡ false = grind (arith, nat_tests) in
@@ -48,16 +50,21 @@ body_split bodies i d lt =
 pub body_absent : (first : ℕ) (bodies : List Body) (number : ℕ) → (number < first) ⊎ (first + length bodies ≤ number)
     → body_numbered first (body_texts first (map body_term bodies)) number ≡ no_body
 body_absent first bodies number (inl below) = numbered_nowhere first (map body_term bodies) number (inl below)
-body_absent first bodies number (inr above) = let n = length-map bodies body_term in numbered_nowhere first (map body_term bodies) number (inr (omega (arith, n, above)))
+body_absent first bodies number (inr above) =
+    let n = length-map bodies body_term in numbered_nowhere first (map body_term bodies) number (inr (omega (arith, n, above)))
 
 pub body_found : (first : ℕ) (bodies : List Body) (number : ℕ) (d : Body) → first ≤ number → number - first < length bodies
     → body_numbered first (body_texts first (map body_term bodies)) number
-    ≡ body_text (number + 1) (body_texts (number + 1) (map body_term (take (length bodies - (number - first + 1)) (drop (number - first + 1) bodies)))) (body_term (get_or bodies (number - first) d))
+    ≡ body_text (number + 1)
+    (body_texts (number + 1) (map body_term (take (length bodies - (number - first + 1)) (drop (number - first + 1) bodies))))
+    (body_term (get_or bodies (number - first) d))
 body_found first bodies number d from within =
     let i = number - first in
     let before = take i bodies in
     let later = take (length bodies - (i + 1)) (drop (i + 1) bodies) in
-    let split : map body_term bodies ≡ map body_term before ++ body_term (get_or bodies i d) ∷ map body_term later = ap (map body_term) (body_split bodies i d within) ∙ map-append body_term before (get_or bodies i d ∷ later) in
+    let split : map body_term bodies ≡ map body_term before ++ body_term (get_or bodies i d) ∷ map body_term later =
+    ap (map body_term) (body_split bodies i d within) ∙ map-append body_term before (get_or bodies i d ∷ later) in
     let many = length-map before body_term in
     let least = length-take-le i bodies (omega (arith, within)) in
-    rw (add-one number) (numbered_there first (map body_term bodies) (map body_term before) (body_term (get_or bodies i d)) (map body_term later) number split (omega (arith, many, least, from)))
+    rw (add-one number) (numbered_there first (map body_term bodies) (map body_term before) (body_term (get_or bodies i d))
+    (map body_term later) number split (omega (arith, many, least, from)))

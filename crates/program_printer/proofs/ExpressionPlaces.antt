@@ -6,12 +6,12 @@ use Rattle.task_model.specs.Text.{Text}
 use Rattle.task_model.specs.Host.{HostTerm, unit_expr, bool_expr, int_expr, text_expr, name_expr, read_expr, call_expr, pair_expr, list_expr, nil_expr, neg_expr, not_expr, fst_expr, snd_expr, len_expr, op_expr, let_expr, if_expr, case_expr}
 use Rattle.task_model.specs.declared.host.Op.{Op}
 use Rattle.task_model.specs.declared.host.Op.TheVariants as ops
-use Rattle.task_syntax.specs.declared.symbol.Symbol.TheVariants as signs
-use Rattle.program_grammar.specs.Lexemes.{sign}
-use Rattle.program_grammar.specs.Grammar as grammar
-use Rattle.program_grammar.specs.Grammar.{Form, Parse, tokens, levels}
-use Rattle.program_printer.specs.Places.{term_at}
-use Rattle.program_printer.specs.Printed.{expression_at, expression_rank, expression_tokens, operator_rank}
+use Rattle.task_model.specs.declared.symbol.Symbol.TheVariants as signs
+use Rattle.task_model.specs.Lexemes.{symbol}
+use Rattle.task_model.specs.Grammar as grammar
+use Rattle.task_model.specs.Grammar.{Form, Parse, tokens, levels}
+use Rattle.program_printer.specs.PrintedPlaces.{term_at}
+use Rattle.task_model.specs.Printed.{expression_at, expression_rank, expression_tokens, operator_rank}
 use Rattle.program_printer.proofs.Showing.{Shown, looser, pass, enclose, sign_spelled}
 
 -- ---- the nonterminals of expressions
@@ -44,7 +44,9 @@ up zero p s = s
 up (suc n) p s = up n (suc p) (up_one p s)
 
 lifted : (p q : ℕ) {e : HostTerm} {k : ℕ} {ts : List Text} → p ≤ q → IsShown p e k ts → IsShown q e k ts
-lifted p q {e} {k} {ts} le s = let same : climbed (q - p) p ≡ q = (let c = climbed_sum (q - p) p in omega (arith, c, le)) in subst (λ r. IsShown r e k ts) same (up (q - p) p s)
+lifted p q {e} {k} {ts} le s =
+    let same : climbed (q - p) p ≡ q = (let c = climbed_sum (q - p) p in omega (arith, c, le)) in
+    subst (λ r. IsShown r e k ts) same (up (q - p) p s)
 
 -- ---- an expression at its place
 operator_within : (o : Op) → operator_rank o ≤ 8
@@ -93,20 +95,25 @@ pub record Own (p : ℕ) (e : HostTerm) (most : ℕ) : Type 0 where
   pub enclosed : nat_lt p (expression_rank e) ≡ true → suc least ≤ most
 
 grouped : {e : HostTerm} {k : ℕ} {ts : List Text} → IsShown 8 e k ts → IsShown 0 e (1 + k) (codes "(" ∷ ts ++ codes ")" ∷ [])
-grouped s = enclose 1 (sign signs.Open 0) (sign signs.Close 0) (sign_spelled signs.Open 0) (sign_spelled signs.Close 0) (λ n d m. grammar.group n d m) (λ n d m. refl) (λ n d m e. e) (λ n d m. omega arith) s
+grouped s = enclose 1 (symbol signs.Open 0) (symbol signs.Close 0) (sign_spelled signs.Open 0) (sign_spelled signs.Close 0)
+    (λ n d m. grammar.group n d m) (λ n d m. refl) (λ n d m e. e) (λ n d m. omega arith) s
 
 pub at_place : (p : ℕ) (e : HostTerm) {k : ℕ} → p ≤ 8 → Own p e k → Shown (term_at p) e k (expression_at p e)
 at_place p e {k} le o = go (nat_lt p (expression_rank e)) refl
   where
-    go : (b : Bool) → nat_lt p (expression_rank e) ≡ b → Shown (term_at p) e k (if b then codes "(" ∷ expression_tokens e ++ codes ")" ∷ [] else expression_tokens e)
-    go true is = let fewer = o.enclosed is in lifted 0 p (omega arith) (looser (omega (arith, fewer)) (grouped (lifted (expression_rank e) 8 (rank_within e) o.own)))
+    go : (b : Bool) → nat_lt p (expression_rank e) ≡ b
+        → Shown (term_at p) e k (if b then codes "(" ∷ expression_tokens e ++ codes ")" ∷ [] else expression_tokens e)
+    go true is =
+        let fewer = o.enclosed is in lifted 0 p (omega arith) (looser (omega (arith, fewer))
+        (grouped (lifted (expression_rank e) 8 (rank_within e) o.own)))
     go false is = let less = o.less in lifted (expression_rank e) p (grind (arith, nat_tests, is)) (looser less o.own)
 
 pub wider : (p q : ℕ) {e : HostTerm} {k : ℕ} → p ≤ q → Own p e k → Own q e k
 wider p q {e} le o = record { least = o.least; own = o.own; less = o.less; enclosed = λ h. o.enclosed (grind (arith, nat_tests, h, le)) }
 
 -- by its own production
-pub own_here : (p : ℕ) (e : HostTerm) {k : ℕ} → nat_lt p (expression_rank e) ≡ false → Shown (term_at (expression_rank e)) e k (expression_tokens e) → Own p e k
+pub own_here : (p : ℕ) (e : HostTerm) {k : ℕ} → nat_lt p (expression_rank e) ≡ false
+    → Shown (term_at (expression_rank e)) e k (expression_tokens e) → Own p e k
 own_here p e {k} fits s = record { least = k; own = s; less = omega arith; enclosed = λ h. absurd cc }
 
 -- in parentheses

@@ -1,4 +1,3 @@
-pub mod BodyCounts
 pub mod BodyLemmas
 pub mod DefinitionProductions
 pub mod ExpressionPlaces

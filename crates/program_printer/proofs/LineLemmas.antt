@@ -3,7 +3,7 @@ use Rattle.std.proofs.Common.{◌≡◌, List, [], ◌∷◌, ◌++◌, refl, ap
 use Rattle.std.specs.Prelude.{codes}
 use Rattle.task_model.specs.Text.{Text}
 use Rattle.program_printer.specs.Lines.{with_tokens}
-use Rattle.program_printer.specs.Printed.{spaced}
+use Rattle.task_model.specs.Printed.{spaced}
 
 pub with_tokens_append : (text : Text) (ts us : List Text) → with_tokens text (ts ++ us) ≡ with_tokens (with_tokens text ts) us
 with_tokens_append text [] us = refl
@@ -13,4 +13,5 @@ with_tokens_append text (t ∷ ts) us = with_tokens_append (text ++ codes " " ++
 pub with_tokens_spaced : (text t : Text) (ts : List Text) → with_tokens (text ++ t) ts ≡ text ++ spaced (t ∷ ts)
 with_tokens_spaced text t [] = refl
 with_tokens_spaced text t (u ∷ us) =
-    with_tokens_spaced (text ++ t ++ codes " ") u us ∙ ap (λ x. x ++ spaced (u ∷ us)) (append_assoc text t (codes " ")) ∙ append_assoc text (t ++ codes " ") (spaced (u ∷ us))
+    with_tokens_spaced (text ++ t ++ codes " ") u us ∙ ap (λ x. x ++ spaced (u ∷ us)) (append_assoc text t (codes " "))
+    ∙ append_assoc text (t ++ codes " ") (spaced (u ∷ us))

@@ -1,17 +1,19 @@
 -- Longer productions: parses that stand at given tokens, from those of their parts.
 use Rattle.std.proofs.Common.{◌≡◌, ℕ, suc, max, List, ◌∷◌, ◌++◌, ap, ◌∙◌, arith}
 use Rattle.task_model.specs.Text.{Text}
-use Rattle.task_syntax.specs.declared.keyword.Keyword.TheVariants as words
-use Rattle.task_syntax.specs.declared.symbol.Symbol.TheVariants as signs
-use Rattle.program_grammar.specs.Lexemes.{Lexeme, word, sign, name}
-use Rattle.program_grammar.specs.Grammar.{Form, Parse, tokens, levels}
+use Rattle.task_model.specs.declared.keyword.Keyword.TheVariants as words
+use Rattle.task_model.specs.declared.symbol.Symbol.TheVariants as signs
+use Rattle.task_model.specs.Lexemes.{Lexeme, keyword, symbol, name}
+use Rattle.task_model.specs.Grammar.{Form, Parse, tokens, levels}
 use Rattle.program_printer.proofs.Placing.{put, spelling, IsSpelled, behind, behind_all, joined_placed}
 use Rattle.program_printer.proofs.Showing.{Shown, before, joined, word_before, sign_before}
 
 -- two tokens and a part
 pub front_two :
-    {V W : Type 0} {f g : Form} {val : Parse f → V} {part : Parse g → W} {v : V} {w : W} {k : ℕ} {ts : List Text} (l1 l2 : Lexeme) → IsSpelled l1 → IsSpelled l2 → (C : ℕ → ℕ → Parse g → Parse f)
-    → ((n1 n2 : ℕ) (d : Parse g) → tokens (C n1 n2 d) ≡ put l1 n1 ∷ put l2 n2 ∷ tokens d) → ((n1 n2 : ℕ) (d : Parse g) → part d ≡ w → val (C n1 n2 d) ≡ v)
+    {V W : Type 0} {f g : Form} {val : Parse f → V} {part : Parse g → W} {v : V} {w : W} {k : ℕ} {ts : List Text} (l1 l2 : Lexeme)
+    → IsSpelled l1 → IsSpelled l2 → (C : ℕ → ℕ → Parse g → Parse f)
+    → ((n1 n2 : ℕ) (d : Parse g) → tokens (C n1 n2 d) ≡ put l1 n1 ∷ put l2 n2 ∷ tokens d)
+    → ((n1 n2 : ℕ) (d : Parse g) → part d ≡ w → val (C n1 n2 d) ≡ v)
     → ((n1 n2 : ℕ) (d : Parse g) → levels (C n1 n2 d) ≡ levels d) → Shown part w k ts → Shown val v k (spelling l1 ∷ spelling l2 ∷ ts)
 front_two l1 l2 s1 s2 C toks mean same s = record {
   written = before l1 s1 (before l2 s2 s.written);
@@ -28,9 +30,12 @@ front_two l1 l2 s1 s2 C toks mean same s = record {
 
 -- three tokens and a part
 pub front_three :
-    {V W : Type 0} {f g : Form} {val : Parse f → V} {part : Parse g → W} {v : V} {w : W} {k : ℕ} {ts : List Text} (l1 l2 l3 : Lexeme) → IsSpelled l1 → IsSpelled l2 → IsSpelled l3 → (C : ℕ → ℕ → ℕ → Parse g → Parse f)
-    → ((n1 n2 n3 : ℕ) (d : Parse g) → tokens (C n1 n2 n3 d) ≡ put l1 n1 ∷ put l2 n2 ∷ put l3 n3 ∷ tokens d) → ((n1 n2 n3 : ℕ) (d : Parse g) → part d ≡ w → val (C n1 n2 n3 d) ≡ v)
-    → ((n1 n2 n3 : ℕ) (d : Parse g) → levels (C n1 n2 n3 d) ≡ levels d) → Shown part w k ts → Shown val v k (spelling l1 ∷ spelling l2 ∷ spelling l3 ∷ ts)
+    {V W : Type 0} {f g : Form} {val : Parse f → V} {part : Parse g → W} {v : V} {w : W} {k : ℕ} {ts : List Text} (l1 l2 l3 : Lexeme)
+    → IsSpelled l1 → IsSpelled l2 → IsSpelled l3 → (C : ℕ → ℕ → ℕ → Parse g → Parse f)
+    → ((n1 n2 n3 : ℕ) (d : Parse g) → tokens (C n1 n2 n3 d) ≡ put l1 n1 ∷ put l2 n2 ∷ put l3 n3 ∷ tokens d)
+    → ((n1 n2 n3 : ℕ) (d : Parse g) → part d ≡ w → val (C n1 n2 n3 d) ≡ v)
+    → ((n1 n2 n3 : ℕ) (d : Parse g) → levels (C n1 n2 n3 d) ≡ levels d) → Shown part w k ts
+    → Shown val v k (spelling l1 ∷ spelling l2 ∷ spelling l3 ∷ ts)
 front_three l1 l2 l3 s1 s2 s3 C toks mean same s = record {
   written = before l1 s1 (before l2 s2 (before l3 s3 s.written));
   stands = λ n1.
@@ -47,7 +52,8 @@ front_three l1 l2 l3 s1 s2 s3 C toks mean same s = record {
 
 -- two tokens, a part, a token and a part
 pub changed :
-    {U V W : Type 0} {f g h : Form} {val : Parse f → V} {left : Parse g → U} {right : Parse h → W} {v : V} {u : U} {w : W} {j k : ℕ} {ts us : List Text}
+    {U V W : Type 0} {f g h : Form} {val : Parse f → V} {left : Parse g → U} {right : Parse h → W} {v : V} {u : U} {w : W} {j k : ℕ}
+    {ts us : List Text}
     (l1 l2 m : Lexeme) → IsSpelled l1 → IsSpelled l2 → IsSpelled m → (C : ℕ → ℕ → Parse g → ℕ → Parse h → Parse f)
     → ((n1 n2 : ℕ) (a : Parse g) (o : ℕ) (b : Parse h) → tokens (C n1 n2 a o b) ≡ put l1 n1 ∷ put l2 n2 ∷ tokens a ++ put m o ∷ tokens b)
     → ((n1 n2 : ℕ) (a : Parse g) (o : ℕ) (b : Parse h) → left a ≡ u → right b ≡ w → val (C n1 n2 a o b) ≡ v)
@@ -64,7 +70,8 @@ changed l1 l2 m s1 s2 sm C toks mean same a b = record {
       record {
         parse = C n1 n2 x.parse o y.parse;
         tokens_are = toks n1 n2 x.parse o y.parse ∙ ap (λ t. put l1 n1 ∷ put l2 n2 ∷ t)
-            (joined_placed n3 a.written.toks (m ∷ b.written.toks) (tokens x.parse) (put m o ∷ tokens y.parse) x.tokens_are (ap (λ t. put m o ∷ t) y.tokens_are));
+            (joined_placed n3 a.written.toks (m ∷ b.written.toks) (tokens x.parse) (put m o ∷ tokens y.parse) x.tokens_are
+            (ap (λ t. put m o ∷ t) y.tokens_are));
         means = mean n1 n2 x.parse o y.parse x.means y.means;
         within = (let w = x.within in let z = y.within in let e = same n1 n2 x.parse o y.parse in omega (arith, w, z, e));
       };
@@ -72,7 +79,8 @@ changed l1 l2 m s1 s2 sm C toks mean same a b = record {
 
 -- two parts with three tokens between them
 pub stepped :
-    {U V W : Type 0} {f g h : Form} {val : Parse f → V} {left : Parse g → U} {right : Parse h → W} {v : V} {u : U} {w : W} {j k : ℕ} {ts us : List Text}
+    {U V W : Type 0} {f g h : Form} {val : Parse f → V} {left : Parse g → U} {right : Parse h → W} {v : V} {u : U} {w : W} {j k : ℕ}
+    {ts us : List Text}
     (l1 l2 l3 : Lexeme) → IsSpelled l1 → IsSpelled l2 → IsSpelled l3 → (C : Parse g → ℕ → ℕ → ℕ → Parse h → Parse f)
     → ((a : Parse g) (n1 n2 n3 : ℕ) (b : Parse h) → tokens (C a n1 n2 n3 b) ≡ tokens a ++ put l1 n1 ∷ put l2 n2 ∷ put l3 n3 ∷ tokens b)
     → ((a : Parse g) (n1 n2 n3 : ℕ) (b : Parse h) → left a ≡ u → right b ≡ w → val (C a n1 n2 n3 b) ≡ v)
@@ -89,7 +97,9 @@ stepped l1 l2 l3 s1 s2 s3 C toks mean same a b = record {
       record {
         parse = C x.parse n1 n2 n3 y.parse;
         tokens_are = toks x.parse n1 n2 n3 y.parse
-            ∙ joined_placed n a.written.toks (l1 ∷ l2 ∷ l3 ∷ b.written.toks) (tokens x.parse) (put l1 n1 ∷ put l2 n2 ∷ put l3 n3 ∷ tokens y.parse) x.tokens_are (ap (λ t. put l1 n1 ∷ put l2 n2 ∷ put l3 n3 ∷ t) y.tokens_are);
+            ∙ joined_placed n a.written.toks (l1 ∷ l2 ∷ l3 ∷ b.written.toks) (tokens x.parse)
+            (put l1 n1 ∷ put l2 n2 ∷ put l3 n3 ∷ tokens y.parse) x.tokens_are
+            (ap (λ t. put l1 n1 ∷ put l2 n2 ∷ put l3 n3 ∷ t) y.tokens_are);
         means = mean x.parse n1 n2 n3 y.parse x.means y.means;
         within = (let w = x.within in let z = y.within in let e = same x.parse n1 n2 n3 y.parse in omega (arith, w, z, e));
       };
@@ -97,12 +107,18 @@ stepped l1 l2 l3 s1 s2 s3 C toks mean same a b = record {
 
 -- two tokens, a part, a token, a part, a token and a part
 pub headed :
-    {T U V W : Type 0} {f g h i : Form} {val : Parse f → V} {first : Parse g → T} {second : Parse h → U} {third : Parse i → W} {v : V} {t : T} {u : U} {w : W} {j k q : ℕ} {ts us vs : List Text}
-    (l1 l2 m r : Lexeme) → IsSpelled l1 → IsSpelled l2 → IsSpelled m → IsSpelled r → (C : ℕ → ℕ → Parse g → ℕ → Parse h → ℕ → Parse i → Parse f)
-    → ((n1 n2 : ℕ) (a : Parse g) (o : ℕ) (b : Parse h) (p : ℕ) (c : Parse i) → tokens (C n1 n2 a o b p c) ≡ put l1 n1 ∷ put l2 n2 ∷ tokens a ++ put m o ∷ tokens b ++ put r p ∷ tokens c)
-    → ((n1 n2 : ℕ) (a : Parse g) (o : ℕ) (b : Parse h) (p : ℕ) (c : Parse i) → first a ≡ t → second b ≡ u → third c ≡ w → val (C n1 n2 a o b p c) ≡ v)
-    → ((n1 n2 : ℕ) (a : Parse g) (o : ℕ) (b : Parse h) (p : ℕ) (c : Parse i) → levels (C n1 n2 a o b p c) ≡ max (levels a) (max (levels b) (levels c)))
-    → Shown first t j ts → Shown second u k us → Shown third w q vs → Shown val v (max j (max k q)) (spelling l1 ∷ spelling l2 ∷ ts ++ spelling m ∷ us ++ spelling r ∷ vs)
+    {T U V W : Type 0} {f g h i : Form} {val : Parse f → V} {first : Parse g → T} {second : Parse h → U} {third : Parse i → W} {v : V}
+    {t : T} {u : U} {w : W} {j k q : ℕ} {ts us vs : List Text}
+    (l1 l2 m r : Lexeme) → IsSpelled l1 → IsSpelled l2 → IsSpelled m → IsSpelled r
+    → (C : ℕ → ℕ → Parse g → ℕ → Parse h → ℕ → Parse i → Parse f)
+    → ((n1 n2 : ℕ) (a : Parse g) (o : ℕ) (b : Parse h) (p : ℕ) (c : Parse i)
+    → tokens (C n1 n2 a o b p c) ≡ put l1 n1 ∷ put l2 n2 ∷ tokens a ++ put m o ∷ tokens b ++ put r p ∷ tokens c)
+    → ((n1 n2 : ℕ) (a : Parse g) (o : ℕ) (b : Parse h) (p : ℕ) (c : Parse i) → first a ≡ t → second b ≡ u → third c ≡ w
+    → val (C n1 n2 a o b p c) ≡ v)
+    → ((n1 n2 : ℕ) (a : Parse g) (o : ℕ) (b : Parse h) (p : ℕ) (c : Parse i)
+    → levels (C n1 n2 a o b p c) ≡ max (levels a) (max (levels b) (levels c)))
+    → Shown first t j ts → Shown second u k us → Shown third w q vs
+    → Shown val v (max j (max k q)) (spelling l1 ∷ spelling l2 ∷ ts ++ spelling m ∷ us ++ spelling r ∷ vs)
 headed l1 l2 m r s1 s2 sm sr C toks mean same a b c = record {
   written = before l1 s1 (before l2 s2 (joined (joined a.written (before m sm b.written)) (before r sr c.written)));
   stands = λ n1.
@@ -118,55 +134,69 @@ headed l1 l2 m r s1 s2 sm sr C toks mean same a b c = record {
         parse = C n1 n2 x.parse o y.parse p z.parse;
         tokens_are = toks n1 n2 x.parse o y.parse p z.parse ∙ ap (λ t. put l1 n1 ∷ put l2 n2 ∷ t)
             (joined_placed n3 inner (r ∷ c.written.toks) (tokens x.parse ++ put m o ∷ tokens y.parse) (put r p ∷ tokens z.parse)
-            (joined_placed n3 a.written.toks (m ∷ b.written.toks) (tokens x.parse) (put m o ∷ tokens y.parse) x.tokens_are (ap (λ t. put m o ∷ t) y.tokens_are))
+            (joined_placed n3 a.written.toks (m ∷ b.written.toks) (tokens x.parse) (put m o ∷ tokens y.parse) x.tokens_are
+            (ap (λ t. put m o ∷ t) y.tokens_are))
             (ap (λ t. put r p ∷ t) z.tokens_are));
         means = mean n1 n2 x.parse o y.parse p z.parse x.means y.means z.means;
-        within = (let w1 = x.within in let w2 = y.within in let w3 = z.within in let e = same n1 n2 x.parse o y.parse p z.parse in omega (arith, w1, w2, w3, e));
+        within = (let w1 = x.within in let w2 = y.within in let w3 = z.within in let e = same n1 n2 x.parse o y.parse p z.parse in
+            omega (arith, w1, w2, w3, e));
       };
 }
 
 -- `case`, its list, and the parts for an empty list and for another
 pub matched :
-    {T U V W : Type 0} {f g h i : Form} {val : Parse f → V} {first : Parse g → T} {second : Parse h → U} {third : Parse i → W} {v : V} {t : T} {u : U} {w : W} {j k q : ℕ} {ts us vs : List Text}
-    (x y : Text) → IsSpelled (name x 0) → IsSpelled (name y 0) → (C : ℕ → Parse g → ℕ → ℕ → ℕ → ℕ → Parse h → ℕ → ℕ → ℕ → ℕ → ℕ → Parse i → Parse f)
-    → ((n : ℕ) (a : Parse g) (o1 o2 o3 o4 : ℕ) (b : Parse h) (p1 p2 p3 p4 p5 : ℕ) (c : Parse i) → tokens (C n a o1 o2 o3 o4 b p1 p2 p3 p4 p5 c) ≡
-    word words.Case n ∷ tokens a ++ word words.Of o1 ∷ sign signs.OpenBracket o2 ∷ sign signs.CloseBracket o3 ∷ sign signs.Arrow o4 ∷ tokens b
-    ++ sign signs.Bar p1 ∷ name x p2 ∷ sign signs.Cons p3 ∷ name y p4 ∷ sign signs.Arrow p5 ∷ tokens c)
-    → ((n : ℕ) (a : Parse g) (o1 o2 o3 o4 : ℕ) (b : Parse h) (p1 p2 p3 p4 p5 : ℕ) (c : Parse i) → first a ≡ t → second b ≡ u → third c ≡ w → val (C n a o1 o2 o3 o4 b p1 p2 p3 p4 p5 c) ≡ v)
-    → ((n : ℕ) (a : Parse g) (o1 o2 o3 o4 : ℕ) (b : Parse h) (p1 p2 p3 p4 p5 : ℕ) (c : Parse i) → levels (C n a o1 o2 o3 o4 b p1 p2 p3 p4 p5 c) ≡ suc (max (levels a) (max (levels b) (levels c))))
+    {T U V W : Type 0} {f g h i : Form} {val : Parse f → V} {first : Parse g → T} {second : Parse h → U} {third : Parse i → W} {v : V}
+    {t : T} {u : U} {w : W} {j k q : ℕ} {ts us vs : List Text}
+    (x y : Text) → IsSpelled (name x 0) → IsSpelled (name y 0)
+    → (C : ℕ → Parse g → ℕ → ℕ → ℕ → ℕ → Parse h → ℕ → ℕ → ℕ → ℕ → ℕ → Parse i → Parse f)
+    → ((n : ℕ) (a : Parse g) (o1 o2 o3 o4 : ℕ) (b : Parse h) (p1 p2 p3 p4 p5 : ℕ) (c : Parse i)
+    → tokens (C n a o1 o2 o3 o4 b p1 p2 p3 p4 p5 c) ≡
+    keyword words.Case n ∷ tokens a ++ keyword words.Of o1 ∷ symbol signs.OpenBracket o2 ∷ symbol signs.CloseBracket o3
+    ∷ symbol signs.Arrow o4
+    ∷ tokens b
+    ++ symbol signs.Bar p1 ∷ name x p2 ∷ symbol signs.Cons p3 ∷ name y p4 ∷ symbol signs.Arrow p5 ∷ tokens c)
+    → ((n : ℕ) (a : Parse g) (o1 o2 o3 o4 : ℕ) (b : Parse h) (p1 p2 p3 p4 p5 : ℕ) (c : Parse i) → first a ≡ t → second b ≡ u → third c ≡ w
+    → val (C n a o1 o2 o3 o4 b p1 p2 p3 p4 p5 c) ≡ v)
+    → ((n : ℕ) (a : Parse g) (o1 o2 o3 o4 : ℕ) (b : Parse h) (p1 p2 p3 p4 p5 : ℕ) (c : Parse i)
+    → levels (C n a o1 o2 o3 o4 b p1 p2 p3 p4 p5 c) ≡ suc (max (levels a) (max (levels b) (levels c))))
     → Shown first t j ts → Shown second u k us → Shown third w q vs
     → Shown val v (suc (max j (max k q)))
-    (spelling (word words.Case 0) ∷ ts ++ spelling (word words.Of 0) ∷ spelling (sign signs.OpenBracket 0) ∷ spelling (sign signs.CloseBracket 0) ∷ spelling (sign signs.Arrow 0) ∷ us
-    ++ spelling (sign signs.Bar 0) ∷ x ∷ spelling (sign signs.Cons 0) ∷ y ∷ spelling (sign signs.Arrow 0) ∷ vs)
+    (spelling (keyword words.Case 0) ∷ ts ++ spelling (keyword words.Of 0) ∷ spelling (symbol signs.OpenBracket 0)
+    ∷ spelling (symbol signs.CloseBracket 0) ∷ spelling (symbol signs.Arrow 0) ∷ us
+    ++ spelling (symbol signs.Bar 0) ∷ x ∷ spelling (symbol signs.Cons 0) ∷ y ∷ spelling (symbol signs.Arrow 0) ∷ vs)
 matched x y sx sy C toks mean same a b c = record {
   written = word_before words.Case
-      (joined (joined a.written (word_before words.Of (sign_before signs.OpenBracket (sign_before signs.CloseBracket (sign_before signs.Arrow b.written)))))
+      (joined (joined a.written
+      (word_before words.Of (sign_before signs.OpenBracket (sign_before signs.CloseBracket (sign_before signs.Arrow b.written)))))
       (sign_before signs.Bar (before (name x 0) sx (sign_before signs.Cons (before (name y 0) sy (sign_before signs.Arrow c.written))))));
   stands = λ n.
-      let n1 = behind n (word words.Case 0) in
+      let n1 = behind n (keyword words.Case 0) in
       let d = a.stands n1 in
       let o1 = behind_all n1 a.written.toks in
-      let o2 = behind o1 (word words.Of 0) in
-      let o3 = behind o2 (sign signs.OpenBracket 0) in
-      let o4 = behind o3 (sign signs.CloseBracket 0) in
-      let e = b.stands (behind o4 (sign signs.Arrow 0)) in
-      let middle = word words.Of 0 ∷ sign signs.OpenBracket 0 ∷ sign signs.CloseBracket 0 ∷ sign signs.Arrow 0 ∷ b.written.toks in
+      let o2 = behind o1 (keyword words.Of 0) in
+      let o3 = behind o2 (symbol signs.OpenBracket 0) in
+      let o4 = behind o3 (symbol signs.CloseBracket 0) in
+      let e = b.stands (behind o4 (symbol signs.Arrow 0)) in
+      let middle = keyword words.Of 0 ∷ symbol signs.OpenBracket 0 ∷ symbol signs.CloseBracket 0 ∷ symbol signs.Arrow 0 ∷ b.written.toks in
       let inner = a.written.toks ++ middle in
       let p1 = behind_all n1 inner in
-      let p2 = behind p1 (sign signs.Bar 0) in
+      let p2 = behind p1 (symbol signs.Bar 0) in
       let p3 = behind p2 (name x 0) in
-      let p4 = behind p3 (sign signs.Cons 0) in
+      let p4 = behind p3 (symbol signs.Cons 0) in
       let p5 = behind p4 (name y 0) in
-      let z = c.stands (behind p5 (sign signs.Arrow 0)) in
-      let head = λ (l : List Lexeme). word words.Of o1 ∷ sign signs.OpenBracket o2 ∷ sign signs.CloseBracket o3 ∷ sign signs.Arrow o4 ∷ l in
-      let tail = λ (l : List Lexeme). sign signs.Bar p1 ∷ name x p2 ∷ sign signs.Cons p3 ∷ name y p4 ∷ sign signs.Arrow p5 ∷ l in
+      let z = c.stands (behind p5 (symbol signs.Arrow 0)) in
+      let head = λ (l : List Lexeme). keyword words.Of o1 ∷ symbol signs.OpenBracket o2 ∷ symbol signs.CloseBracket o3
+      ∷ symbol signs.Arrow o4 ∷ l in
+      let tail = λ (l : List Lexeme). symbol signs.Bar p1 ∷ name x p2 ∷ symbol signs.Cons p3 ∷ name y p4 ∷ symbol signs.Arrow p5 ∷ l in
       record {
         parse = C n d.parse o1 o2 o3 o4 e.parse p1 p2 p3 p4 p5 z.parse;
-        tokens_are = toks n d.parse o1 o2 o3 o4 e.parse p1 p2 p3 p4 p5 z.parse ∙ ap (λ l. word words.Case n ∷ l)
-            (joined_placed n1 inner (sign signs.Bar 0 ∷ name x 0 ∷ sign signs.Cons 0 ∷ name y 0 ∷ sign signs.Arrow 0 ∷ c.written.toks) (tokens d.parse ++ head (tokens e.parse)) (tail (tokens z.parse))
+        tokens_are = toks n d.parse o1 o2 o3 o4 e.parse p1 p2 p3 p4 p5 z.parse ∙ ap (λ l. keyword words.Case n ∷ l)
+            (joined_placed n1 inner (symbol signs.Bar 0 ∷ name x 0 ∷ symbol signs.Cons 0 ∷ name y 0 ∷ symbol signs.Arrow 0 ∷ c.written.toks)
+            (tokens d.parse ++ head (tokens e.parse)) (tail (tokens z.parse))
             (joined_placed n1 a.written.toks middle (tokens d.parse) (head (tokens e.parse)) d.tokens_are (ap head e.tokens_are))
             (ap tail z.tokens_are));
         means = mean n d.parse o1 o2 o3 o4 e.parse p1 p2 p3 p4 p5 z.parse d.means e.means z.means;
-        within = (let w1 = d.within in let w2 = e.within in let w3 = z.within in let s = same n d.parse o1 o2 o3 o4 e.parse p1 p2 p3 p4 p5 z.parse in omega (arith, w1, w2, w3, s));
+        within = (let w1 = d.within in let w2 = e.within in let w3 = z.within in
+            let s = same n d.parse o1 o2 o3 o4 e.parse p1 p2 p3 p4 p5 z.parse in omega (arith, w1, w2, w3, s));
       };
 }

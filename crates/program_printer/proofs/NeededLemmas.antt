@@ -2,9 +2,9 @@
 use Rattle.std.proofs.Common.{◌≡◌, ℕ, zero, suc, ◌≤◌, true, refl, arith}
 use Rattle.std.specs.Prelude.{nat_lt}
 use Rattle.std.proofs.lemmas.Bool.Decides.{nat_tests}
-use Rattle.program_grammar.specs.Grammar as grammar
-use Rattle.program_grammar.specs.Grammar.{Parse}
-use Rattle.program_printer.specs.Places.{form_at, task_form, NeedsParentheses, TaskNeedsParentheses}
+use Rattle.task_model.specs.Grammar as grammar
+use Rattle.task_model.specs.Grammar.{Parse}
+use Rattle.program_printer.specs.PrintedPlaces.{form_at, task_form, NeedsParentheses, TaskNeedsParentheses}
 
 lower : (p q r : ℕ) → p ≤ q → nat_lt q r ≡ true → nat_lt p r ≡ true
 lower p q r le h = grind (arith, nat_tests, h, le)
@@ -88,8 +88,8 @@ choice_needs (grammar.joined grammar.choice a grammar.external p b) next h = abs
 
 task_needs : (p : ℕ) (d : Parse grammar.task) (next : ℕ) → TaskNeedsParentheses (suc (suc (suc p))) d next
 task_needs p (grammar.task_plain t) next h = choice_needs t next (lower 2 _ _ (omega arith) h)
-task_needs p (grammar.task_step _ grammar.by_itself _ _ _ _ _) next h = absurd (grind (arith, nat_tests, h))
-task_needs p (grammar.task_step _ grammar.by_user _ _ _ _ _) next h = absurd (grind (arith, nat_tests, h))
+task_needs p (grammar.task_then _ _ _ _ _ _) next h = absurd (grind (arith, nat_tests, h))
+task_needs p (grammar.task_next _ _ _ _ _ _) next h = absurd (grind (arith, nat_tests, h))
 task_needs p (grammar.task_let _ _ _ _ _ _ _) next h = absurd (grind (arith, nat_tests, h))
 task_needs p (grammar.task_if _ _ _ _ _ _) next h = absurd (grind (arith, nat_tests, h))
 task_needs p (grammar.task_case _ _ _ _ _ _ _ _ _ _ _ _ _ _ _) next h = absurd (grind (arith, nat_tests, h))

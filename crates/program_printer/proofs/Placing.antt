@@ -1,16 +1,16 @@
 -- Tokens with one byte behind each, at their places.
 use Rattle.std.proofs.Common.{◌≡◌, ℕ, ◌+◌, List, [], ◌∷◌, ◌++◌, length, map, refl, sym, ap, ◌∙◌}
 use Rattle.task_model.specs.Text.{Text}
-use Rattle.task_model.specs.Token.{Spells, IsWithinLimits}
-use Rattle.program_grammar.specs.Lexemes.{Lexeme, word, sign, name, number, quote, token_term}
+use Rattle.task_model.specs.Token.{Spells, IsWithinTokenLimits}
+use Rattle.task_model.specs.Lexemes.{Lexeme, keyword, symbol, name, number, quoted_text, token_term}
 
 -- a token at another place
 abbrev pub put : Lexeme → ℕ → Lexeme
-put (word k p) n = word k n
-put (sign s p) n = sign s n
+put (keyword k p) n = keyword k n
+put (symbol s p) n = symbol s n
 put (name x p) n = name x n
 put (number t p) n = number t n
-put (quote t v p) n = quote t v n
+put (quoted_text t v p) n = quoted_text t v n
 
 abbrev pub spelling : Lexeme → Text
 spelling l = (token_term l).spelling
@@ -20,7 +20,7 @@ spellings ls = map spelling ls
 
 -- a token, wherever it stands, is spelled as its kind asks, within the limits
 abbrev pub IsSpelled : Lexeme → Type 0
-IsSpelled l = Spells (spelling l) (token_term l).kind × IsWithinLimits (token_term l).kind
+IsSpelled l = Spells (spelling l) (token_term l).kind × IsWithinTokenLimits (token_term l).kind
 
 abbrev pub AreSpelled : List Lexeme → Type 0
 AreSpelled [] = Unit {0}
@@ -56,5 +56,6 @@ behind_append n [] ys = refl
 behind_append n (x ∷ xs) ys = behind_append (behind n x) xs ys
 
 -- two runs of tokens, one behind the other
-pub joined_placed : (n : ℕ) (xs ys us vs : List Lexeme) → us ≡ placed_from n xs → vs ≡ placed_from (behind_all n xs) ys → us ++ vs ≡ placed_from n (xs ++ ys)
+pub joined_placed : (n : ℕ) (xs ys us vs : List Lexeme) → us ≡ placed_from n xs → vs ≡ placed_from (behind_all n xs) ys
+    → us ++ vs ≡ placed_from n (xs ++ ys)
 joined_placed n xs ys us vs e f = ap (λ l. l ++ vs) e ∙ ap (λ l. placed_from n xs ++ l) f ∙ sym (placed_append n xs ys)

@@ -2,11 +2,11 @@
 use Rattle.std.proofs.Common.{◌≡◌, ℕ, suc, ◌+◌, ◌≤◌, max, List, [], ◌∷◌, ◌++◌, refl, ap, ◌∙◌, arith}
 use Rattle.std.proofs.lemmas.List.{map-append}
 use Rattle.task_model.specs.Text.{Text}
-use Rattle.task_syntax.specs.declared.keyword.Keyword.{Keyword}
-use Rattle.task_syntax.specs.declared.symbol.Symbol.{Symbol}
+use Rattle.task_model.specs.declared.keyword.Keyword.{Keyword}
+use Rattle.task_model.specs.declared.symbol.Symbol.{Symbol}
 use Rattle.task_syntax.proofs.Words.{is_keyword-spelling, is_symbol-spelling}
-use Rattle.program_grammar.specs.Lexemes.{Lexeme, word, sign}
-use Rattle.program_grammar.specs.Grammar.{Form, Parse, tokens, levels}
+use Rattle.task_model.specs.Lexemes.{Lexeme, keyword, symbol}
+use Rattle.task_model.specs.Grammar.{Form, Parse, tokens, levels}
 use Rattle.program_printer.proofs.Placing.{put, spelling, spellings, IsSpelled, AreSpelled, spelled_append, behind, behind_all, placed_from, joined_placed}
 
 -- ---- tokens that are written so
@@ -29,18 +29,18 @@ joined {ts} {us} a b = record {
   texts = map-append spelling a.toks b.toks ∙ ap (λ x. x ++ spellings b.toks) a.texts ∙ ap (λ x. ts ++ x) b.texts;
 }
 
-pub word_spelled : (k : Keyword) (p : ℕ) → IsSpelled (word k p)
+pub word_spelled : (k : Keyword) (p : ℕ) → IsSpelled (keyword k p)
 word_spelled k p = (is_keyword-spelling k, tt)
 
-pub sign_spelled : (s : Symbol) (p : ℕ) → IsSpelled (sign s p)
+pub sign_spelled : (s : Symbol) (p : ℕ) → IsSpelled (symbol s p)
 sign_spelled s p = (is_symbol-spelling s, tt)
 
--- a word or a sign in front
-abbrev pub word_before : {ts : List Text} (k : Keyword) → Written ts → Written (spelling (word k 0) ∷ ts)
-word_before k w = before (word k 0) (word_spelled k 0) w
+-- a keyword or a symbol in front
+abbrev pub word_before : {ts : List Text} (k : Keyword) → Written ts → Written (spelling (keyword k 0) ∷ ts)
+word_before k w = before (keyword k 0) (word_spelled k 0) w
 
-abbrev pub sign_before : {ts : List Text} (s : Symbol) → Written ts → Written (spelling (sign s 0) ∷ ts)
-sign_before s w = before (sign s 0) (sign_spelled s 0) w
+abbrev pub sign_before : {ts : List Text} (s : Symbol) → Written ts → Written (spelling (symbol s 0) ∷ ts)
+sign_before s w = before (symbol s 0) (sign_spelled s 0) w
 
 -- ---- parses at those tokens
 -- A parse that shows this value by tokens that begin here, with so many levels.
@@ -57,18 +57,26 @@ pub record Shown {V : Type 0} {f : Form} (val : Parse f → V) (v : V) (most : �
 
 -- as many levels or more
 pub looser : {V : Type 0} {f : Form} {val : Parse f → V} {v : V} {k m : ℕ} {ts : List Text} → k ≤ m → Shown val v k ts → Shown val v m ts
-looser le s = record { written = s.written; stands = λ n. let d = s.stands n in record { parse = d.parse; tokens_are = d.tokens_are; means = d.means; within = (let w = d.within in omega (arith, w, le)) } }
+looser le s = record {
+  written = s.written;
+  stands = λ n. let d = s.stands n in
+      record { parse = d.parse; tokens_are = d.tokens_are; means = d.means; within = (let w = d.within in omega (arith, w, le)) };
+}
 
 -- one token
 pub leaf :
     {V : Type 0} {f : Form} {val : Parse f → V} {v : V} (l : Lexeme) → IsSpelled l → (C : ℕ → Parse f)
     → ((n : ℕ) → tokens (C n) ≡ put l n ∷ []) → ((n : ℕ) → val (C n) ≡ v) → ((n : ℕ) → levels (C n) ≤ 1) → Shown val v 1 (spelling l ∷ [])
-leaf l s C toks mean few = record { written = before l s ended; stands = λ n. record { parse = C n; tokens_are = toks n; means = mean n; within = few n } }
+leaf l s C toks mean few = record {
+  written = before l s ended;
+  stands = λ n. record { parse = C n; tokens_are = toks n; means = mean n; within = few n };
+}
 
 -- two tokens
 pub leaf_two :
     {V : Type 0} {f : Form} {val : Parse f → V} {v : V} (k : ℕ) (l m : Lexeme) → IsSpelled l → IsSpelled m → (C : ℕ → ℕ → Parse f)
-    → ((n o : ℕ) → tokens (C n o) ≡ put l n ∷ put m o ∷ []) → ((n o : ℕ) → val (C n o) ≡ v) → ((n o : ℕ) → levels (C n o) ≤ k) → Shown val v k (spelling l ∷ spelling m ∷ [])
+    → ((n o : ℕ) → tokens (C n o) ≡ put l n ∷ put m o ∷ []) → ((n o : ℕ) → val (C n o) ≡ v) → ((n o : ℕ) → levels (C n o) ≤ k)
+    → Shown val v k (spelling l ∷ spelling m ∷ [])
 leaf_two k l m s t C toks mean few = record {
   written = before l s (before m t ended);
   stands = λ n. let o = behind n l in record { parse = C n o; tokens_are = toks n o; means = mean n o; within = few n o };
@@ -77,15 +85,23 @@ leaf_two k l m s t C toks mean few = record {
 -- a part alone
 pub pass :
     {V W : Type 0} {f g : Form} {val : Parse f → V} {part : Parse g → W} {v : V} {w : W} {k : ℕ} {ts : List Text} (C : Parse g → Parse f)
-    → ((d : Parse g) → tokens (C d) ≡ tokens d) → ((d : Parse g) → part d ≡ w → val (C d) ≡ v) → ((d : Parse g) → levels (C d) ≡ levels d) → Shown part w k ts → Shown val v k ts
+    → ((d : Parse g) → tokens (C d) ≡ tokens d) → ((d : Parse g) → part d ≡ w → val (C d) ≡ v) → ((d : Parse g) → levels (C d) ≡ levels d)
+    → Shown part w k ts → Shown val v k ts
 pass C toks mean same s = record {
   written = s.written;
-  stands = λ n. let d = s.stands n in record { parse = C d.parse; tokens_are = toks d.parse ∙ d.tokens_are; means = mean d.parse d.means; within = (let w = d.within in let e = same d.parse in omega (arith, w, e)) };
+  stands = λ n. let d = s.stands n in record {
+    parse = C d.parse;
+    tokens_are = toks d.parse
+        ∙ d.tokens_are;
+    means = mean d.parse d.means;
+    within = (let w = d.within in let e = same d.parse in omega (arith, w, e));
+  };
 }
 
 -- a token and a part
 pub front :
-    {V W : Type 0} {f g : Form} {val : Parse f → V} {part : Parse g → W} {v : V} {w : W} {k : ℕ} {ts : List Text} (l : Lexeme) → IsSpelled l → (C : ℕ → Parse g → Parse f)
+    {V W : Type 0} {f g : Form} {val : Parse f → V} {part : Parse g → W} {v : V} {w : W} {k : ℕ} {ts : List Text} (l : Lexeme) → IsSpelled l
+    → (C : ℕ → Parse g → Parse f)
     → ((n : ℕ) (d : Parse g) → tokens (C n d) ≡ put l n ∷ tokens d) → ((n : ℕ) (d : Parse g) → part d ≡ w → val (C n d) ≡ v)
     → ((n : ℕ) (d : Parse g) → levels (C n d) ≡ suc (levels d)) → Shown part w k ts → Shown val v (suc k) (spelling l ∷ ts)
 front l sp C toks mean same s = record {
@@ -100,7 +116,8 @@ front l sp C toks mean same s = record {
 
 -- two parts with a token between them
 pub between :
-    {U V W : Type 0} {f g h : Form} {val : Parse f → V} {left : Parse g → U} {right : Parse h → W} {v : V} {u : U} {w : W} {j k : ℕ} {ts us : List Text}
+    {U V W : Type 0} {f g h : Form} {val : Parse f → V} {left : Parse g → U} {right : Parse h → W} {v : V} {u : U} {w : W} {j k : ℕ}
+    {ts us : List Text}
     (bump : ℕ) (l : Lexeme) → IsSpelled l → (C : Parse g → ℕ → Parse h → Parse f)
     → ((a : Parse g) (n : ℕ) (b : Parse h) → tokens (C a n b) ≡ tokens a ++ put l n ∷ tokens b)
     → ((a : Parse g) (n : ℕ) (b : Parse h) → left a ≡ u → right b ≡ w → val (C a n b) ≡ v)
@@ -114,7 +131,8 @@ between bump l sp C toks mean same a b = record {
       let y = b.stands (behind m l) in
       record {
         parse = C x.parse m y.parse;
-        tokens_are = toks x.parse m y.parse ∙ joined_placed n a.written.toks (l ∷ b.written.toks) (tokens x.parse) (put l m ∷ tokens y.parse) x.tokens_are (ap (λ t. put l m ∷ t) y.tokens_are);
+        tokens_are = toks x.parse m y.parse ∙ joined_placed n a.written.toks (l ∷ b.written.toks) (tokens x.parse)
+            (put l m ∷ tokens y.parse) x.tokens_are (ap (λ t. put l m ∷ t) y.tokens_are);
         means = mean x.parse m y.parse x.means y.means;
         within = (let w = x.within in let z = y.within in let e = same x.parse m y.parse in omega (arith, w, z, e));
       };
@@ -122,9 +140,12 @@ between bump l sp C toks mean same a b = record {
 
 -- a part between two tokens
 pub enclose :
-    {V W : Type 0} {f g : Form} {val : Parse f → V} {part : Parse g → W} {v : V} {w : W} {k : ℕ} {ts : List Text} (bump : ℕ) (l r : Lexeme) → IsSpelled l → IsSpelled r → (C : ℕ → Parse g → ℕ → Parse f)
-    → ((n : ℕ) (d : Parse g) (m : ℕ) → tokens (C n d m) ≡ put l n ∷ tokens d ++ put r m ∷ []) → ((n : ℕ) (d : Parse g) (m : ℕ) → part d ≡ w → val (C n d m) ≡ v)
-    → ((n : ℕ) (d : Parse g) (m : ℕ) → levels (C n d m) ≡ bump + levels d) → Shown part w k ts → Shown val v (bump + k) (spelling l ∷ ts ++ spelling r ∷ [])
+    {V W : Type 0} {f g : Form} {val : Parse f → V} {part : Parse g → W} {v : V} {w : W} {k : ℕ} {ts : List Text} (bump : ℕ) (l r : Lexeme)
+    → IsSpelled l → IsSpelled r → (C : ℕ → Parse g → ℕ → Parse f)
+    → ((n : ℕ) (d : Parse g) (m : ℕ) → tokens (C n d m) ≡ put l n ∷ tokens d ++ put r m ∷ [])
+    → ((n : ℕ) (d : Parse g) (m : ℕ) → part d ≡ w → val (C n d m) ≡ v)
+    → ((n : ℕ) (d : Parse g) (m : ℕ) → levels (C n d m) ≡ bump + levels d) → Shown part w k ts
+    → Shown val v (bump + k) (spelling l ∷ ts ++ spelling r ∷ [])
 enclose bump l r sl sr C toks mean same s = record {
   written = before l sl (joined s.written (before r sr ended));
   stands = λ n.
@@ -132,7 +153,8 @@ enclose bump l r sl sr C toks mean same s = record {
       let m = behind_all (behind n l) s.written.toks in
       record {
         parse = C n d.parse m;
-        tokens_are = toks n d.parse m ∙ ap (λ x. put l n ∷ x) (joined_placed (behind n l) s.written.toks (r ∷ []) (tokens d.parse) (put r m ∷ []) d.tokens_are refl);
+        tokens_are = toks n d.parse m ∙ ap (λ x. put l n ∷ x) (joined_placed (behind n l) s.written.toks (r ∷ []) (tokens d.parse)
+            (put r m ∷ []) d.tokens_are refl);
         means = mean n d.parse m d.means;
         within = (let w = d.within in let e = same n d.parse m in omega (arith, w, e));
       };
@@ -140,9 +162,11 @@ enclose bump l r sl sr C toks mean same s = record {
 
 -- two parts with a token before, between and behind them
 pub enclose_two :
-    {U V W : Type 0} {f g h : Form} {val : Parse f → V} {left : Parse g → U} {right : Parse h → W} {v : V} {u : U} {w : W} {j k : ℕ} {ts us : List Text}
+    {U V W : Type 0} {f g h : Form} {val : Parse f → V} {left : Parse g → U} {right : Parse h → W} {v : V} {u : U} {w : W} {j k : ℕ}
+    {ts us : List Text}
     (l m r : Lexeme) → IsSpelled l → IsSpelled m → IsSpelled r → (C : ℕ → Parse g → ℕ → Parse h → ℕ → Parse f)
-    → ((n : ℕ) (a : Parse g) (o : ℕ) (b : Parse h) (p : ℕ) → tokens (C n a o b p) ≡ put l n ∷ tokens a ++ put m o ∷ tokens b ++ put r p ∷ [])
+    → ((n : ℕ) (a : Parse g) (o : ℕ) (b : Parse h) (p : ℕ)
+    → tokens (C n a o b p) ≡ put l n ∷ tokens a ++ put m o ∷ tokens b ++ put r p ∷ [])
     → ((n : ℕ) (a : Parse g) (o : ℕ) (b : Parse h) (p : ℕ) → left a ≡ u → right b ≡ w → val (C n a o b p) ≡ v)
     → ((n : ℕ) (a : Parse g) (o : ℕ) (b : Parse h) (p : ℕ) → levels (C n a o b p) ≡ suc (max (levels a) (levels b)))
     → Shown left u j ts → Shown right w k us → Shown val v (suc (max j k)) (spelling l ∷ ts ++ spelling m ∷ us ++ spelling r ∷ [])
@@ -159,7 +183,8 @@ enclose_two l m r sl sm sr C toks mean same a b = record {
         parse = C n x.parse o y.parse p;
         tokens_are = toks n x.parse o y.parse p ∙ ap (λ t. put l n ∷ t)
             (joined_placed n1 inner (r ∷ []) (tokens x.parse ++ put m o ∷ tokens y.parse) (put r p ∷ [])
-            (joined_placed n1 a.written.toks (m ∷ b.written.toks) (tokens x.parse) (put m o ∷ tokens y.parse) x.tokens_are (ap (λ t. put m o ∷ t) y.tokens_are)) refl);
+            (joined_placed n1 a.written.toks (m ∷ b.written.toks) (tokens x.parse) (put m o ∷ tokens y.parse) x.tokens_are
+            (ap (λ t. put m o ∷ t) y.tokens_are)) refl);
         means = mean n x.parse o y.parse p x.means y.means;
         within = (let w = x.within in let z = y.within in let e = same n x.parse o y.parse p in omega (arith, w, z, e));
       };
@@ -167,9 +192,11 @@ enclose_two l m r sl sm sr C toks mean same a b = record {
 
 -- three tokens, a part, a token and a part
 pub bound :
-    {U V W : Type 0} {f g h : Form} {val : Parse f → V} {left : Parse g → U} {right : Parse h → W} {v : V} {u : U} {w : W} {j k : ℕ} {ts us : List Text}
+    {U V W : Type 0} {f g h : Form} {val : Parse f → V} {left : Parse g → U} {right : Parse h → W} {v : V} {u : U} {w : W} {j k : ℕ}
+    {ts us : List Text}
     (l1 l2 l3 m : Lexeme) → IsSpelled l1 → IsSpelled l2 → IsSpelled l3 → IsSpelled m → (C : ℕ → ℕ → ℕ → Parse g → ℕ → Parse h → Parse f)
-    → ((n1 n2 n3 : ℕ) (a : Parse g) (o : ℕ) (b : Parse h) → tokens (C n1 n2 n3 a o b) ≡ put l1 n1 ∷ put l2 n2 ∷ put l3 n3 ∷ tokens a ++ put m o ∷ tokens b)
+    → ((n1 n2 n3 : ℕ) (a : Parse g) (o : ℕ) (b : Parse h)
+    → tokens (C n1 n2 n3 a o b) ≡ put l1 n1 ∷ put l2 n2 ∷ put l3 n3 ∷ tokens a ++ put m o ∷ tokens b)
     → ((n1 n2 n3 : ℕ) (a : Parse g) (o : ℕ) (b : Parse h) → left a ≡ u → right b ≡ w → val (C n1 n2 n3 a o b) ≡ v)
     → ((n1 n2 n3 : ℕ) (a : Parse g) (o : ℕ) (b : Parse h) → levels (C n1 n2 n3 a o b) ≡ suc (max (levels a) (levels b)))
     → Shown left u j ts → Shown right w k us → Shown val v (suc (max j k)) (spelling l1 ∷ spelling l2 ∷ spelling l3 ∷ ts ++ spelling m ∷ us)
@@ -185,7 +212,8 @@ bound l1 l2 l3 m s1 s2 s3 sm C toks mean same a b = record {
       record {
         parse = C n1 n2 n3 x.parse o y.parse;
         tokens_are = toks n1 n2 n3 x.parse o y.parse ∙ ap (λ t. put l1 n1 ∷ put l2 n2 ∷ put l3 n3 ∷ t)
-            (joined_placed n4 a.written.toks (m ∷ b.written.toks) (tokens x.parse) (put m o ∷ tokens y.parse) x.tokens_are (ap (λ t. put m o ∷ t) y.tokens_are));
+            (joined_placed n4 a.written.toks (m ∷ b.written.toks) (tokens x.parse) (put m o ∷ tokens y.parse) x.tokens_are
+            (ap (λ t. put m o ∷ t) y.tokens_are));
         means = mean n1 n2 n3 x.parse o y.parse x.means y.means;
         within = (let w = x.within in let z = y.within in let e = same n1 n2 n3 x.parse o y.parse in omega (arith, w, z, e));
       };
@@ -193,12 +221,17 @@ bound l1 l2 l3 m s1 s2 s3 sm C toks mean same a b = record {
 
 -- a token before each of three parts
 pub branched :
-    {T U V W : Type 0} {f g h i : Form} {val : Parse f → V} {first : Parse g → T} {second : Parse h → U} {third : Parse i → W} {v : V} {t : T} {u : U} {w : W} {j k q : ℕ} {ts us vs : List Text}
+    {T U V W : Type 0} {f g h i : Form} {val : Parse f → V} {first : Parse g → T} {second : Parse h → U} {third : Parse i → W} {v : V}
+    {t : T} {u : U} {w : W} {j k q : ℕ} {ts us vs : List Text}
     (l m r : Lexeme) → IsSpelled l → IsSpelled m → IsSpelled r → (C : ℕ → Parse g → ℕ → Parse h → ℕ → Parse i → Parse f)
-    → ((n : ℕ) (a : Parse g) (o : ℕ) (b : Parse h) (p : ℕ) (c : Parse i) → tokens (C n a o b p c) ≡ put l n ∷ tokens a ++ put m o ∷ tokens b ++ put r p ∷ tokens c)
-    → ((n : ℕ) (a : Parse g) (o : ℕ) (b : Parse h) (p : ℕ) (c : Parse i) → first a ≡ t → second b ≡ u → third c ≡ w → val (C n a o b p c) ≡ v)
-    → ((n : ℕ) (a : Parse g) (o : ℕ) (b : Parse h) (p : ℕ) (c : Parse i) → levels (C n a o b p c) ≡ suc (max (levels a) (max (levels b) (levels c))))
-    → Shown first t j ts → Shown second u k us → Shown third w q vs → Shown val v (suc (max j (max k q))) (spelling l ∷ ts ++ spelling m ∷ us ++ spelling r ∷ vs)
+    → ((n : ℕ) (a : Parse g) (o : ℕ) (b : Parse h) (p : ℕ) (c : Parse i)
+    → tokens (C n a o b p c) ≡ put l n ∷ tokens a ++ put m o ∷ tokens b ++ put r p ∷ tokens c)
+    → ((n : ℕ) (a : Parse g) (o : ℕ) (b : Parse h) (p : ℕ) (c : Parse i) → first a ≡ t → second b ≡ u → third c ≡ w
+    → val (C n a o b p c) ≡ v)
+    → ((n : ℕ) (a : Parse g) (o : ℕ) (b : Parse h) (p : ℕ) (c : Parse i)
+    → levels (C n a o b p c) ≡ suc (max (levels a) (max (levels b) (levels c))))
+    → Shown first t j ts → Shown second u k us → Shown third w q vs
+    → Shown val v (suc (max j (max k q))) (spelling l ∷ ts ++ spelling m ∷ us ++ spelling r ∷ vs)
 branched l m r sl sm sr C toks mean same a b c = record {
   written = before l sl (joined (joined a.written (before m sm b.written)) (before r sr c.written));
   stands = λ n.
@@ -213,9 +246,11 @@ branched l m r sl sm sr C toks mean same a b c = record {
         parse = C n x.parse o y.parse p z.parse;
         tokens_are = toks n x.parse o y.parse p z.parse ∙ ap (λ t. put l n ∷ t)
             (joined_placed n1 inner (r ∷ c.written.toks) (tokens x.parse ++ put m o ∷ tokens y.parse) (put r p ∷ tokens z.parse)
-            (joined_placed n1 a.written.toks (m ∷ b.written.toks) (tokens x.parse) (put m o ∷ tokens y.parse) x.tokens_are (ap (λ t. put m o ∷ t) y.tokens_are))
+            (joined_placed n1 a.written.toks (m ∷ b.written.toks) (tokens x.parse) (put m o ∷ tokens y.parse) x.tokens_are
+            (ap (λ t. put m o ∷ t) y.tokens_are))
             (ap (λ t. put r p ∷ t) z.tokens_are));
         means = mean n x.parse o y.parse p z.parse x.means y.means z.means;
-        within = (let w1 = x.within in let w2 = y.within in let w3 = z.within in let e = same n x.parse o y.parse p z.parse in omega (arith, w1, w2, w3, e));
+        within = (let w1 = x.within in let w2 = y.within in let w3 = z.within in let e = same n x.parse o y.parse p z.parse in
+            omega (arith, w1, w2, w3, e));
       };
 }

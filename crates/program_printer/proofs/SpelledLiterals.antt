@@ -6,9 +6,9 @@ use Rattle.task_model.specs.Text.{Text}
 use Rattle.task_model.specs.Token.{number_from, IsText}
 use Rattle.task_model.specs.Value.{text_value}
 use Rattle.task_model.specs.Literal.{value_text, escaped_all}
-use Rattle.literal_text.specs.Literals.{Parse, literal, unit, bool, int, text, pair, empty, list, bytes, value, spaces}
+use Rattle.literal_text.specs.Literals.{LiteralParse, literal, unit, bool, int, text, pair, empty, list, literal_bytes, value, spaces}
 use Rattle.literal_text.proofs.PrintLemmas.{parse_of, decimal_is}
-use Rattle.program_grammar.specs.Lexemes.{number, quote}
+use Rattle.task_model.specs.Lexemes.{number, quoted_text}
 use Rattle.program_printer.proofs.Placing.{IsSpelled}
 use Rattle.program_printer.proofs.TokenLines.{parts_utf8}
 
@@ -47,14 +47,17 @@ text_printed v utf8 = let (d, are, is) = parse_of (text_value v) utf8 in go d ar
     whole zero quoted e = sym (append-nil quoted) ∙ e
     whole (suc n) quoted e = absurd (quote_ends quoted (34 ∷ escaped_all v) n e)
 
-    go : (d : Parse literal) → bytes d ≡ value_text (text_value v) → value d ≡ text_value v → IsText (value_text (text_value v)) v
+    go : (d : LiteralParse literal) → literal_bytes d ≡ value_text (text_value v) → value d ≡ text_value v
+        → IsText (value_text (text_value v)) v
     go (unit m n) are is = absurd cc
     go (bool b n) are is = absurd cc
     go (int negative digits k t n) are is = absurd cc
-    go (text quoted content t n) are is = let same : content ≡ v = cc in subst (λ w. IsText (value_text (text_value v)) w) same (subst (λ q. IsText q content) (whole n quoted are) t)
+    go (text quoted content t n) are is =
+        let same : content ≡ v = cc in subst (λ w. IsText (value_text (text_value v)) w) same
+        (subst (λ q. IsText q content) (whole n quoted are) t)
     go (pair m a k b n) are is = absurd cc
     go (empty m n) are is = absurd cc
     go (list m a others) are is = absurd cc
 
-pub text_again : (t v : Text) (p : ℕ) → IsSpelled (quote t v p) → IsSpelled (quote (value_text (text_value v)) v 0)
+pub text_again : (t v : Text) (p : ℕ) → IsSpelled (quoted_text t v p) → IsSpelled (quoted_text (value_text (text_value v)) v 0)
 text_again t v p ((ps, is, are), within) = (text_printed v (parts_utf8 ps v are).1, within)

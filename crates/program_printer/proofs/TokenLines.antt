@@ -12,14 +12,14 @@ use Rattle.unicode_ident.proofs.IdentLemmas.{is_xid_continue-ascii}
 use Rattle.literal_text.proofs.CharacterLemmas.{only_scalar}
 use Rattle.task_model.specs.Text.{Text}
 use Rattle.task_model.specs.Token.{IsWord, IsLongest, IsBlank, Piece, blank, lexeme, bytes_of, AreRight, tokens_from, HasTokens, TextPart, raw, letter, hex, PartIs, PartsAre, spelled, part_spelling, AreDigits, IsHex, Escapes, quote, backslash, line_feed, tab, carriage_return, symbols}
-use Rattle.task_syntax.specs.declared.symbol.Symbol.{Symbol}
-use Rattle.task_syntax.specs.declared.symbol.Symbol.TheVariants as signs
-use Rattle.task_syntax.specs.Spelling.{symbol_spelling}
+use Rattle.task_model.specs.declared.symbol.Symbol.{Symbol}
+use Rattle.task_model.specs.declared.symbol.Symbol.TheVariants as signs
+use Rattle.task_model.specs.Spelling.{symbol_spelling}
 use Rattle.task_syntax.proofs.Bytes.{begins_byte}
 use Rattle.task_syntax.proofs.Words.{keyword_word, any_same}
 use Rattle.task_syntax.proofs.Longest.{word_longest, digits_longest, text_longest, symbol_longest}
-use Rattle.program_grammar.specs.Lexemes.{Lexeme, word, sign, name, number, token_term, token_terms}
-use Rattle.program_grammar.specs.Lexemes as lexemes
+use Rattle.task_model.specs.Lexemes.{Lexeme, keyword, symbol, name, number, token_term, token_terms}
+use Rattle.task_model.specs.Lexemes as lexemes
 use Rattle.program_printer.proofs.Placing.{put, spelling, IsSpelled, AreSpelled, behind, placed_from}
 
 -- what stands behind a token: a line feed where it ends its line
@@ -51,7 +51,9 @@ are_low t = list_all (λ c. nat_lt c 128) t
 
 lows_utf8 : (t : Text) → are_low t ≡ true → IsUtf8 t
 lows_utf8 [] e = IsUtf8-nil
-lows_utf8 (b ∷ t) e = let both = split (nat_lt b 128) (are_low t) e in IsUtf8-append (b ∷ []) t (low_utf8 b (grind (arith, nat_tests, both))) (lows_utf8 t both.1)
+lows_utf8 (b ∷ t) e =
+    let both = split (nat_lt b 128) (are_low t) e in
+    IsUtf8-append (b ∷ []) t (low_utf8 b (grind (arith, nat_tests, both))) (lows_utf8 t both.1)
   where
     split : (p q : Bool) → (p && q) ≡ true → (p ≡ true) × (q ≡ true)
     split true q e = (refl, e)
@@ -127,15 +129,19 @@ before_gap (x ∷ t) (c ∷ u) b rest after e none =
 word_ends : (t : Text) (b : Bool) (rest : Text) → IsWord t → IsLongest t (gap b ∷ rest)
 word_ends t b rest w =
     subst (λ x. IsLongest x (gap b ∷ rest)) w.bytes
-    (word_longest w.first w.rest (gap b ∷ rest) w.starts (λ d after e. ap is_xid_continue (begins_byte (gap b) rest d after (gap_low b) e).0 ∙ no_letter b))
+    (word_longest w.first w.rest (gap b ∷ rest) w.starts
+    (λ d after e. ap is_xid_continue (begins_byte (gap b) rest d after (gap_low b) e).0 ∙ no_letter b))
 
 -- a token ends at a blank
 longest : (l : Lexeme) (b : Bool) (rest : Text) → IsSpelled l → IsLongest (spelling l) (gap b ∷ rest)
-longest (word k p) b rest s = word_ends _ b rest (keyword_word _ s.0)
-longest (sign x p) b rest s = symbol_longest x _ (gap b ∷ rest) refl (λ y after e. before_gap (symbol_spelling x) (symbol_spelling y) b rest after e (symbol_gap y))
+longest (keyword k p) b rest s = word_ends _ b rest (keyword_word _ s.0)
+longest (symbol x p) b rest s = symbol_longest x _ (gap b ∷ rest) refl
+    (λ y after e. before_gap (symbol_spelling x) (symbol_spelling y) b rest after e (symbol_gap y))
 longest (name x p) b rest s = word_ends x b rest s.0.0
-longest (number t p) b rest s = digits_longest t (gap b ∷ rest) s.0.0 s.0.1 (λ d after e. ap is_ascii_digit (begins_byte (gap b) rest d after (gap_low b) e).0 ∙ no_digit b)
-longest (lexemes.quote t v p) b rest ((ps, is, are), _) = subst (λ x. IsLongest x (gap b ∷ rest)) (sym is) (text_longest ps v (gap b ∷ rest) are)
+longest (number t p) b rest s = digits_longest t (gap b ∷ rest) s.0.0 s.0.1
+    (λ d after e. ap is_ascii_digit (begins_byte (gap b) rest d after (gap_low b) e).0 ∙ no_digit b)
+longest (lexemes.quoted_text t v p) b rest ((ps, is, are), _) =
+    subst (λ x. IsLongest x (gap b ∷ rest)) (sym is) (text_longest ps v (gap b ∷ rest) are)
 
 -- ---- UTF-8
 word_utf8 : (t : Text) → IsWord t → IsUtf8 t
@@ -150,8 +156,13 @@ part_utf8 (raw c) t h = let one = IsUtf8-encode c (only_scalar c h.0) in (one, s
 part_utf8 (letter c) t (byte, escape, is) =
     let low = escape_low c byte escape in
     (IsUtf8-append (92 ∷ []) (c ∷ []) (low_utf8 92 (omega arith)) (low_utf8 c low.0), subst IsUtf8 (sym is) (low_utf8 byte low.1))
-part_utf8 (hex a b) t (ha, hb, small, is) =
-    (IsUtf8-append (92 ∷ []) _ (low_utf8 92 (omega arith)) (IsUtf8-append (120 ∷ []) _ (low_utf8 120 (omega arith)) (IsUtf8-append (a ∷ []) (b ∷ []) (low_utf8 a (hex_low a ha)) (low_utf8 b (hex_low b hb)))), subst IsUtf8 (sym is) (low_utf8 _ small))
+part_utf8 (hex a b) t (ha, hb, small, is) = (
+  IsUtf8-append (92 ∷ []) _ (low_utf8 92 (omega arith))
+      (IsUtf8-append (120 ∷ []) _ (low_utf8 120 (omega arith))
+      (IsUtf8-append (a ∷ []) (b ∷ []) (low_utf8 a (hex_low a ha)) (low_utf8 b (hex_low b hb)))),
+  subst IsUtf8 (sym is)
+      (low_utf8 _ small),
+)
 
 pub parts_utf8 : (ps : List TextPart) (v : Text) → PartsAre ps v → IsUtf8 (spelled ps) × IsUtf8 v
 parts_utf8 [] v are = (IsUtf8-nil, subst IsUtf8 (sym are) IsUtf8-nil)
@@ -161,12 +172,13 @@ parts_utf8 (p ∷ ps) v (t, rest, is, are, split) =
     (IsUtf8-append (part_spelling p) (spelled ps) first.0 later.0, subst IsUtf8 (sym split) (IsUtf8-append t rest first.1 later.1))
 
 spelled_utf8 : (l : Lexeme) → IsSpelled l → IsUtf8 (spelling l)
-spelled_utf8 (word k p) s = word_utf8 _ (keyword_word _ s.0)
-spelled_utf8 (sign x p) s = lows_utf8 (symbol_spelling x) (any_same are_low (symbol_spelling x) symbols refl s.0)
+spelled_utf8 (keyword k p) s = word_utf8 _ (keyword_word _ s.0)
+spelled_utf8 (symbol x p) s = lows_utf8 (symbol_spelling x) (any_same are_low (symbol_spelling x) symbols refl s.0)
 spelled_utf8 (name x p) s = word_utf8 x s.0.0
 spelled_utf8 (number t p) s = digits_utf8 t s.0.1
-spelled_utf8 (lexemes.quote t v p) ((ps, is, are), _) =
-    subst IsUtf8 (sym is) (IsUtf8-append (34 ∷ []) _ (low_utf8 34 (omega arith)) (IsUtf8-append (spelled ps) (34 ∷ []) (parts_utf8 ps v are).0 (low_utf8 34 (omega arith))))
+spelled_utf8 (lexemes.quoted_text t v p) ((ps, is, are), _) =
+    subst IsUtf8 (sym is) (IsUtf8-append (34 ∷ []) _ (low_utf8 34 (omega arith))
+    (IsUtf8-append (spelled ps) (34 ∷ []) (parts_utf8 ps v are).0 (low_utf8 34 (omega arith))))
 
 -- ---- pieces
 -- a token, and whether it ends its line
@@ -185,11 +197,11 @@ pieces_right [] h = tt
 pieces_right (x ∷ xs) h = (h.0.0, h.0.1, longest x.0 x.1 (bytes_of (pieces xs)) h.0, (gap_blank x.1, pieces_right xs h.1))
 
 put_term : (l : Lexeme) (n : ℕ) → token_term (put l n) ≡ record { kind = (token_term l).kind; from = n; spelling = spelling l }
-put_term (word k p) n = refl
-put_term (sign x p) n = refl
+put_term (keyword k p) n = refl
+put_term (symbol x p) n = refl
 put_term (name x p) n = refl
 put_term (number t p) n = refl
-put_term (lexemes.quote t v p) n = refl
+put_term (lexemes.quoted_text t v p) n = refl
 
 pieces_tokens : (n : ℕ) (xs : List Spaced) → token_terms (placed_from n (tokens_in xs)) ≡ tokens_from n (pieces xs)
 pieces_tokens n [] = refl
@@ -200,8 +212,16 @@ pieces_tokens n (x ∷ xs) =
 pieces_utf8 : (xs : List Spaced) → AreSpelled (tokens_in xs) → IsUtf8 (bytes_of (pieces xs))
 pieces_utf8 [] h = IsUtf8-nil
 pieces_utf8 (x ∷ xs) h =
-    IsUtf8-append (spelling x.0) _ (spelled_utf8 x.0 h.0) (IsUtf8-append (gap x.1 ∷ []) _ (low_utf8 (gap x.1) (gap_low x.1)) (pieces_utf8 xs h.1))
+    IsUtf8-append (spelling x.0) _ (spelled_utf8 x.0 h.0)
+    (IsUtf8-append (gap x.1 ∷ []) _ (low_utf8 (gap x.1) (gap_low x.1)) (pieces_utf8 xs h.1))
 
 -- tokens that are rightly spelled are those of their text
-pub tokens_of_pieces : (xs : List Spaced) → AreSpelled (tokens_in xs) → HasTokens (bytes_of (pieces xs)) (token_terms (placed_from 0 (tokens_in xs)))
-tokens_of_pieces xs h = record { utf8 = pieces_utf8 xs h; pieces = pieces xs; bytes = refl; right = pieces_right xs h; are = sym (pieces_tokens 0 xs) }
+pub tokens_of_pieces : (xs : List Spaced) → AreSpelled (tokens_in xs)
+    → HasTokens (bytes_of (pieces xs)) (token_terms (placed_from 0 (tokens_in xs)))
+tokens_of_pieces xs h = record {
+  utf8 = pieces_utf8 xs h;
+  pieces = pieces xs;
+  bytes = refl;
+  right = pieces_right xs h;
+  are = sym (pieces_tokens 0 xs);
+}

@@ -1,5 +1,3 @@
 pub mod LaterTexts
 pub mod Lines
-pub mod Places
-pub mod Printed
-pub mod Written
+pub mod PrintedPlaces

@@ -2,7 +2,7 @@ ghost use Rattle.std.specs.Prelude.{◌≡◌, ◌∷◌, ◌++◌, [], OnOk, co
 ghost use Rattle.task_model.specs.Basic.{basic_term};
 ghost use Rattle.task_model.specs.Task.{body_term};
 ghost use Rattle.task_model.specs.Program.{kind_term, param_term, def_body_term, def_term};
-ghost use Rattle.program_printer.specs.Printed.{basic_tokens, body_texts, kind_tokens, parameter_tokens, parameters_tokens, definition_word, definition_body, definition_tokens, definitions_text, spaced};
+ghost use Rattle.task_model.specs.Printed.{basic_tokens, body_texts, kind_tokens, parameter_tokens, parameters_tokens, definition_word, definition_body, definition_tokens, definitions_text, spaced};
 ghost use Rattle.program_printer.specs.Lines.{with_tokens};
 
 use crate::expressions::{EXPRESSION, write_expression};

@@ -2,7 +2,7 @@ ghost use Rattle.std.specs.Prelude.{◌≡◌, ◌∷◌, ◌++◌, [], OnOk, If
 ghost use Rattle.task_model.specs.Value.{text_value};
 ghost use Rattle.task_model.specs.Literal.{value_text};
 ghost use Rattle.task_model.specs.Host.{host_term, as_exprs, op_expr, let_expr, if_expr, case_expr, pair_expr};
-ghost use Rattle.program_printer.specs.Printed.{expression_rank, expression_tokens, expression_at, listed_tokens};
+ghost use Rattle.task_model.specs.Printed.{expression_rank, expression_tokens, expression_at, listed_tokens};
 ghost use Rattle.program_printer.specs.Lines.{with_tokens};
 
 use crate::operators::{left_place, operator_rank, operator_text, right_place};
@@ -51,7 +51,7 @@ fn rank(e: &Host) -> u8
 fn text_literal(alloc: Global, content: &TaskText) -> Result<TaskText, OutOfMemory>
     ensures { IfOk result (λ t. t ≡ value_text (text_value content.now)) }
 {
-    let value = Value::Text(copy_text(alloc, content)?);
+    let value = Value::Text(copy_text(content)?);
     print_value(alloc, &value)
 }
 

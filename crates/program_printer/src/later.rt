@@ -12,7 +12,7 @@ impl<'p> Later<'p> {
     ghost use Rattle.std.specs.Prelude.{◌≡◌, ◌∷◌, ◌++◌, List, IfNone, IfSome};
     ghost use Rattle.task_model.specs.Task.{body_term};
     ghost use Rattle.task_model.specs.declared.task.Body.{Body};
-    ghost use Rattle.program_printer.specs.Printed.{no_body, body_numbered, body_text};
+    ghost use Rattle.task_model.specs.Printed.{no_body, body_numbered, body_text};
     ghost use Rattle.program_printer.specs.LaterTexts.{later_texts};
 
     /// The body of this number.

@@ -1,10 +1,10 @@
 ghost use Rattle.std.specs.Prelude.{ℕ, List};
 ghost use Rattle.task_model.specs.Text.{Text};
 ghost use Rattle.task_model.specs.Program.{ProgramTerm};
-ghost use Rattle.program_grammar.specs.Grammar.{Parse};
-ghost use Rattle.program_grammar.specs.ProgramText.{HasReading};
-ghost use Rattle.program_printer.specs.Places.{form_at, task_form, NeedsParentheses, TaskNeedsParentheses};
-ghost use Rattle.program_printer.specs.Written.{IsWritten};
+ghost use Rattle.task_model.specs.Grammar.{Parse};
+ghost use Rattle.task_model.specs.ProgramText.{HasReading};
+ghost use Rattle.program_printer.specs.PrintedPlaces.{form_at, task_form, NeedsParentheses, TaskNeedsParentheses};
+ghost use Rattle.task_model.specs.Written.{IsWritten};
 
 /// What was read was written: the printed text of a program that some source has reads to that program again, with at most 200 levels.
 pub fn read_is_written()

@@ -1,5 +1,5 @@
 ghost use Rattle.std.specs.Prelude.{◌≡◌};
-ghost use Rattle.program_printer.specs.Printed.{operator_text, operator_rank, left_place, right_place};
+ghost use Rattle.task_model.specs.Printed.{operator_text, operator_rank, left_place, right_place};
 
 use task_model::Op;
 

@@ -1,6 +1,6 @@
 ghost use Rattle.std.specs.Prelude.{◌≡◌, IfOk};
 ghost use Rattle.task_model.specs.Program.{program_term};
-ghost use Rattle.program_printer.specs.Printed.{program_text};
+ghost use Rattle.task_model.specs.Printed.{program_text};
 
 use crate::definitions::write_definitions;
 use crate::printer::Printer;
@@ -13,5 +13,5 @@ pub fn print_program(alloc: Global, p: &Program) -> Result<TaskText, OutOfMemory
 {
     let mut out = Printer::new(alloc);
     write_definitions(&mut out, p.bodies.as_slice(), p.defs.as_slice())?;
-    Ok(out.into_text())
+    out.into_text()
 }

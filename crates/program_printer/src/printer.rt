@@ -1,4 +1,4 @@
-ghost use Rattle.std.specs.Prelude.{◌≡◌, [], ◌∷◌, ◌++◌, OnOk, codes, if◌then◌else◌};
+ghost use Rattle.std.specs.Prelude.{◌≡◌, [], ◌∷◌, ◌++◌, IfOk, OnOk, codes, if◌then◌else◌};
 ghost use Rattle.program_printer.specs.Lines.{with_tokens};
 
 use std::alloc::Global;
@@ -67,8 +67,8 @@ impl Printer {
         self.alloc
     }
 
-    pub(crate) fn into_text(self) -> TaskText
-        ensures { result ≡ self }
+    pub(crate) fn into_text(self) -> Result<TaskText, OutOfMemory>
+        ensures { IfOk result (λ text. text ≡ self) }
     {
         TaskText::of_string(self.text)
     }

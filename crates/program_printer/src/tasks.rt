@@ -1,7 +1,7 @@
 ghost use Rattle.std.specs.Prelude.{◌≡◌, ◌∷◌, ◌++◌, [], OnOk, codes};
 ghost use Rattle.task_model.specs.Host.{host_term};
 ghost use Rattle.task_model.specs.Task.{task_term, and_task, or_task, xor_task, if_task, case_task};
-ghost use Rattle.program_printer.specs.Printed.{expression_at, binder_text, body_numbered, body_at, step_tokens, task_rank, task_tokens, task_at};
+ghost use Rattle.task_model.specs.Printed.{expression_at, binder_text, body_numbered, body_at, step_tokens, task_rank, task_tokens, task_at};
 ghost use Rattle.program_printer.specs.LaterTexts.{later_texts};
 ghost use Rattle.program_printer.specs.Lines.{with_tokens};
 

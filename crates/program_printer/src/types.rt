@@ -1,6 +1,6 @@
 ghost use Rattle.std.specs.Prelude.{◌≡◌, ◌∷◌, OnOk};
 ghost use Rattle.task_model.specs.Basic.{basic_term};
-ghost use Rattle.program_printer.specs.Printed.{basic_tokens};
+ghost use Rattle.task_model.specs.Printed.{basic_tokens};
 ghost use Rattle.program_printer.specs.Lines.{with_tokens};
 
 use crate::printer::Printer;

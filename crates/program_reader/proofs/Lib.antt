@@ -1,8 +1,7 @@
 pub mod TaskRules
 pub mod StepRules
 pub mod NumberLemmas
-pub mod WorkSeries
-pub mod WorkLemmas
+pub mod ShownTasks
 pub mod ReadingLemmas
 pub mod DefinitionRules
 pub mod ProgramLemmas

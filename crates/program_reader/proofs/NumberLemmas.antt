@@ -1,38 +1,13 @@
--- How many bodies a task has, and what it stands for where its bodies have the next numbers.
+-- What a task stands for where its bodies have the next numbers.
 use Rattle.std.proofs.Common.{◌≡◌, ℕ, suc, ◌+◌, List, [], ◌∷◌, ◌++◌, length, map, refl, sym, ap, ◌∙◌, arith, length-append}
 use Rattle.std.specs.Prelude.{Option, None, Some}
 use Rattle.std.proofs.lemmas.List.{map-append}
 use Rattle.task_model.specs.Text.{Text}
 use Rattle.task_model.specs.Task.{TaskTerm, share, BodyTerm}
 use Rattle.task_model.specs.Task as tasks
-use Rattle.program_grammar.specs.Grammar.{Form, task, task_atom, series, choice, chain, internal, external, by_itself, by_user, Parse, more_definitions, task_named, task_let, task_if, task_case, task_new, task_put, task_plain, task_step, task_group, single, joined}
-use Rattle.program_grammar.specs.Meaning.{Meaning, meaning, bodies, bodies_of}
+use Rattle.task_model.specs.Grammar.{Form, task, task_atom, series, choice, chain, internal, external, Parse, more_definitions, task_named, task_let, task_if, task_case, task_new, task_put, task_plain, task_then, task_next, task_group, list, parameters, arguments, single, joined}
+use Rattle.task_model.specs.Meaning.{Meaning, meaning, bodies, bodies_of}
 use Rattle.task_builder.specs.Numbers.{renumbered, body_renumbered}
-
-two : {A : Type 0} (xs ys : List A) {n m : ℕ} → length xs ≡ n → length ys ≡ m → length (xs ++ ys) ≡ n + m
-two xs ys h k = let e = length-append xs ys in omega (arith, e, h, k)
-
-pub bodies_count : {f : Form} (d : Parse f) (scope : List Text) (next : ℕ) → length (bodies_of d scope next) ≡ bodies d
-bodies_count (more_definitions ds d) scope next = two _ _ (bodies_count ds scope next) (bodies_count d scope (next + bodies ds))
-bodies_count (task_named p x q ps r b s t) scope next = bodies_count t _ next
-bodies_count (task_let p x q r e s t) scope next = bodies_count t _ next
-bodies_count (task_if p e q t r u) scope next = two _ _ (bodies_count t scope next) (bodies_count u scope (next + bodies t))
-bodies_count (task_case p e q r s a t b x i j y k c u) scope next = two _ _ (bodies_count t scope next) (bodies_count u _ (next + bodies t))
-bodies_count (task_new p x q r e s t) scope next = bodies_count t _ next
-bodies_count (task_put x p q e r t) scope next = bodies_count t scope next
-bodies_count (task_plain t) scope next = bodies_count t scope next
-bodies_count (task_step t o p x q r u) scope next =
-    two (bodies_of t scope next) (record { scope = scope; binder = Some x; task = meaning u (suc (next + bodies t)) } ∷ bodies_of u (scope ++ x ∷ []) (suc (next + bodies t)))
-    (bodies_count t scope next) (ap suc (bodies_count u _ (suc (next + bodies t))))
-bodies_count (task_group p t q) scope next = bodies_count t scope next
-bodies_count (single choice t) scope next = bodies_count t scope next
-bodies_count (single chain t) scope next = bodies_count t scope next
-bodies_count (joined choice t internal p u) scope next = two _ _ (bodies_count t scope next) (bodies_count u scope (next + bodies t))
-bodies_count (joined choice t external p u) scope next =
-    two (record { scope = scope; binder = None; task = meaning t (suc next) } ∷ bodies_of t scope (suc next)) (record { scope = scope; binder = None; task = meaning u (suc (suc (next + bodies t))) } ∷ bodies_of u scope (suc (suc (next + bodies t))))
-    (ap suc (bodies_count t scope (suc next))) (ap suc (bodies_count u scope (suc (suc (next + bodies t)))))
-bodies_count (joined chain t o p u) scope next = two _ _ (bodies_count t scope next) (bodies_count u scope (next + bodies t))
-bodies_count d scope next = refl
 
 later : (next n : ℕ) → suc next + n ≡ suc (next + n)
 later next n = omega arith
@@ -48,50 +23,115 @@ term_at f m next = share []
 pub term_next : {f : Form} (d : Parse f) (next : ℕ) → term_at f (meaning d) (suc next) ≡ renumbered (term_at f (meaning d) next)
 term_next (task_let p x q r e s t) next = ap (λ k. tasks.let_task x (meaning e) k) (term_next t next)
 term_next (task_if p e q t r u) next =
-    ap (λ n. tasks.if_task (meaning e) (meaning t (suc next)) (meaning u n)) (later next (bodies t)) ∙ ap (λ k. tasks.if_task (meaning e) k (meaning u (suc (next + bodies t)))) (term_next t next) ∙ ap (λ k. tasks.if_task (meaning e) (renumbered (meaning t next)) k) (term_next u (next + bodies t))
+    ap (λ n. tasks.if_task (meaning e) (meaning t (suc next)) (meaning u n)) (later next (bodies t))
+    ∙ ap (λ k. tasks.if_task (meaning e) k (meaning u (suc (next + bodies t)))) (term_next t next)
+    ∙ ap (λ k. tasks.if_task (meaning e) (renumbered (meaning t next)) k) (term_next u (next + bodies t))
 term_next (task_case p e q r s a t b x i j y k c u) next =
-    ap (λ n. tasks.case_task (meaning e) (meaning t (suc next)) x y (meaning u n)) (later next (bodies t)) ∙ ap (λ v. tasks.case_task (meaning e) v x y (meaning u (suc (next + bodies t)))) (term_next t next) ∙ ap (λ v. tasks.case_task (meaning e) (renumbered (meaning t next)) x y v) (term_next u (next + bodies t))
+    ap (λ n. tasks.case_task (meaning e) (meaning t (suc next)) x y (meaning u n)) (later next (bodies t))
+    ∙ ap (λ v. tasks.case_task (meaning e) v x y (meaning u (suc (next + bodies t)))) (term_next t next)
+    ∙ ap (λ v. tasks.case_task (meaning e) (renumbered (meaning t next)) x y v) (term_next u (next + bodies t))
 term_next (task_new p x q r e s t) next = ap (λ k. tasks.new_task x (meaning e) k) (term_next t next)
 term_next (task_put x p q e r t) next = ap (λ k. tasks.put_task x (meaning e) k) (term_next t next)
 term_next (task_plain t) next = term_next t next
-term_next (task_step t by_itself p x q r u) next = ap (λ n. tasks.then_task (meaning t (suc next)) n) (later next (bodies t)) ∙ ap (λ k. tasks.then_task k (suc (next + bodies t))) (term_next t next)
-term_next (task_step t by_user p x q r u) next = ap (λ n. tasks.next_task (meaning t (suc next)) n) (later next (bodies t)) ∙ ap (λ k. tasks.next_task k (suc (next + bodies t))) (term_next t next)
+term_next (task_then t p x q r u) next = ap (λ n. tasks.then_task (meaning t (suc next)) n) (later next (bodies t))
+    ∙ ap (λ k. tasks.then_task k (suc (next + bodies t))) (term_next t next)
+term_next (task_next t p x q r u) next = ap (λ n. tasks.next_task (meaning t (suc next)) n) (later next (bodies t))
+    ∙ ap (λ k. tasks.next_task k (suc (next + bodies t))) (term_next t next)
 term_next (task_group p t q) next = term_next t next
 term_next (single choice t) next = term_next t next
 term_next (single chain t) next = term_next t next
 term_next (joined choice t internal p u) next =
-    ap (λ n. tasks.or_task (meaning t (suc next)) (meaning u n)) (later next (bodies t)) ∙ ap (λ k. tasks.or_task k (meaning u (suc (next + bodies t)))) (term_next t next) ∙ ap (λ k. tasks.or_task (renumbered (meaning t next)) k) (term_next u (next + bodies t))
+    ap (λ n. tasks.or_task (meaning t (suc next)) (meaning u n)) (later next (bodies t))
+    ∙ ap (λ k. tasks.or_task k (meaning u (suc (next + bodies t)))) (term_next t next)
+    ∙ ap (λ k. tasks.or_task (renumbered (meaning t next)) k) (term_next u (next + bodies t))
 term_next (joined choice t external p u) next = ap (λ n. tasks.xor_task (suc next) (suc n)) (later next (bodies t))
 term_next (joined chain t o p u) next =
-    ap (λ n. tasks.and_task (meaning t (suc next)) (meaning u n)) (later next (bodies t)) ∙ ap (λ k. tasks.and_task k (meaning u (suc (next + bodies t)))) (term_next t next) ∙ ap (λ k. tasks.and_task (renumbered (meaning t next)) k) (term_next u (next + bodies t))
+    ap (λ n. tasks.and_task (meaning t (suc next)) (meaning u n)) (later next (bodies t))
+    ∙ ap (λ k. tasks.and_task k (meaning u (suc (next + bodies t)))) (term_next t next)
+    ∙ ap (λ k. tasks.and_task (renumbered (meaning t next)) k) (term_next u (next + bodies t))
 term_next d next = refl
 
 both : (xs ys us vs : List BodyTerm) → xs ≡ map body_renumbered us → ys ≡ map body_renumbered vs → xs ++ ys ≡ map body_renumbered (us ++ vs)
 both xs ys us vs h k = ap (λ l. l ++ ys) h ∙ ap (λ l. map body_renumbered us ++ l) k ∙ sym (map-append body_renumbered us vs)
 
-behind : (scope : List Text) (binder : Option Text) (t u : TaskTerm) (ys vs : List BodyTerm) → t ≡ renumbered u → ys ≡ map body_renumbered vs → ◌≡◌ {A = List BodyTerm} (record { scope = scope; binder = binder; task = t } ∷ ys) (map body_renumbered (record { scope = scope; binder = binder; task = u } ∷ vs))
-behind scope binder t u ys vs h k = ap (λ t. record { scope = scope; binder = binder; task = t } ∷ ys) h ∙ ap (λ l. record { scope = scope; binder = binder; task = renumbered u } ∷ l) k
+behind : (scope : List Text) (binder : Option Text) (t u : TaskTerm) (ys vs : List BodyTerm) → t ≡ renumbered u
+    → ys ≡ map body_renumbered vs → ◌≡◌ {A = List BodyTerm} (record {
+      scope = scope;
+      binder = binder;
+      task = t;
+    } ∷ ys) (map body_renumbered (record { scope = scope; binder = binder; task = u } ∷ vs))
+behind scope binder t u ys vs h k = ap (λ t. record {
+  scope = scope;
+  binder = binder;
+  task = t;
+} ∷ ys) h ∙ ap (λ l. record { scope = scope; binder = binder; task = renumbered u } ∷ l) k
 
-pub bodies_next : {f : Form} (d : Parse f) (scope : List Text) (next : ℕ) → bodies_of d scope (suc next) ≡ map body_renumbered (bodies_of d scope next)
-bodies_next (more_definitions ds d) scope next = ap (λ n. bodies_of ds scope (suc next) ++ bodies_of d scope n) (later next (bodies ds)) ∙ both _ _ _ _ (bodies_next ds scope next) (bodies_next d scope (next + bodies ds))
+pub bodies_next : {f : Form} (d : Parse f) (scope : List Text) (next : ℕ) → bodies_of d scope (suc next)
+    ≡ map body_renumbered (bodies_of d scope next)
+bodies_next (more_definitions ds d) scope next = ap (λ n. bodies_of ds scope (suc next) ++ bodies_of d scope n) (later next (bodies ds))
+    ∙ both _ _ _ _ (bodies_next ds scope next) (bodies_next d scope (next + bodies ds))
 bodies_next (task_named p x q ps r b s t) scope next = bodies_next t _ next
 bodies_next (task_let p x q r e s t) scope next = bodies_next t _ next
-bodies_next (task_if p e q t r u) scope next = ap (λ n. bodies_of t scope (suc next) ++ bodies_of u scope n) (later next (bodies t)) ∙ both _ _ _ _ (bodies_next t scope next) (bodies_next u scope (next + bodies t))
-bodies_next (task_case p e q r s a t b x i j y k c u) scope next = ap (λ n. bodies_of t scope (suc next) ++ bodies_of u (scope ++ x ∷ y ∷ []) n) (later next (bodies t)) ∙ both _ _ _ _ (bodies_next t scope next) (bodies_next u _ (next + bodies t))
+bodies_next (task_if p e q t r u) scope next = ap (λ n. bodies_of t scope (suc next) ++ bodies_of u scope n) (later next (bodies t))
+    ∙ both _ _ _ _ (bodies_next t scope next) (bodies_next u scope (next + bodies t))
+bodies_next (task_case p e q r s a t b x i j y k c u) scope next = ap
+    (λ n. bodies_of t scope (suc next) ++ bodies_of u (scope ++ x ∷ y ∷ []) n) (later next (bodies t))
+    ∙ both _ _ _ _ (bodies_next t scope next) (bodies_next u _ (next + bodies t))
 bodies_next (task_new p x q r e s t) scope next = bodies_next t _ next
 bodies_next (task_put x p q e r t) scope next = bodies_next t scope next
 bodies_next (task_plain t) scope next = bodies_next t scope next
-bodies_next (task_step t o p x q r u) scope next =
-    ap (λ n. bodies_of t scope (suc next) ++ (record { scope = scope; binder = Some x; task = meaning u (suc n) } ∷ bodies_of u (scope ++ x ∷ []) (suc n))) (later next (bodies t))
-    ∙ both _ _ _ _ (bodies_next t scope next) (behind _ _ _ _ _ _ (term_next u (suc (next + bodies t))) (bodies_next u _ (suc (next + bodies t))))
+bodies_next (task_then t p x q r u) scope next =
+    ap (λ n. bodies_of t scope (suc next) ++ (record {
+      scope = scope;
+      binder = Some x;
+      task = meaning u (suc n);
+    } ∷ bodies_of u (scope ++ x ∷ []) (suc n))) (later next (bodies t))
+    ∙ both _ _ _ _ (bodies_next t scope next)
+    (behind _ _ _ _ _ _ (term_next u (suc (next + bodies t))) (bodies_next u _ (suc (next + bodies t))))
+bodies_next (task_next t p x q r u) scope next =
+    ap (λ n. bodies_of t scope (suc next) ++ (record {
+      scope = scope;
+      binder = Some x;
+      task = meaning u (suc n);
+    } ∷ bodies_of u (scope ++ x ∷ []) (suc n))) (later next (bodies t))
+    ∙ both _ _ _ _ (bodies_next t scope next)
+    (behind _ _ _ _ _ _ (term_next u (suc (next + bodies t))) (bodies_next u _ (suc (next + bodies t))))
 bodies_next (task_group p t q) scope next = bodies_next t scope next
 bodies_next (single choice t) scope next = bodies_next t scope next
 bodies_next (single chain t) scope next = bodies_next t scope next
-bodies_next (joined choice t internal p u) scope next = ap (λ n. bodies_of t scope (suc next) ++ bodies_of u scope n) (later next (bodies t)) ∙ both _ _ _ _ (bodies_next t scope next) (bodies_next u scope (next + bodies t))
+bodies_next (joined choice t internal p u) scope next = ap (λ n. bodies_of t scope (suc next) ++ bodies_of u scope n)
+    (later next (bodies t)) ∙ both _ _ _ _ (bodies_next t scope next) (bodies_next u scope (next + bodies t))
 bodies_next (joined choice t external p u) scope next =
-    ap (λ n. (record { scope = scope; binder = None; task = meaning t (suc (suc next)) } ∷ bodies_of t scope (suc (suc next))) ++ (record { scope = scope; binder = None; task = meaning u (suc (suc n)) } ∷ bodies_of u scope (suc (suc n)))) (later next (bodies t))
-    ∙ both (record { scope = scope; binder = None; task = meaning t (suc (suc next)) } ∷ bodies_of t scope (suc (suc next))) (record { scope = scope; binder = None; task = meaning u (suc (suc (suc (next + bodies t)))) } ∷ bodies_of u scope (suc (suc (suc (next + bodies t)))))
-    (record { scope = scope; binder = None; task = meaning t (suc next) } ∷ bodies_of t scope (suc next)) (record { scope = scope; binder = None; task = meaning u (suc (suc (next + bodies t))) } ∷ bodies_of u scope (suc (suc (next + bodies t))))
-    (behind _ _ _ _ _ _ (term_next t (suc next)) (bodies_next t scope (suc next))) (behind _ _ _ _ _ _ (term_next u (suc (suc (next + bodies t)))) (bodies_next u scope (suc (suc (next + bodies t)))))
-bodies_next (joined chain t o p u) scope next = ap (λ n. bodies_of t scope (suc next) ++ bodies_of u scope n) (later next (bodies t)) ∙ both _ _ _ _ (bodies_next t scope next) (bodies_next u scope (next + bodies t))
+    ap (λ n. (record {
+      scope = scope;
+      binder = None;
+      task = meaning t (suc (suc next));
+    } ∷ bodies_of t scope (suc (suc next))) ++ (record {
+      scope = scope;
+      binder = None;
+      task = meaning u (suc (suc n));
+    } ∷ bodies_of u scope (suc (suc n)))) (later next (bodies t))
+    ∙ both (record {
+      scope = scope;
+      binder = None;
+      task = meaning t (suc (suc next));
+    } ∷ bodies_of t scope (suc (suc next))) (record {
+      scope = scope;
+      binder = None;
+      task = meaning u (suc (suc (suc (next + bodies t))));
+    }
+    ∷ bodies_of u scope (suc (suc (suc (next + bodies t)))))
+    (record { scope = scope; binder = None; task = meaning t (suc next) } ∷ bodies_of t scope (suc next)) (record {
+      scope = scope;
+      binder = None;
+      task = meaning u (suc (suc (next + bodies t)));
+    } ∷ bodies_of u scope (suc (suc (next + bodies t))))
+    (behind _ _ _ _ _ _ (term_next t (suc next)) (bodies_next t scope (suc next)))
+    (behind _ _ _ _ _ _ (term_next u (suc (suc (next + bodies t)))) (bodies_next u scope (suc (suc (next + bodies t)))))
+bodies_next (joined chain t o p u) scope next = ap (λ n. bodies_of t scope (suc next) ++ bodies_of u scope n) (later next (bodies t))
+    ∙ both _ _ _ _ (bodies_next t scope next) (bodies_next u scope (next + bodies t))
+bodies_next (single (list parameters) a) scope next = refl
+bodies_next (single (list arguments) a) scope next = refl
+bodies_next (joined (list parameters) a o p b) scope next = refl
+bodies_next (joined (list arguments) a o p b) scope next = refl
 bodies_next d scope next = refl

@@ -1,29 +1,35 @@
 -- What holds of each answer of a reader of tasks.
 use Rattle.std.proofs.Common.{◌≡◌, ℕ, ◌≤◌, List, Result, Ok, Err, refl, sym, subst}
-use Rattle.exact_reading.specs.declared.stop.Stop.{Stop}
-use Rattle.exact_reading.specs.declared.stop.Stop.TheVariants.{Memory}
+use Rattle.exact_reading.specs.declared.stop.ParseStop.{ParseStop}
+use Rattle.exact_reading.specs.declared.stop.ParseStop.TheVariants.{Memory}
 use Rattle.exact_reading.specs.Reading.{Language, Answer, Right}
 use Rattle.exact_reading.proofs.Productions.{no_memory}
-use Rattle.program_grammar.specs.Lexemes.{Lexeme}
-use Rattle.program_grammar.specs.Grammar.{Form, basic}
-use Rattle.program_grammar.specs.Meaning.{Meaning}
-use Rattle.program_grammar.specs.Languages.{Reading, Reads}
+use Rattle.task_model.specs.Lexemes.{Lexeme}
+use Rattle.task_model.specs.Grammar.{Form, basic}
+use Rattle.task_model.specs.Meaning.{Meaning}
+use Rattle.program_grammar.specs.Languages.{ReadsAs, Reads}
 use Rattle.program_grammar.specs.Parts.{shown_type, Listed, shown_list}
 use Rattle.task_model.specs.Basic.{BasicTerm}
 use Rattle.expression_reader.proofs.ReadingLemmas.{count_within}
 
 -- want of memory says nothing of the tokens
-pub starved : {X Y : Type 0} {A : Language Lexeme X} {F : X → Type 0} {E : List Lexeme → Type 0} {show : X → Y} {ts : List Lexeme} {e : Stop} → e ≡ Memory → Reading A F E show ts (Err e)
-starved {A = A} {F = F} {E = E} {show = show} {ts = ts} same = subst (λ e. Reading A F E show ts (Err e)) (sym same) (record { by = no_memory })
+pub starved : {X Y : Type 0} {A : Language Lexeme X} {F : X → Type 0} {E : List Lexeme → Type 0} {show : X → Y} {ts : List Lexeme}
+    {e : ParseStop} → e ≡ Memory → ReadsAs A F E show ts (Err e)
+starved {A = A} {F = F} {E = E} {show = show} {ts = ts} same = subst (λ e. ReadsAs A F E show ts (Err e)) (sym same) (record {
+  by = no_memory;
+})
 
 -- what was read has no more levels than there was room for
-pub listing_within : (f : Form) {room : ℕ} {ts rest : List Lexeme} {s : Listed (Meaning f)} → Reads f shown_list room ts (Ok (s, rest)) → s.levels ≤ room
+pub listing_within : (f : Form) {room : ℕ} {ts rest : List Lexeme} {s : Listed (Meaning f)} → Reads f shown_list room ts (Ok (s, rest))
+    → s.levels ≤ room
 listing_within f h = count_within {f = f} shown_list (λ s. s.levels) (λ d. refl) h
 
 pub type_within : {room : ℕ} {ts rest : List Lexeme} {s : BasicTerm × ℕ} → Reads basic shown_type room ts (Ok (s, rest)) → s.1 ≤ room
 type_within h = count_within shown_type (λ s. s.1) (λ d. refl) h
 
 -- an answer for a language is one for another
-pub onto_language : {X Y : Type 0} {A B : Language Lexeme X} {F : X → Type 0} {E : List Lexeme → Type 0} {show : X → Y} {ts : List Lexeme} → ((q : Answer Lexeme X) → Right A F E ts q → Right B F E ts q) → (r : Result (Y × List Lexeme) Stop) → Reading A F E show ts r → Reading B F E show ts r
+pub onto_language : {X Y : Type 0} {A B : Language Lexeme X} {F : X → Type 0} {E : List Lexeme → Type 0} {show : X → Y} {ts : List Lexeme}
+    → ((q : Answer Lexeme X) → Right A F E ts q → Right B F E ts q) → (r : Result (Y × List Lexeme) ParseStop) → ReadsAs A F E show ts r
+    → ReadsAs B F E show ts r
 onto_language on (Ok r) h = let (x, shows, right) = h.by in record { by = (x, shows, on _ right) }
 onto_language on (Err e) h = record { by = on _ h.by }

@@ -2,19 +2,19 @@
 use Rattle.std.proofs.Common.{◌≡◌, ℕ, List, [], ◌∷◌, ◌++◌, map, refl, sym, ap, ◌∙◌}
 use Rattle.std.proofs.lemmas.List.{map-append}
 use Rattle.task_model.specs.Text.{Text}
-use Rattle.task_syntax.specs.declared.keyword.Keyword.TheVariants as words
-use Rattle.task_syntax.specs.declared.symbol.Symbol.TheVariants as signs
-use Rattle.program_grammar.specs.Lexemes.{Lexeme, word, sign, name, number, quote}
-use Rattle.program_grammar.specs.Grammar.{Series, Form, Operator, comma, internal, external, together, or, and, plus, minus, join, times, quot, rem, Prefix, negative, not, fst, snd, len, Parse, no_definitions, more_definitions, function, task_named, value_named, reference_named, scalar_type, pair_type, list_type, task_let, task_if, task_case, task_new, task_put, task_plain, task_step, task_edit, task_enter, task_share, task_fail, task_call, task_group, let_in, if_then, case_of, plain, uncompared, compared, unlisted, cons, prefixed, unprefixed, digits, quoted, constant, nothing, named, content, call, group, pair, elements, nil, single, joined, empty, full, operator, relation, prefix, step, tokens, levels}
+use Rattle.task_model.specs.declared.keyword.Keyword.TheVariants as words
+use Rattle.task_model.specs.declared.symbol.Symbol.TheVariants as signs
+use Rattle.task_model.specs.Lexemes.{Lexeme, keyword, symbol, name, number, quoted_text}
+use Rattle.task_model.specs.Grammar.{Series, Form, Operator, comma, internal, external, together, or, and, plus, minus, join, times, quot, rem, Prefix, negative, not, fst, snd, len, Parse, no_definitions, more_definitions, function, task_named, value_named, reference_named, scalar_type, pair_type, list_type, task_let, task_if, task_case, task_new, task_put, task_plain, task_then, task_next, task_edit, task_enter, task_share, task_fail, task_call, task_group, let_in, if_then, case_of, plain, uncompared, compared, unlisted, cons, prefixed, unprefixed, digits, quoted, constant, nothing, named, content, call, group, pair, elements, nil, single, joined, empty, full, operator, relation, prefix, tokens, levels}
 
 module _ (a_name : Text → Text) (a_number : Text → Text) (a_quote : Text → Text → Text × Text) where
   -- a token with its name, number or text replaced
   abbrev pub respell : Lexeme → Lexeme
-  respell (word k p) = word k p
-  respell (sign s p) = sign s p
+  respell (keyword k p) = keyword k p
+  respell (symbol s p) = symbol s p
   respell (name x p) = name (a_name x) p
   respell (number t p) = number (a_number t) p
-  respell (quote t v p) = quote (a_quote t v).0 (a_quote t v).1 p
+  respell (quoted_text t v p) = quoted_text (a_quote t v).0 (a_quote t v).1 p
 
   respelled_operator : {s : Series} (o : Operator s) (p : ℕ) → respell (operator o p) ≡ operator o p
   respelled_operator (comma l) p = refl
@@ -52,11 +52,13 @@ module _ (a_name : Text → Text) (a_number : Text → Text) (a_quote : Text →
   respelled (list_type p a q) = list_type p (respelled a) q
   respelled (task_let p x q r e s t) = task_let p (a_name x) q r (respelled e) s (respelled t)
   respelled (task_if p e q t r u) = task_if p (respelled e) q (respelled t) r (respelled u)
-  respelled (task_case p e q r s a t b x i j y k c u) = task_case p (respelled e) q r s a (respelled t) b (a_name x) i j (a_name y) k c (respelled u)
+  respelled (task_case p e q r s a t b x i j y k c u) = task_case p (respelled e) q r s a (respelled t) b (a_name x) i j (a_name y) k c
+      (respelled u)
   respelled (task_new p x q r e s t) = task_new p (a_name x) q r (respelled e) s (respelled t)
   respelled (task_put x p q e r t) = task_put (a_name x) p q (respelled e) r (respelled t)
   respelled (task_plain t) = task_plain (respelled t)
-  respelled (task_step t o p x q r u) = task_step (respelled t) o p (a_name x) q r (respelled u)
+  respelled (task_then t p x q r u) = task_then (respelled t) p (a_name x) q r (respelled u)
+  respelled (task_next t p x q r u) = task_next (respelled t) p (a_name x) q r (respelled u)
   respelled (task_edit p e) = task_edit p (respelled e)
   respelled (task_enter p b) = task_enter p (respelled b)
   respelled (task_share p x q) = task_share p (a_name x) q
@@ -65,7 +67,8 @@ module _ (a_name : Text → Text) (a_number : Text → Text) (a_quote : Text →
   respelled (task_group p t q) = task_group p (respelled t) q
   respelled (let_in p x q r e s d) = let_in p (a_name x) q r (respelled e) s (respelled d)
   respelled (if_then p e q a r b) = if_then p (respelled e) q (respelled a) r (respelled b)
-  respelled (case_of p e q r s a d b x i j y k c u) = case_of p (respelled e) q r s a (respelled d) b (a_name x) i j (a_name y) k c (respelled u)
+  respelled (case_of p e q r s a d b x i j y k c u) = case_of p (respelled e) q r s a (respelled d) b (a_name x) i j (a_name y) k c
+      (respelled u)
   respelled (plain e) = plain (respelled e)
   respelled (uncompared a) = uncompared (respelled a)
   respelled (compared a o p b) = compared (respelled a) o p (respelled b)
@@ -91,36 +94,123 @@ module _ (a_name : Text → Text) (a_number : Text → Text) (a_quote : Text →
 
   pub tokens_respelled : {f : Form} (d : Parse f) → tokens (respelled d) ≡ map respell (tokens d)
   tokens_respelled no_definitions = refl
-  tokens_respelled (more_definitions ds d) = two (tokens (respelled ds)) (tokens (respelled d)) (tokens ds) (tokens d) (tokens_respelled ds) (tokens_respelled d)
-  tokens_respelled (function p x q ps r b s e) = two ((word words.Fun p ∷ name (a_name x) q ∷ tokens (respelled ps)) ++ (sign signs.Colon r ∷ tokens (respelled b))) (sign signs.Define s ∷ tokens (respelled e)) ((word words.Fun p ∷ name x q ∷ tokens ps) ++ (sign signs.Colon r ∷ tokens b)) (sign signs.Define s ∷ tokens e) (two (word words.Fun p ∷ name (a_name x) q ∷ tokens (respelled ps)) (sign signs.Colon r ∷ tokens (respelled b)) (word words.Fun p ∷ name x q ∷ tokens ps) (sign signs.Colon r ∷ tokens b) (ap (λ l. word words.Fun p ∷ name (a_name x) q ∷ l) (tokens_respelled ps)) (ap (λ l. sign signs.Colon r ∷ l) (tokens_respelled b))) (ap (λ l. sign signs.Define s ∷ l) (tokens_respelled e))
-  tokens_respelled (task_named p x q ps r b s t) = two ((word words.Task p ∷ name (a_name x) q ∷ tokens (respelled ps)) ++ (sign signs.Colon r ∷ tokens (respelled b))) (sign signs.Define s ∷ tokens (respelled t)) ((word words.Task p ∷ name x q ∷ tokens ps) ++ (sign signs.Colon r ∷ tokens b)) (sign signs.Define s ∷ tokens t) (two (word words.Task p ∷ name (a_name x) q ∷ tokens (respelled ps)) (sign signs.Colon r ∷ tokens (respelled b)) (word words.Task p ∷ name x q ∷ tokens ps) (sign signs.Colon r ∷ tokens b) (ap (λ l. word words.Task p ∷ name (a_name x) q ∷ l) (tokens_respelled ps)) (ap (λ l. sign signs.Colon r ∷ l) (tokens_respelled b))) (ap (λ l. sign signs.Define s ∷ l) (tokens_respelled t))
-  tokens_respelled (value_named x p q b) = ap (λ l. name (a_name x) p ∷ sign signs.Colon q ∷ l) (tokens_respelled b)
-  tokens_respelled (reference_named x p q r b) = ap (λ l. name (a_name x) p ∷ sign signs.Colon q ∷ word words.Ref r ∷ l) (tokens_respelled b)
+  tokens_respelled (more_definitions ds d) = two (tokens (respelled ds)) (tokens (respelled d)) (tokens ds) (tokens d) (tokens_respelled ds)
+      (tokens_respelled d)
+  tokens_respelled (function p x q ps r b s e) = two ((keyword words.Fun p ∷ name (a_name x) q ∷ tokens (respelled ps))
+      ++ (symbol signs.Colon r ∷ tokens (respelled b))) (symbol signs.Define s ∷ tokens (respelled e))
+      ((keyword words.Fun p ∷ name x q ∷ tokens ps) ++ (symbol signs.Colon r ∷ tokens b)) (symbol signs.Define s ∷ tokens e)
+      (two (keyword words.Fun p ∷ name (a_name x) q ∷ tokens (respelled ps)) (symbol signs.Colon r ∷ tokens (respelled b))
+      (keyword words.Fun p ∷ name x q ∷ tokens ps) (symbol signs.Colon r ∷ tokens b)
+      (ap (λ l. keyword words.Fun p ∷ name (a_name x) q ∷ l) (tokens_respelled ps))
+      (ap (λ l. symbol signs.Colon r ∷ l) (tokens_respelled b)))
+      (ap (λ l. symbol signs.Define s ∷ l) (tokens_respelled e))
+  tokens_respelled (task_named p x q ps r b s t) = two ((keyword words.Task p ∷ name (a_name x) q ∷ tokens (respelled ps))
+      ++ (symbol signs.Colon r ∷ tokens (respelled b))) (symbol signs.Define s ∷ tokens (respelled t))
+      ((keyword words.Task p ∷ name x q ∷ tokens ps) ++ (symbol signs.Colon r ∷ tokens b)) (symbol signs.Define s ∷ tokens t)
+      (two (keyword words.Task p ∷ name (a_name x) q ∷ tokens (respelled ps)) (symbol signs.Colon r ∷ tokens (respelled b))
+      (keyword words.Task p ∷ name x q ∷ tokens ps) (symbol signs.Colon r ∷ tokens b)
+      (ap (λ l. keyword words.Task p ∷ name (a_name x) q ∷ l) (tokens_respelled ps))
+      (ap (λ l. symbol signs.Colon r ∷ l) (tokens_respelled b)))
+      (ap (λ l. symbol signs.Define s ∷ l) (tokens_respelled t))
+  tokens_respelled (value_named x p q b) = ap (λ l. name (a_name x) p ∷ symbol signs.Colon q ∷ l) (tokens_respelled b)
+  tokens_respelled (reference_named x p q r b) = ap (λ l. name (a_name x) p ∷ symbol signs.Colon q ∷ keyword words.Ref r ∷ l)
+      (tokens_respelled b)
   tokens_respelled (scalar_type b p) = refl
-  tokens_respelled (pair_type p a q b r) = two ((sign signs.Open p ∷ tokens (respelled a)) ++ (sign signs.Comma q ∷ tokens (respelled b))) (sign signs.Close r ∷ []) ((sign signs.Open p ∷ tokens a) ++ (sign signs.Comma q ∷ tokens b)) (sign signs.Close r ∷ []) (two (sign signs.Open p ∷ tokens (respelled a)) (sign signs.Comma q ∷ tokens (respelled b)) (sign signs.Open p ∷ tokens a) (sign signs.Comma q ∷ tokens b) (ap (λ l. sign signs.Open p ∷ l) (tokens_respelled a)) (ap (λ l. sign signs.Comma q ∷ l) (tokens_respelled b))) refl
-  tokens_respelled (list_type p a q) = two (sign signs.OpenBracket p ∷ tokens (respelled a)) (sign signs.CloseBracket q ∷ []) (sign signs.OpenBracket p ∷ tokens a) (sign signs.CloseBracket q ∷ []) (ap (λ l. sign signs.OpenBracket p ∷ l) (tokens_respelled a)) refl
-  tokens_respelled (task_let p x q r e s t) = two (word words.Let p ∷ name (a_name x) q ∷ sign signs.Define r ∷ tokens (respelled e)) (word words.In s ∷ tokens (respelled t)) (word words.Let p ∷ name x q ∷ sign signs.Define r ∷ tokens e) (word words.In s ∷ tokens t) (ap (λ l. word words.Let p ∷ name (a_name x) q ∷ sign signs.Define r ∷ l) (tokens_respelled e)) (ap (λ l. word words.In s ∷ l) (tokens_respelled t))
-  tokens_respelled (task_if p e q t r u) = two ((word words.If p ∷ tokens (respelled e)) ++ (word words.Then q ∷ tokens (respelled t))) (word words.Else r ∷ tokens (respelled u)) ((word words.If p ∷ tokens e) ++ (word words.Then q ∷ tokens t)) (word words.Else r ∷ tokens u) (two (word words.If p ∷ tokens (respelled e)) (word words.Then q ∷ tokens (respelled t)) (word words.If p ∷ tokens e) (word words.Then q ∷ tokens t) (ap (λ l. word words.If p ∷ l) (tokens_respelled e)) (ap (λ l. word words.Then q ∷ l) (tokens_respelled t))) (ap (λ l. word words.Else r ∷ l) (tokens_respelled u))
-  tokens_respelled (task_case p e q r s a t b x i j y k c u) = two ((word words.Case p ∷ tokens (respelled e)) ++ (word words.Of q ∷ sign signs.OpenBracket r ∷ sign signs.CloseBracket s ∷ sign signs.Arrow a ∷ tokens (respelled t))) (sign signs.Bar b ∷ name (a_name x) i ∷ sign signs.Cons j ∷ name (a_name y) k ∷ sign signs.Arrow c ∷ tokens (respelled u)) ((word words.Case p ∷ tokens e) ++ (word words.Of q ∷ sign signs.OpenBracket r ∷ sign signs.CloseBracket s ∷ sign signs.Arrow a ∷ tokens t)) (sign signs.Bar b ∷ name x i ∷ sign signs.Cons j ∷ name y k ∷ sign signs.Arrow c ∷ tokens u) (two (word words.Case p ∷ tokens (respelled e)) (word words.Of q ∷ sign signs.OpenBracket r ∷ sign signs.CloseBracket s ∷ sign signs.Arrow a ∷ tokens (respelled t)) (word words.Case p ∷ tokens e) (word words.Of q ∷ sign signs.OpenBracket r ∷ sign signs.CloseBracket s ∷ sign signs.Arrow a ∷ tokens t) (ap (λ l. word words.Case p ∷ l) (tokens_respelled e)) (ap (λ l. word words.Of q ∷ sign signs.OpenBracket r ∷ sign signs.CloseBracket s ∷ sign signs.Arrow a ∷ l) (tokens_respelled t))) (ap (λ l. sign signs.Bar b ∷ name (a_name x) i ∷ sign signs.Cons j ∷ name (a_name y) k ∷ sign signs.Arrow c ∷ l) (tokens_respelled u))
-  tokens_respelled (task_new p x q r e s t) = two (word words.New p ∷ name (a_name x) q ∷ sign signs.Define r ∷ tokens (respelled e)) (word words.In s ∷ tokens (respelled t)) (word words.New p ∷ name x q ∷ sign signs.Define r ∷ tokens e) (word words.In s ∷ tokens t) (ap (λ l. word words.New p ∷ name (a_name x) q ∷ sign signs.Define r ∷ l) (tokens_respelled e)) (ap (λ l. word words.In s ∷ l) (tokens_respelled t))
-  tokens_respelled (task_put x p q e r t) = two (name (a_name x) p ∷ sign signs.Assign q ∷ tokens (respelled e)) (sign signs.Semicolon r ∷ tokens (respelled t)) (name x p ∷ sign signs.Assign q ∷ tokens e) (sign signs.Semicolon r ∷ tokens t) (ap (λ l. name (a_name x) p ∷ sign signs.Assign q ∷ l) (tokens_respelled e)) (ap (λ l. sign signs.Semicolon r ∷ l) (tokens_respelled t))
+  tokens_respelled (pair_type p a q b r) = two
+      ((symbol signs.Open p ∷ tokens (respelled a)) ++ (symbol signs.Comma q ∷ tokens (respelled b)))
+      (symbol signs.Close r ∷ []) ((symbol signs.Open p ∷ tokens a) ++ (symbol signs.Comma q ∷ tokens b)) (symbol signs.Close r ∷ [])
+      (two (symbol signs.Open p ∷ tokens (respelled a)) (symbol signs.Comma q ∷ tokens (respelled b)) (symbol signs.Open p ∷ tokens a)
+      (symbol signs.Comma q ∷ tokens b) (ap (λ l. symbol signs.Open p ∷ l) (tokens_respelled a))
+      (ap (λ l. symbol signs.Comma q ∷ l) (tokens_respelled b))) refl
+  tokens_respelled (list_type p a q) = two (symbol signs.OpenBracket p ∷ tokens (respelled a)) (symbol signs.CloseBracket q ∷ [])
+      (symbol signs.OpenBracket p ∷ tokens a) (symbol signs.CloseBracket q ∷ [])
+      (ap (λ l. symbol signs.OpenBracket p ∷ l) (tokens_respelled a))
+      refl
+  tokens_respelled (task_let p x q r e s t) = two (keyword words.Let p ∷ name (a_name x) q ∷ symbol signs.Define r ∷ tokens (respelled e))
+      (keyword words.In s ∷ tokens (respelled t)) (keyword words.Let p ∷ name x q ∷ symbol signs.Define r ∷ tokens e)
+      (keyword words.In s ∷ tokens t)
+      (ap (λ l. keyword words.Let p ∷ name (a_name x) q ∷ symbol signs.Define r ∷ l) (tokens_respelled e))
+      (ap (λ l. keyword words.In s ∷ l) (tokens_respelled t))
+  tokens_respelled (task_if p e q t r u) = two
+      ((keyword words.If p ∷ tokens (respelled e)) ++ (keyword words.Then q ∷ tokens (respelled t)))
+      (keyword words.Else r ∷ tokens (respelled u)) ((keyword words.If p ∷ tokens e) ++ (keyword words.Then q ∷ tokens t))
+      (keyword words.Else r ∷ tokens u) (two (keyword words.If p ∷ tokens (respelled e)) (keyword words.Then q ∷ tokens (respelled t))
+      (keyword words.If p ∷ tokens e) (keyword words.Then q ∷ tokens t) (ap (λ l. keyword words.If p ∷ l) (tokens_respelled e))
+      (ap (λ l. keyword words.Then q ∷ l) (tokens_respelled t))) (ap (λ l. keyword words.Else r ∷ l) (tokens_respelled u))
+  tokens_respelled (task_case p e q r s a t b x i j y k c u) = two
+      ((keyword words.Case p ∷ tokens (respelled e))
+      ++ (keyword words.Of q ∷ symbol signs.OpenBracket r ∷ symbol signs.CloseBracket s ∷ symbol signs.Arrow a ∷ tokens (respelled t)))
+      (symbol signs.Bar b ∷ name (a_name x) i ∷ symbol signs.Cons j ∷ name (a_name y) k ∷ symbol signs.Arrow c ∷ tokens (respelled u))
+      ((keyword words.Case p ∷ tokens e)
+      ++ (keyword words.Of q ∷ symbol signs.OpenBracket r ∷ symbol signs.CloseBracket s ∷ symbol signs.Arrow a
+      ∷ tokens t)) (symbol signs.Bar b ∷ name x i ∷ symbol signs.Cons j ∷ name y k ∷ symbol signs.Arrow c ∷ tokens u)
+      (two (keyword words.Case p ∷ tokens (respelled e)) (keyword words.Of q ∷ symbol signs.OpenBracket r ∷ symbol signs.CloseBracket s
+      ∷ symbol signs.Arrow a ∷ tokens (respelled t)) (keyword words.Case p ∷ tokens e)
+      (keyword words.Of q ∷ symbol signs.OpenBracket r ∷ symbol signs.CloseBracket s ∷ symbol signs.Arrow a ∷ tokens t)
+      (ap (λ l. keyword words.Case p ∷ l) (tokens_respelled e))
+      (ap (λ l. keyword words.Of q ∷ symbol signs.OpenBracket r ∷ symbol signs.CloseBracket s ∷ symbol signs.Arrow a ∷ l)
+      (tokens_respelled t)))
+      (ap (λ l. symbol signs.Bar b ∷ name (a_name x) i ∷ symbol signs.Cons j ∷ name (a_name y) k ∷ symbol signs.Arrow c ∷ l)
+      (tokens_respelled u))
+  tokens_respelled (task_new p x q r e s t) = two (keyword words.New p ∷ name (a_name x) q ∷ symbol signs.Define r ∷ tokens (respelled e))
+      (keyword words.In s ∷ tokens (respelled t)) (keyword words.New p ∷ name x q ∷ symbol signs.Define r ∷ tokens e)
+      (keyword words.In s ∷ tokens t)
+      (ap (λ l. keyword words.New p ∷ name (a_name x) q ∷ symbol signs.Define r ∷ l) (tokens_respelled e))
+      (ap (λ l. keyword words.In s ∷ l) (tokens_respelled t))
+  tokens_respelled (task_put x p q e r t) = two (name (a_name x) p ∷ symbol signs.Assign q ∷ tokens (respelled e))
+      (symbol signs.Semicolon r ∷ tokens (respelled t)) (name x p ∷ symbol signs.Assign q ∷ tokens e) (symbol signs.Semicolon r ∷ tokens t)
+      (ap (λ l. name (a_name x) p ∷ symbol signs.Assign q ∷ l) (tokens_respelled e))
+      (ap (λ l. symbol signs.Semicolon r ∷ l) (tokens_respelled t))
   tokens_respelled (task_plain t) = tokens_respelled t
-  tokens_respelled (task_step t o p x q r u) = two (tokens (respelled t)) (sign (step o) p ∷ name (a_name x) q ∷ sign signs.Dot r ∷ tokens (respelled u)) (tokens t) (sign (step o) p ∷ name x q ∷ sign signs.Dot r ∷ tokens u) (tokens_respelled t) (ap (λ l. sign (step o) p ∷ name (a_name x) q ∷ sign signs.Dot r ∷ l) (tokens_respelled u))
-  tokens_respelled (task_edit p e) = ap (λ l. word words.Edit p ∷ l) (tokens_respelled e)
-  tokens_respelled (task_enter p b) = ap (λ l. word words.Enter p ∷ l) (tokens_respelled b)
+  tokens_respelled (task_then t p x q r u) = two (tokens (respelled t))
+      (symbol signs.InternalStep p ∷ name (a_name x) q ∷ symbol signs.Dot r
+      ∷ tokens (respelled u)) (tokens t) (symbol signs.InternalStep p ∷ name x q ∷ symbol signs.Dot r ∷ tokens u) (tokens_respelled t)
+      (ap (λ l. symbol signs.InternalStep p ∷ name (a_name x) q ∷ symbol signs.Dot r ∷ l) (tokens_respelled u))
+  tokens_respelled (task_next t p x q r u) = two (tokens (respelled t)) (symbol signs.UserStep p ∷ name (a_name x) q ∷ symbol signs.Dot r
+      ∷ tokens (respelled u)) (tokens t) (symbol signs.UserStep p ∷ name x q ∷ symbol signs.Dot r ∷ tokens u) (tokens_respelled t)
+      (ap (λ l. symbol signs.UserStep p ∷ name (a_name x) q ∷ symbol signs.Dot r ∷ l) (tokens_respelled u))
+  tokens_respelled (task_edit p e) = ap (λ l. keyword words.Edit p ∷ l) (tokens_respelled e)
+  tokens_respelled (task_enter p b) = ap (λ l. keyword words.Enter p ∷ l) (tokens_respelled b)
   tokens_respelled (task_share p x q) = refl
-  tokens_respelled (task_fail p b) = ap (λ l. word words.Fail p ∷ l) (tokens_respelled b)
+  tokens_respelled (task_fail p b) = ap (λ l. keyword words.Fail p ∷ l) (tokens_respelled b)
   tokens_respelled (task_call x p es) = ap (λ l. name (a_name x) p ∷ l) (tokens_respelled es)
-  tokens_respelled (task_group p t q) = two (sign signs.Open p ∷ tokens (respelled t)) (sign signs.Close q ∷ []) (sign signs.Open p ∷ tokens t) (sign signs.Close q ∷ []) (ap (λ l. sign signs.Open p ∷ l) (tokens_respelled t)) refl
-  tokens_respelled (let_in p x q r e s d) = two (word words.Let p ∷ name (a_name x) q ∷ sign signs.Define r ∷ tokens (respelled e)) (word words.In s ∷ tokens (respelled d)) (word words.Let p ∷ name x q ∷ sign signs.Define r ∷ tokens e) (word words.In s ∷ tokens d) (ap (λ l. word words.Let p ∷ name (a_name x) q ∷ sign signs.Define r ∷ l) (tokens_respelled e)) (ap (λ l. word words.In s ∷ l) (tokens_respelled d))
-  tokens_respelled (if_then p e q a r b) = two ((word words.If p ∷ tokens (respelled e)) ++ (word words.Then q ∷ tokens (respelled a))) (word words.Else r ∷ tokens (respelled b)) ((word words.If p ∷ tokens e) ++ (word words.Then q ∷ tokens a)) (word words.Else r ∷ tokens b) (two (word words.If p ∷ tokens (respelled e)) (word words.Then q ∷ tokens (respelled a)) (word words.If p ∷ tokens e) (word words.Then q ∷ tokens a) (ap (λ l. word words.If p ∷ l) (tokens_respelled e)) (ap (λ l. word words.Then q ∷ l) (tokens_respelled a))) (ap (λ l. word words.Else r ∷ l) (tokens_respelled b))
-  tokens_respelled (case_of p e q r s a d b x i j y k c u) = two ((word words.Case p ∷ tokens (respelled e)) ++ (word words.Of q ∷ sign signs.OpenBracket r ∷ sign signs.CloseBracket s ∷ sign signs.Arrow a ∷ tokens (respelled d))) (sign signs.Bar b ∷ name (a_name x) i ∷ sign signs.Cons j ∷ name (a_name y) k ∷ sign signs.Arrow c ∷ tokens (respelled u)) ((word words.Case p ∷ tokens e) ++ (word words.Of q ∷ sign signs.OpenBracket r ∷ sign signs.CloseBracket s ∷ sign signs.Arrow a ∷ tokens d)) (sign signs.Bar b ∷ name x i ∷ sign signs.Cons j ∷ name y k ∷ sign signs.Arrow c ∷ tokens u) (two (word words.Case p ∷ tokens (respelled e)) (word words.Of q ∷ sign signs.OpenBracket r ∷ sign signs.CloseBracket s ∷ sign signs.Arrow a ∷ tokens (respelled d)) (word words.Case p ∷ tokens e) (word words.Of q ∷ sign signs.OpenBracket r ∷ sign signs.CloseBracket s ∷ sign signs.Arrow a ∷ tokens d) (ap (λ l. word words.Case p ∷ l) (tokens_respelled e)) (ap (λ l. word words.Of q ∷ sign signs.OpenBracket r ∷ sign signs.CloseBracket s ∷ sign signs.Arrow a ∷ l) (tokens_respelled d))) (ap (λ l. sign signs.Bar b ∷ name (a_name x) i ∷ sign signs.Cons j ∷ name (a_name y) k ∷ sign signs.Arrow c ∷ l) (tokens_respelled u))
+  tokens_respelled (task_group p t q) = two (symbol signs.Open p ∷ tokens (respelled t)) (symbol signs.Close q ∷ [])
+      (symbol signs.Open p ∷ tokens t) (symbol signs.Close q ∷ []) (ap (λ l. symbol signs.Open p ∷ l) (tokens_respelled t)) refl
+  tokens_respelled (let_in p x q r e s d) = two (keyword words.Let p ∷ name (a_name x) q ∷ symbol signs.Define r ∷ tokens (respelled e))
+      (keyword words.In s ∷ tokens (respelled d)) (keyword words.Let p ∷ name x q ∷ symbol signs.Define r ∷ tokens e)
+      (keyword words.In s ∷ tokens d)
+      (ap (λ l. keyword words.Let p ∷ name (a_name x) q ∷ symbol signs.Define r ∷ l) (tokens_respelled e))
+      (ap (λ l. keyword words.In s ∷ l) (tokens_respelled d))
+  tokens_respelled (if_then p e q a r b) = two
+      ((keyword words.If p ∷ tokens (respelled e)) ++ (keyword words.Then q ∷ tokens (respelled a)))
+      (keyword words.Else r ∷ tokens (respelled b)) ((keyword words.If p ∷ tokens e) ++ (keyword words.Then q ∷ tokens a))
+      (keyword words.Else r ∷ tokens b) (two (keyword words.If p ∷ tokens (respelled e)) (keyword words.Then q ∷ tokens (respelled a))
+      (keyword words.If p ∷ tokens e) (keyword words.Then q ∷ tokens a) (ap (λ l. keyword words.If p ∷ l) (tokens_respelled e))
+      (ap (λ l. keyword words.Then q ∷ l) (tokens_respelled a))) (ap (λ l. keyword words.Else r ∷ l) (tokens_respelled b))
+  tokens_respelled (case_of p e q r s a d b x i j y k c u) = two
+      ((keyword words.Case p ∷ tokens (respelled e))
+      ++ (keyword words.Of q ∷ symbol signs.OpenBracket r ∷ symbol signs.CloseBracket s ∷ symbol signs.Arrow a ∷ tokens (respelled d)))
+      (symbol signs.Bar b ∷ name (a_name x) i ∷ symbol signs.Cons j ∷ name (a_name y) k ∷ symbol signs.Arrow c ∷ tokens (respelled u))
+      ((keyword words.Case p ∷ tokens e)
+      ++ (keyword words.Of q ∷ symbol signs.OpenBracket r ∷ symbol signs.CloseBracket s ∷ symbol signs.Arrow a
+      ∷ tokens d)) (symbol signs.Bar b ∷ name x i ∷ symbol signs.Cons j ∷ name y k ∷ symbol signs.Arrow c ∷ tokens u)
+      (two (keyword words.Case p ∷ tokens (respelled e)) (keyword words.Of q ∷ symbol signs.OpenBracket r ∷ symbol signs.CloseBracket s
+      ∷ symbol signs.Arrow a ∷ tokens (respelled d)) (keyword words.Case p ∷ tokens e)
+      (keyword words.Of q ∷ symbol signs.OpenBracket r ∷ symbol signs.CloseBracket s ∷ symbol signs.Arrow a ∷ tokens d)
+      (ap (λ l. keyword words.Case p ∷ l) (tokens_respelled e))
+      (ap (λ l. keyword words.Of q ∷ symbol signs.OpenBracket r ∷ symbol signs.CloseBracket s ∷ symbol signs.Arrow a ∷ l)
+      (tokens_respelled d)))
+      (ap (λ l. symbol signs.Bar b ∷ name (a_name x) i ∷ symbol signs.Cons j ∷ name (a_name y) k ∷ symbol signs.Arrow c ∷ l)
+      (tokens_respelled u))
   tokens_respelled (plain e) = tokens_respelled e
   tokens_respelled (uncompared a) = tokens_respelled a
-  tokens_respelled (compared a o p b) = two (tokens (respelled a)) (sign (relation o) p ∷ tokens (respelled b)) (tokens a) (sign (relation o) p ∷ tokens b) (tokens_respelled a) (ap (λ l. sign (relation o) p ∷ l) (tokens_respelled b))
+  tokens_respelled (compared a o p b) = two (tokens (respelled a)) (symbol (relation o) p ∷ tokens (respelled b)) (tokens a)
+      (symbol (relation o) p ∷ tokens b) (tokens_respelled a) (ap (λ l. symbol (relation o) p ∷ l) (tokens_respelled b))
   tokens_respelled (unlisted a) = tokens_respelled a
-  tokens_respelled (cons a p b) = two (tokens (respelled a)) (sign signs.Cons p ∷ tokens (respelled b)) (tokens a) (sign signs.Cons p ∷ tokens b) (tokens_respelled a) (ap (λ l. sign signs.Cons p ∷ l) (tokens_respelled b))
-  tokens_respelled (prefixed o p a) = ap (λ t. t ∷ tokens (respelled a)) (sym (respelled_prefix o p)) ∙ ap (λ l. respell (prefix o p) ∷ l) (tokens_respelled a)
+  tokens_respelled (cons a p b) = two (tokens (respelled a)) (symbol signs.Cons p ∷ tokens (respelled b)) (tokens a)
+      (symbol signs.Cons p ∷ tokens b) (tokens_respelled a) (ap (λ l. symbol signs.Cons p ∷ l) (tokens_respelled b))
+  tokens_respelled (prefixed o p a) = ap (λ t. t ∷ tokens (respelled a)) (sym (respelled_prefix o p)) ∙ ap (λ l. respell (prefix o p) ∷ l)
+      (tokens_respelled a)
   tokens_respelled (unprefixed a) = tokens_respelled a
   tokens_respelled (digits t p) = refl
   tokens_respelled (quoted t v p) = refl
@@ -129,20 +219,34 @@ module _ (a_name : Text → Text) (a_number : Text → Text) (a_quote : Text →
   tokens_respelled (named x p) = refl
   tokens_respelled (content p x q) = refl
   tokens_respelled (call x p es) = ap (λ l. name (a_name x) p ∷ l) (tokens_respelled es)
-  tokens_respelled (group p e q) = two (sign signs.Open p ∷ tokens (respelled e)) (sign signs.Close q ∷ []) (sign signs.Open p ∷ tokens e) (sign signs.Close q ∷ []) (ap (λ l. sign signs.Open p ∷ l) (tokens_respelled e)) refl
-  tokens_respelled (pair p a q b r) = two ((sign signs.Open p ∷ tokens (respelled a)) ++ (sign signs.Comma q ∷ tokens (respelled b))) (sign signs.Close r ∷ []) ((sign signs.Open p ∷ tokens a) ++ (sign signs.Comma q ∷ tokens b)) (sign signs.Close r ∷ []) (two (sign signs.Open p ∷ tokens (respelled a)) (sign signs.Comma q ∷ tokens (respelled b)) (sign signs.Open p ∷ tokens a) (sign signs.Comma q ∷ tokens b) (ap (λ l. sign signs.Open p ∷ l) (tokens_respelled a)) (ap (λ l. sign signs.Comma q ∷ l) (tokens_respelled b))) refl
-  tokens_respelled (elements p es q) = two (sign signs.OpenBracket p ∷ tokens (respelled es)) (sign signs.CloseBracket q ∷ []) (sign signs.OpenBracket p ∷ tokens es) (sign signs.CloseBracket q ∷ []) (ap (λ l. sign signs.OpenBracket p ∷ l) (tokens_respelled es)) refl
-  tokens_respelled (nil p b) = ap (λ l. word words.Nil p ∷ l) (tokens_respelled b)
+  tokens_respelled (group p e q) = two (symbol signs.Open p ∷ tokens (respelled e)) (symbol signs.Close q ∷ [])
+      (symbol signs.Open p ∷ tokens e)
+      (symbol signs.Close q ∷ []) (ap (λ l. symbol signs.Open p ∷ l) (tokens_respelled e)) refl
+  tokens_respelled (pair p a q b r) = two ((symbol signs.Open p ∷ tokens (respelled a)) ++ (symbol signs.Comma q ∷ tokens (respelled b)))
+      (symbol signs.Close r ∷ []) ((symbol signs.Open p ∷ tokens a) ++ (symbol signs.Comma q ∷ tokens b)) (symbol signs.Close r ∷ [])
+      (two (symbol signs.Open p ∷ tokens (respelled a)) (symbol signs.Comma q ∷ tokens (respelled b)) (symbol signs.Open p ∷ tokens a)
+      (symbol signs.Comma q ∷ tokens b) (ap (λ l. symbol signs.Open p ∷ l) (tokens_respelled a))
+      (ap (λ l. symbol signs.Comma q ∷ l) (tokens_respelled b))) refl
+  tokens_respelled (elements p es q) = two (symbol signs.OpenBracket p ∷ tokens (respelled es)) (symbol signs.CloseBracket q ∷ [])
+      (symbol signs.OpenBracket p ∷ tokens es) (symbol signs.CloseBracket q ∷ [])
+      (ap (λ l. symbol signs.OpenBracket p ∷ l) (tokens_respelled es))
+      refl
+  tokens_respelled (nil p b) = ap (λ l. keyword words.Nil p ∷ l) (tokens_respelled b)
   tokens_respelled (single s a) = tokens_respelled a
-  tokens_respelled (joined s a o p b) = two (tokens (respelled a)) (operator o p ∷ tokens (respelled b)) (tokens a) (operator o p ∷ tokens b) (tokens_respelled a) (ap (λ t. t ∷ tokens (respelled b)) (sym (respelled_operator o p)) ∙ ap (λ l. respell (operator o p) ∷ l) (tokens_respelled b))
+  tokens_respelled (joined s a o p b) = two (tokens (respelled a)) (operator o p ∷ tokens (respelled b)) (tokens a)
+      (operator o p ∷ tokens b) (tokens_respelled a) (ap (λ t. t ∷ tokens (respelled b)) (sym (respelled_operator o p))
+      ∙ ap (λ l. respell (operator o p) ∷ l) (tokens_respelled b))
   tokens_respelled (empty l p q) = refl
-  tokens_respelled (full l p es q) = two (sign signs.Open p ∷ tokens (respelled es)) (sign signs.Close q ∷ []) (sign signs.Open p ∷ tokens es) (sign signs.Close q ∷ []) (ap (λ l. sign signs.Open p ∷ l) (tokens_respelled es)) refl
+  tokens_respelled (full l p es q) = two (symbol signs.Open p ∷ tokens (respelled es)) (symbol signs.Close q ∷ [])
+      (symbol signs.Open p ∷ tokens es) (symbol signs.Close q ∷ []) (ap (λ l. symbol signs.Open p ∷ l) (tokens_respelled es)) refl
 
   pub levels_respelled : {f : Form} (d : Parse f) → levels (respelled d) ≡ levels d
   levels_respelled no_definitions = refl
   levels_respelled (more_definitions ds d) = let h0 = levels_respelled ds in let h1 = levels_respelled d in cc
-  levels_respelled (function p x q ps r b s e) = let h0 = levels_respelled ps in let h1 = levels_respelled b in let h2 = levels_respelled e in cc
-  levels_respelled (task_named p x q ps r b s t) = let h0 = levels_respelled ps in let h1 = levels_respelled b in let h2 = levels_respelled t in cc
+  levels_respelled (function p x q ps r b s e) = let h0 = levels_respelled ps in let h1 = levels_respelled b in
+      let h2 = levels_respelled e in cc
+  levels_respelled (task_named p x q ps r b s t) = let h0 = levels_respelled ps in let h1 = levels_respelled b in
+      let h2 = levels_respelled t in cc
   levels_respelled (value_named x p q b) = levels_respelled b
   levels_respelled (reference_named x p q r b) = levels_respelled b
   levels_respelled (scalar_type b p) = refl
@@ -150,11 +254,13 @@ module _ (a_name : Text → Text) (a_number : Text → Text) (a_quote : Text →
   levels_respelled (list_type p a q) = let h0 = levels_respelled a in cc
   levels_respelled (task_let p x q r e s t) = let h0 = levels_respelled e in let h1 = levels_respelled t in cc
   levels_respelled (task_if p e q t r u) = let h0 = levels_respelled e in let h1 = levels_respelled t in let h2 = levels_respelled u in cc
-  levels_respelled (task_case p e q r s a t b x i j y k c u) = let h0 = levels_respelled e in let h1 = levels_respelled t in let h2 = levels_respelled u in cc
+  levels_respelled (task_case p e q r s a t b x i j y k c u) = let h0 = levels_respelled e in let h1 = levels_respelled t in
+      let h2 = levels_respelled u in cc
   levels_respelled (task_new p x q r e s t) = let h0 = levels_respelled e in let h1 = levels_respelled t in cc
   levels_respelled (task_put x p q e r t) = let h0 = levels_respelled e in let h1 = levels_respelled t in cc
   levels_respelled (task_plain t) = levels_respelled t
-  levels_respelled (task_step t o p x q r u) = let h0 = levels_respelled t in let h1 = levels_respelled u in cc
+  levels_respelled (task_then t p x q r u) = let h0 = levels_respelled t in let h1 = levels_respelled u in cc
+  levels_respelled (task_next t p x q r u) = let h0 = levels_respelled t in let h1 = levels_respelled u in cc
   levels_respelled (task_edit p e) = let h0 = levels_respelled e in cc
   levels_respelled (task_enter p b) = let h0 = levels_respelled b in cc
   levels_respelled (task_share p x q) = refl
@@ -163,7 +269,8 @@ module _ (a_name : Text → Text) (a_number : Text → Text) (a_quote : Text →
   levels_respelled (task_group p t q) = let h0 = levels_respelled t in cc
   levels_respelled (let_in p x q r e s d) = let h0 = levels_respelled e in let h1 = levels_respelled d in cc
   levels_respelled (if_then p e q a r b) = let h0 = levels_respelled e in let h1 = levels_respelled a in let h2 = levels_respelled b in cc
-  levels_respelled (case_of p e q r s a d b x i j y k c u) = let h0 = levels_respelled e in let h1 = levels_respelled d in let h2 = levels_respelled u in cc
+  levels_respelled (case_of p e q r s a d b x i j y k c u) = let h0 = levels_respelled e in let h1 = levels_respelled d in
+      let h2 = levels_respelled u in cc
   levels_respelled (plain e) = levels_respelled e
   levels_respelled (uncompared a) = levels_respelled a
   levels_respelled (compared a o p b) = let h0 = levels_respelled a in let h1 = levels_respelled b in cc

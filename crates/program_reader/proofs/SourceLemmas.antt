@@ -5,18 +5,18 @@ use Rattle.std.specs.Cmp.Lexicographic.{pointwise}
 use Rattle.std.proofs.lemmas.List.{map-append, length-map}
 use Rattle.task_model.specs.Text.{Text}
 use Rattle.task_model.specs.Token.{TokenTerm, text_token}
-use Rattle.task_syntax.specs.declared.keyword.Keyword.{Keyword}
-use Rattle.task_syntax.specs.declared.keyword.Keyword.TheVariants as words
-use Rattle.task_syntax.specs.declared.symbol.Symbol.{Symbol}
-use Rattle.task_syntax.specs.declared.symbol.Symbol.TheVariants as signs
-use Rattle.task_syntax.specs.Spelling.{keyword_spelling, symbol_spelling}
-use Rattle.exact_reading.specs.declared.stop.Kind.{Kind}
-use Rattle.exact_reading.specs.declared.stop.Kind.TheVariants.{Unexpected, TooNested}
-use Rattle.exact_reading.specs.Reading.{Within, Alive, Always}
+use Rattle.task_model.specs.declared.keyword.Keyword.{Keyword}
+use Rattle.task_model.specs.declared.keyword.Keyword.TheVariants as words
+use Rattle.task_model.specs.declared.symbol.Symbol.{Symbol}
+use Rattle.task_model.specs.declared.symbol.Symbol.TheVariants as signs
+use Rattle.task_model.specs.Spelling.{keyword_spelling, symbol_spelling}
+use Rattle.exact_reading.specs.declared.stop.FaultKind.{FaultKind}
+use Rattle.exact_reading.specs.declared.stop.FaultKind.TheVariants.{Unexpected, TooNested}
+use Rattle.exact_reading.specs.Reading.{IsWithinLevels, IsViablePrefix, Always}
 use Rattle.exact_reading.specs.Whole.{IsFault, IsFirstFault}
-use Rattle.program_grammar.specs.Lexemes.{Lexeme, word, sign, name, number, quote, token_term, token_terms}
-use Rattle.program_grammar.specs.Grammar.{program, no_definitions, tokens, levels}
-use Rattle.program_grammar.specs.Meaning.{program_of}
+use Rattle.task_model.specs.Lexemes.{Lexeme, keyword, symbol, name, number, quoted_text, token_term, token_terms}
+use Rattle.task_model.specs.Grammar.{program, no_definitions, tokens, levels}
+use Rattle.task_model.specs.Meaning.{program_of}
 use Rattle.program_grammar.specs.Languages.{Of}
 use Rattle.program_grammar.specs.Faults.{AreSpelled, IsProgram}
 use Rattle.program_reader.proofs.Respelled.{respelled, tokens_respelled, levels_respelled}
@@ -24,10 +24,15 @@ use Rattle.program_reader.proofs.Spelled.{kept_name, kept_number, kept_quote, ke
 
 -- ---- a token by what the source has of it
 every_keyword : List Keyword
-every_keyword = words.Fun ∷ words.Task ∷ words.Unit ∷ words.Bool ∷ words.Int ∷ words.Text ∷ words.Ref ∷ words.Let ∷ words.In ∷ words.If ∷ words.Then ∷ words.Else ∷ words.Case ∷ words.Of ∷ words.New ∷ words.Edit ∷ words.Enter ∷ words.Share ∷ words.Fail ∷ words.True ∷ words.False ∷ words.Not ∷ words.Fst ∷ words.Snd ∷ words.Len ∷ words.Quot ∷ words.Rem ∷ words.Nil ∷ []
+every_keyword = words.Fun ∷ words.Task ∷ words.Unit ∷ words.Bool ∷ words.Int ∷ words.Text ∷ words.Ref ∷ words.Let ∷ words.In ∷ words.If
+    ∷ words.Then ∷ words.Else ∷ words.Case ∷ words.Of ∷ words.New ∷ words.Edit ∷ words.Enter ∷ words.Share ∷ words.Fail ∷ words.True
+    ∷ words.False ∷ words.Not ∷ words.Fst ∷ words.Snd ∷ words.Len ∷ words.Quot ∷ words.Rem ∷ words.Nil ∷ []
 
 every_symbol : List Symbol
-every_symbol = signs.Open ∷ signs.Close ∷ signs.OpenBracket ∷ signs.CloseBracket ∷ signs.Comma ∷ signs.Colon ∷ signs.Assign ∷ signs.Cons ∷ signs.Semicolon ∷ signs.Dot ∷ signs.Define ∷ signs.Equal ∷ signs.NotEqual ∷ signs.Bang ∷ signs.Less ∷ signs.LessEqual ∷ signs.Greater ∷ signs.GreaterEqual ∷ signs.Plus ∷ signs.Join ∷ signs.Minus ∷ signs.Arrow ∷ signs.Star ∷ signs.Or ∷ signs.Bar ∷ signs.And ∷ signs.InternalStep ∷ signs.UserStep ∷ signs.Pair ∷ signs.InternalChoice ∷ signs.ExternalChoice ∷ []
+every_symbol = signs.Open ∷ signs.Close ∷ signs.OpenBracket ∷ signs.CloseBracket ∷ signs.Comma ∷ signs.Colon ∷ signs.Assign ∷ signs.Cons
+    ∷ signs.Semicolon ∷ signs.Dot ∷ signs.Define ∷ signs.Equal ∷ signs.NotEqual ∷ signs.Bang ∷ signs.Less ∷ signs.LessEqual ∷ signs.Greater
+    ∷ signs.GreaterEqual ∷ signs.Plus ∷ signs.Join ∷ signs.Minus ∷ signs.Arrow ∷ signs.Star ∷ signs.Or ∷ signs.Bar ∷ signs.And
+    ∷ signs.InternalStep ∷ signs.UserStep ∷ signs.Pair ∷ signs.InternalChoice ∷ signs.ExternalChoice ∷ []
 
 told_keyword : List Keyword → Text → Keyword
 told_keyword [] t = words.Fun
@@ -103,24 +108,26 @@ symbol_told signs.InternalChoice = refl
 symbol_told signs.ExternalChoice = refl
 
 one_token : (t u : Lexeme) → token_term t ≡ token_term u → t ≡ u
-one_token (word k p) (word j q) e =
+one_token (keyword k p) (keyword j q) e =
     let same : keyword_spelling k ≡ keyword_spelling j = ap (λ x. x.spelling) e in
     let k_is : k ≡ j = sym (keyword_told k) ∙ ap (told_keyword every_keyword) same ∙ keyword_told j in
-    ap (λ x. word x p) k_is ∙ ap (λ x. word j x) (ap (λ x. x.from) e)
-one_token (sign k p) (sign j q) e =
+    ap (λ x. keyword x p) k_is ∙ ap (λ x. keyword j x) (ap (λ x. x.from) e)
+one_token (symbol k p) (symbol j q) e =
     let same : symbol_spelling k ≡ symbol_spelling j = ap (λ x. x.spelling) e in
     let k_is : k ≡ j = sym (symbol_told k) ∙ ap (told_symbol every_symbol) same ∙ symbol_told j in
-    ap (λ x. sign x p) k_is ∙ ap (λ x. sign j x) (ap (λ x. x.from) e)
+    ap (λ x. symbol x p) k_is ∙ ap (λ x. symbol j x) (ap (λ x. x.from) e)
 one_token (name x p) (name y q) e = ap (λ z. name z p) (ap (λ v. v.spelling) e) ∙ ap (λ z. name y z) (ap (λ v. v.from) e)
 one_token (number x p) (number y q) e = ap (λ z. number z p) (ap (λ v. v.spelling) e) ∙ ap (λ z. number y z) (ap (λ v. v.from) e)
-one_token (quote s v p) (quote r u q) e =
+one_token (quoted_text s v p) (quoted_text r u q) e =
     let kinds : text_token v ≡ text_token u = ap (λ x. x.kind) e in
     let v_is : v ≡ u = cc in
-    ap (λ z. quote z v p) (ap (λ x. x.spelling) e) ∙ ap (λ z. quote r z p) v_is ∙ ap (λ z. quote r u z) (ap (λ x. x.from) e)
+    ap (λ z. quoted_text z v p) (ap (λ x. x.spelling) e) ∙ ap (λ z. quoted_text r z p) v_is ∙ ap (λ z. quoted_text r u z)
+    (ap (λ x. x.from) e)
 one_token t u e = let kinds = ap (λ x. x.kind) e in absurd cc
 
 -- tokens that begin as others do
-pub split_terms : (ls us : List Lexeme) (w : List TokenTerm) → token_terms ls ≡ token_terms us ++ w → (v : List Lexeme) × (ls ≡ us ++ v) × (token_terms v ≡ w)
+pub split_terms : (ls us : List Lexeme) (w : List TokenTerm) → token_terms ls ≡ token_terms us ++ w → (v : List Lexeme) × (ls ≡ us ++ v)
+    × (token_terms v ≡ w)
 split_terms ls [] w e = (ls, refl, e)
 split_terms [] (u ∷ us) w e = absurd cc
 split_terms (l ∷ ls) (u ∷ us) w e =
@@ -152,46 +159,74 @@ terms_append us vs = map-append token_term us vs
 
 -- ---- what goes on with some tokens
 module _ (G : ℕ → Type 0) where
-  onto : (u : List Lexeme) → AreSpelled (token_terms u) → Alive (Of program) (λ x. G x.1) u → Alive IsProgram (λ x. G x.1) (token_terms u)
+  onto : (u : List Lexeme) → AreSpelled (token_terms u) → IsViablePrefix (Of program) (λ x. G x.1) u
+      → IsViablePrefix IsProgram (λ x. G x.1) (token_terms u)
   onto u all (w, (d, n), (t, l), g) =
       let other = respelled (kept_name u) (kept_number u) (kept_quote u) d in
       let are : tokens other ≡ u ++ map (kept u) w =
-      tokens_respelled (kept_name u) (kept_number u) (kept_quote u) d ∙ ap (map (kept u)) t ∙ map-append (kept u) u w ∙ ap (λ l. l ++ map (kept u) w) (all_kept [] u) in (
+      tokens_respelled (kept_name u) (kept_number u) (kept_quote u) d ∙ ap (map (kept u)) t ∙ map-append (kept u) u w
+      ∙ ap (λ l. l ++ map (kept u) w) (all_kept [] u) in (
         token_terms (map (kept u) w),
         (program_of other, levels other),
-        record { spelled = spelled_append (token_terms u) (token_terms (map (kept u) w)) all (all_kept_spelled u all w); parse = other; reads = ap token_terms are ∙ terms_append u (map (kept u) w); stands_for = refl },
+        record {
+          spelled = spelled_append (token_terms u) (token_terms (map (kept u) w)) all (all_kept_spelled u all w);
+          parse = other;
+          reads = ap token_terms are ∙ terms_append u (map (kept u) w);
+          stands_for = refl;
+        },
         subst G (sym (levels_respelled (kept_name u) (kept_number u) (kept_quote u) d ∙ l)) g,
       )
 
-  back_to : (u : List Lexeme) → Alive IsProgram (λ x. G x.1) (token_terms u) → Alive (Of program) (λ x. G x.1) u
+  back_to : (u : List Lexeme) → IsViablePrefix IsProgram (λ x. G x.1) (token_terms u) → IsViablePrefix (Of program) (λ x. G x.1) u
   back_to u (w, x, h, g) =
       let (v, e, _) = split_terms (tokens h.parse) u w h.reads in
       (v, (h.parse, levels h.parse), (e, refl), subst G (sym (ap (λ q. q.1) h.stands_for)) g)
 
 -- a fault in a program's tokens, as the source has them
-pub program_fault : {ls : List Lexeme} {kind : Kind} {place : ℕ} → AreSpelled (token_terms ls) → IsFirstFault (Of program) (Within 200) ls kind place → IsFirstFault IsProgram (Within 200) (token_terms ls) kind place
+pub program_fault : {ls : List Lexeme} {kind : FaultKind} {place : ℕ} → AreSpelled (token_terms ls)
+    → IsFirstFault (Of program) (IsWithinLevels 200) ls kind place → IsFirstFault IsProgram (IsWithinLevels 200) (token_terms ls) kind place
 program_fault {ls} {kind} {place} all f = record {
   front = token_terms f.front;
   back = token_terms f.back;
   split = ap token_terms f.split ∙ terms_append f.front f.back;
   at = length-map f.front token_term ∙ f.at;
   begins = λ _. onto (λ n. n ≤ 200) f.front front_spelled (f.begins ([], (no_definitions, 0), (refl, refl), omega arith));
-  nothing = λ none. absurd (none ([], (program_of no_definitions, 0), record { spelled = tt; parse = no_definitions; reads = refl; stands_for = refl }, omega arith));
+  nothing = λ none. absurd (none (
+    [],
+    (program_of no_definitions, 0),
+    record {
+      spelled = tt;
+      parse = no_definitions;
+      reads = refl;
+      stands_for = refl;
+    },
+    omega arith,
+  ));
   stops = go f.back kind (subst AreSpelled (ap token_terms f.split ∙ terms_append f.front f.back) all) f.stops;
 }
   where
     front_spelled : AreSpelled (token_terms f.front)
-    front_spelled = spelled_front (token_terms f.front) (token_terms f.back) (subst AreSpelled (ap token_terms f.split ∙ terms_append f.front f.back) all)
+    front_spelled = spelled_front (token_terms f.front) (token_terms f.back)
+        (subst AreSpelled (ap token_terms f.split ∙ terms_append f.front f.back) all)
 
-    one_more : (t : Lexeme) (back : List Lexeme) → AreSpelled (token_terms f.front ++ token_terms (t ∷ back)) → AreSpelled (token_terms (f.front ++ (t ∷ [])))
+    one_more : (t : Lexeme) (back : List Lexeme) → AreSpelled (token_terms f.front ++ token_terms (t ∷ back))
+        → AreSpelled (token_terms (f.front ++ (t ∷ [])))
     one_more t back h =
-        subst AreSpelled (sym (terms_append f.front (t ∷ []))) (spelled_front (token_terms f.front ++ (token_term t ∷ [])) (token_terms back) (subst AreSpelled (sym (append_assoc (token_terms f.front) (token_term t ∷ []) (token_terms back))) h))
+        subst AreSpelled (sym (terms_append f.front (t ∷ [])))
+        (spelled_front (token_terms f.front ++ (token_term t ∷ [])) (token_terms back)
+        (subst AreSpelled (sym (append_assoc (token_terms f.front) (token_term t ∷ []) (token_terms back))) h))
 
-    go : (back : List Lexeme) (kind : Kind) → AreSpelled (token_terms f.front ++ token_terms back) → IsFault (Of program) (Within 200) f.front back kind → IsFault IsProgram (Within 200) (token_terms f.front) (token_terms back) kind
+    go : (back : List Lexeme) (kind : FaultKind) → AreSpelled (token_terms f.front ++ token_terms back)
+        → IsFault (Of program) (IsWithinLevels 200) f.front back kind → IsFault IsProgram (IsWithinLevels 200) (token_terms f.front)
+        (token_terms back) kind
     go [] Unexpected h dead = λ x k. dead (k.parse, levels k.parse) (same_terms (tokens k.parse) f.front k.reads, refl)
-    go (t ∷ back) Unexpected h dead = λ alive. dead (back_to (λ n. Unit {0}) (f.front ++ (t ∷ [])) (subst (λ l. Alive IsProgram Always l) (sym (terms_append f.front (t ∷ []))) alive))
+    go (t ∷ back) Unexpected h dead = λ alive. dead
+        (back_to (λ n. Unit {0}) (f.front ++ (t ∷ []))
+        (subst (λ l. IsViablePrefix IsProgram Always l) (sym (terms_append f.front (t ∷ []))) alive))
     go [] TooNested h dead = dead
     go (t ∷ back) TooNested h (alive, dead) = (
-      subst (λ l. Alive IsProgram Always l) (terms_append f.front (t ∷ [])) (onto (λ n. Unit {0}) (f.front ++ (t ∷ [])) (one_more t back h) alive),
-      λ some. dead (back_to (λ n. n ≤ 200) (f.front ++ (t ∷ [])) (subst (λ l. Alive IsProgram (Within 200) l) (sym (terms_append f.front (t ∷ []))) some)),
+      subst (λ l. IsViablePrefix IsProgram Always l) (terms_append f.front (t ∷ []))
+          (onto (λ n. Unit {0}) (f.front ++ (t ∷ [])) (one_more t back h) alive),
+      λ some. dead (back_to (λ n. n ≤ 200) (f.front ++ (t ∷ []))
+          (subst (λ l. IsViablePrefix IsProgram (IsWithinLevels 200) l) (sym (terms_append f.front (t ∷ []))) some)),
     )

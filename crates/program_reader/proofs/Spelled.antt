@@ -5,7 +5,7 @@ use Rattle.std.specs.Cmp.Lexicographic.{pointwise, same_text}
 use Rattle.unicode_ident.proofs.IdentLemmas.{is_xid_start-ascii}
 use Rattle.task_model.specs.Text.{Text}
 use Rattle.task_syntax.proofs.Words.{is_keyword-spelling, is_symbol-spelling}
-use Rattle.program_grammar.specs.Lexemes.{Lexeme, word, sign, name, number, quote, token_term, token_terms}
+use Rattle.task_model.specs.Lexemes.{Lexeme, keyword, symbol, name, number, quoted_text, token_term, token_terms}
 use Rattle.program_grammar.specs.Faults.{IsSpelled, AreSpelled}
 use Rattle.program_reader.proofs.Respelled.{respell}
 
@@ -19,7 +19,7 @@ is_number x (number y p) = pointwise eqb x y
 is_number x t = false
 
 abbrev is_quote : Text → Text → Lexeme → Bool
-is_quote s v (quote r u p) = pointwise eqb s r && pointwise eqb v u
+is_quote s v (quoted_text r u p) = pointwise eqb s r && pointwise eqb v u
 is_quote s v t = false
 
 abbrev stands_in : (Lexeme → Bool) → List Lexeme → Bool
@@ -43,7 +43,8 @@ abbrev pub kept : List Lexeme → Lexeme → Lexeme
 kept ts = respell (kept_name ts) (kept_number ts) (kept_quote ts)
 
 -- ---- they are spelled
-found : (P : Lexeme → Bool) (Q : Type 0) (ts : List Lexeme) → AreSpelled (token_terms ts) → ((t : Lexeme) → IsSpelled (token_term t) → P t ≡ true → Q) → stands_in P ts ≡ true → Q
+found : (P : Lexeme → Bool) (Q : Type 0) (ts : List Lexeme) → AreSpelled (token_terms ts)
+    → ((t : Lexeme) → IsSpelled (token_term t) → P t ≡ true → Q) → stands_in P ts ≡ true → Q
 found P Q [] all hit e = absurd cc
 found P Q (t ∷ ts) all hit e = go (P t) refl (λ k. found P Q ts all.1 hit k)
   where
@@ -53,43 +54,65 @@ found P Q (t ∷ ts) all hit e = go (P t) refl (λ k. found P Q ts all.1 hit k)
 
 a_spelled : (p : ℕ) → IsSpelled (token_term (name (codes "a") p))
 unfolding lib.Utf8.encode
-a_spelled p = record { spells = (record { first = 97; rest = []; scalars = refl; bytes = refl; starts = is_xid_start-ascii 97 (omega arith) ∙ refl; continues = tt }, refl); within = tt }
+a_spelled p = record {
+  spells = (
+    record {
+      first = 97;
+      rest = [];
+      scalars = refl;
+      bytes = refl;
+      starts = is_xid_start-ascii 97 (omega arith) ∙ refl;
+      continues = tt;
+    },
+    refl,
+  );
+  within = tt;
+}
 
 module _ (ts : List Lexeme) (all : AreSpelled (token_terms ts)) where
   name_spelled : (x : Text) (p : ℕ) (b : Bool) → stands_in (is_name x) ts ≡ b → IsSpelled (token_term (name (if b then x else codes "a") p))
   name_spelled x p true e = found (is_name x) (IsSpelled (token_term (name x p))) ts all hit e
     where
       hit : (t : Lexeme) → IsSpelled (token_term t) → is_name x t ≡ true → IsSpelled (token_term (name x p))
-      hit (name y q) h is = let same : x ≡ y = same_text x y (sym is) in subst (λ z. IsSpelled (token_term (name z p))) (sym same) (record { spells = h.spells; within = h.within })
+      hit (name y q) h is = let same : x ≡ y = same_text x y (sym is) in subst (λ z. IsSpelled (token_term (name z p))) (sym same) (record {
+        spells = h.spells;
+        within = h.within;
+      })
       hit t h is = absurd cc
   name_spelled x p false e = a_spelled p
 
-  number_spelled : (x : Text) (p : ℕ) (b : Bool) → stands_in (is_number x) ts ≡ b → IsSpelled (token_term (number (if b then x else codes "0") p))
+  number_spelled : (x : Text) (p : ℕ) (b : Bool) → stands_in (is_number x) ts ≡ b
+      → IsSpelled (token_term (number (if b then x else codes "0") p))
   number_spelled x p true e = found (is_number x) (IsSpelled (token_term (number x p))) ts all hit e
     where
       hit : (t : Lexeme) → IsSpelled (token_term t) → is_number x t ≡ true → IsSpelled (token_term (number x p))
-      hit (number y q) h is = let same : x ≡ y = same_text x y (sym is) in subst (λ z. IsSpelled (token_term (number z p))) (sym same) (record { spells = h.spells; within = h.within })
+      hit (number y q) h is = let same : x ≡ y = same_text x y (sym is) in subst (λ z. IsSpelled (token_term (number z p))) (sym same)
+          (record { spells = h.spells; within = h.within })
       hit t h is = absurd cc
   number_spelled x p false e = record { spells = ((λ none. cc), ((omega arith, omega arith), tt), refl); within = omega arith }
 
-  quote_spelled : (s v : Text) (p : ℕ) (b : Bool) → stands_in (is_quote s v) ts ≡ b → IsSpelled (token_term (quote (quote_or_none s v b).0 (quote_or_none s v b).1 p))
-  quote_spelled s v p true e = found (is_quote s v) (IsSpelled (token_term (quote s v p))) ts all hit e
+  quote_spelled : (s v : Text) (p : ℕ) (b : Bool) → stands_in (is_quote s v) ts ≡ b
+      → IsSpelled (token_term (quoted_text (quote_or_none s v b).0 (quote_or_none s v b).1 p))
+  quote_spelled s v p true e = found (is_quote s v) (IsSpelled (token_term (quoted_text s v p))) ts all hit e
     where
-      hit : (t : Lexeme) → IsSpelled (token_term t) → is_quote s v t ≡ true → IsSpelled (token_term (quote s v p))
-      hit (quote r u q) h is =
+      hit : (t : Lexeme) → IsSpelled (token_term t) → is_quote s v t ≡ true → IsSpelled (token_term (quoted_text s v p))
+      hit (quoted_text r u q) h is =
           let first : pointwise eqb s r ≡ true = grind (arith, is) in
           let second : pointwise eqb v u ≡ true = grind (arith, is) in
-          subst (λ z. IsSpelled (token_term (quote z v p))) (sym (same_text s r (sym first)))
-          (subst (λ z. IsSpelled (token_term (quote r z p))) (sym (same_text v u (sym second))) (record { spells = h.spells; within = h.within }))
+          subst (λ z. IsSpelled (token_term (quoted_text z v p))) (sym (same_text s r (sym first)))
+          (subst (λ z. IsSpelled (token_term (quoted_text r z p))) (sym (same_text v u (sym second))) (record {
+            spells = h.spells;
+            within = h.within;
+          }))
       hit t h is = absurd cc
   quote_spelled s v p false e = record { spells = ([], refl, refl); within = omega arith }
 
   pub kept_spelled : (t : Lexeme) → IsSpelled (token_term (kept ts t))
-  kept_spelled (word k p) = record { spells = is_keyword-spelling k; within = tt }
-  kept_spelled (sign s p) = record { spells = is_symbol-spelling s; within = tt }
+  kept_spelled (keyword k p) = record { spells = is_keyword-spelling k; within = tt }
+  kept_spelled (symbol s p) = record { spells = is_symbol-spelling s; within = tt }
   kept_spelled (name x p) = name_spelled x p (stands_in (is_name x) ts) refl
   kept_spelled (number x p) = number_spelled x p (stands_in (is_number x) ts) refl
-  kept_spelled (quote s v p) = quote_spelled s v p (stands_in (is_quote s v) ts) refl
+  kept_spelled (quoted_text s v p) = quote_spelled s v p (stands_in (is_quote s v) ts) refl
 
   pub all_kept_spelled : (us : List Lexeme) → AreSpelled (token_terms (map (kept ts) us))
   all_kept_spelled [] = tt
@@ -109,15 +132,15 @@ same [] = refl
 same (b ∷ x) = let h = same x in grind (arith, h)
 
 kept_one : (pre : List Lexeme) (t : Lexeme) (post : List Lexeme) → kept (pre ++ t ∷ post) t ≡ t
-kept_one pre (word k p) post = refl
-kept_one pre (sign s p) post = refl
+kept_one pre (keyword k p) post = refl
+kept_one pre (symbol s p) post = refl
 kept_one pre (name x p) post = ap (λ b. name (if b then x else codes "a") p) (stands (is_name x) pre (name x p) post (same x))
 kept_one pre (number x p) post = ap (λ b. number (if b then x else codes "0") p) (stands (is_number x) pre (number x p) post (same x))
-kept_one pre (quote s v p) post =
+kept_one pre (quoted_text s v p) post =
     let h = same s in
     let k = same v in
-    let both : is_quote s v (quote s v p) ≡ true = grind (arith, h, k) in
-    ap (λ b. quote (quote_or_none s v b).0 (quote_or_none s v b).1 p) (stands (is_quote s v) pre (quote s v p) post both)
+    let both : is_quote s v (quoted_text s v p) ≡ true = grind (arith, h, k) in
+    ap (λ b. quoted_text (quote_or_none s v b).0 (quote_or_none s v b).1 p) (stands (is_quote s v) pre (quoted_text s v p) post both)
 
 pub all_kept : (pre us : List Lexeme) → map (kept (pre ++ us)) us ≡ us
 all_kept pre [] = refl

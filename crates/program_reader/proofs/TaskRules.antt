@@ -1,16 +1,16 @@
--- The productions of tasks that begin with a word or a parenthesis.
+-- The productions of tasks that begin with a keyword or a parenthesis.
 use Rattle.std.proofs.Common.{◌≡◌, ℕ, true, false, List, [], ◌∷◌, length, Err, refl, sym, ap, ◌∙◌, subst, arith, append_assoc}
 use Rattle.task_model.specs.Text.{Text}
-use Rattle.task_syntax.specs.declared.keyword.Keyword.TheVariants as words
-use Rattle.task_syntax.specs.declared.symbol.Symbol.TheVariants as signs
-use Rattle.exact_reading.specs.declared.stop.Stop.TheVariants.{Fault}
-use Rattle.exact_reading.specs.declared.stop.Kind.TheVariants.{Unexpected}
-use Rattle.exact_reading.specs.Reading.{Within, Right}
+use Rattle.task_model.specs.declared.keyword.Keyword.TheVariants as words
+use Rattle.task_model.specs.declared.symbol.Symbol.TheVariants as signs
+use Rattle.exact_reading.specs.declared.stop.ParseStop.TheVariants.{Fault}
+use Rattle.exact_reading.specs.declared.stop.FaultKind.TheVariants.{Unexpected}
+use Rattle.exact_reading.specs.Reading.{IsWithinLevels, Right}
 use Rattle.exact_reading.proofs.Productions.{refused_first}
 use Rattle.exact_reading.proofs.Symbols.{Sym, one, part, Values}
-use Rattle.program_grammar.specs.Lexemes.{Lexeme, word, sign, name}
-use Rattle.program_grammar.specs.Grammar.{basic, task, task_atom, expression, atom, series, enclosed, arguments, choice, Parse, task_let, task_if, task_case, task_new, task_plain, task_step, task_edit, task_enter, task_share, task_fail, task_call, task_group, tokens}
-use Rattle.program_grammar.specs.Languages.{Of, Stops}
+use Rattle.task_model.specs.Lexemes.{Lexeme, keyword, symbol, name}
+use Rattle.task_model.specs.Grammar.{basic, task, task_atom, expression, atom, series, enclosed, arguments, choice, Parse, task_let, task_if, task_case, task_new, task_plain, task_then, task_next, task_edit, task_enter, task_share, task_fail, task_call, task_group, tokens}
+use Rattle.program_grammar.specs.Languages.{Of, EndsForm}
 use Rattle.program_grammar.proofs.GrammarLemmas.{grammar, head, begins_head, head_starts, starts, a_word, a_sign, a_name}
 use Rattle.program_grammar.proofs.RuleLemmas.{Rule, tokens_of}
 
@@ -25,26 +25,44 @@ let_symbols = one a_name ∷ one (a_sign signs.Define) ∷ part expression ∷ o
 abbrev pub let_build : ℕ → Values grammar let_symbols → Parse task
 let_build p vs = task_let p vs.0.0 vs.0.1 vs.1.0 vs.1.1.0 vs.1.1.1.0 vs.1.1.1.1.0
 
-pub let_back : (p : ℕ) (d : Parse task) → head d ≡ word words.Let p → (vs : Values grammar let_symbols) × (let_build p vs ≡ d)
-let_back p (task_let q x r s e t d) h = let same : q ≡ p = cc in (((x, r), (s, (e, (t, (d, tt))))), ap (λ n. task_let n x r s e t d) (sym same))
-let_back p (task_plain t) h = absurd (no_choice t (word words.Let p) refl h)
-let_back p (task_step t o q x r s u) h = absurd (no_choice t (word words.Let p) refl h)
+pub let_back : (p : ℕ) (d : Parse task) → head d ≡ keyword words.Let p → (vs : Values grammar let_symbols) × (let_build p vs ≡ d)
+let_back p (task_let q x r s e t d) h = let same : q ≡ p = cc in
+    (((x, r), (s, (e, (t, (d, tt))))), ap (λ n. task_let n x r s e t d) (sym same))
+let_back p (task_plain t) h = absurd (no_choice t (keyword words.Let p) refl h)
+let_back p (task_then t q x r s u) h = absurd (no_choice t (keyword words.Let p) refl h)
+let_back p (task_next t q x r s u) h = absurd (no_choice t (keyword words.Let p) refl h)
 let_back p d h = absurd cc
 
-abbrev pub let_rule : (p : ℕ) → Rule task 1 (word words.Let p)
-let_rule p = record { some = tt; symbols = let_symbols; build = let_build p; tokens_are = λ vs. refl; levels_are = λ vs. omega arith; back = let_back p }
+abbrev pub let_rule : (p : ℕ) → Rule task 1 (keyword words.Let p)
+let_rule p = record {
+  some = tt;
+  symbols = let_symbols;
+  build = let_build p;
+  tokens_are = λ vs. refl;
+  levels_are = λ vs. omega arith;
+  back = let_back p;
+}
 
 abbrev pub new_build : ℕ → Values grammar let_symbols → Parse task
 new_build p vs = task_new p vs.0.0 vs.0.1 vs.1.0 vs.1.1.0 vs.1.1.1.0 vs.1.1.1.1.0
 
-pub new_back : (p : ℕ) (d : Parse task) → head d ≡ word words.New p → (vs : Values grammar let_symbols) × (new_build p vs ≡ d)
-new_back p (task_new q x r s e t d) h = let same : q ≡ p = cc in (((x, r), (s, (e, (t, (d, tt))))), ap (λ n. task_new n x r s e t d) (sym same))
-new_back p (task_plain t) h = absurd (no_choice t (word words.New p) refl h)
-new_back p (task_step t o q x r s u) h = absurd (no_choice t (word words.New p) refl h)
+pub new_back : (p : ℕ) (d : Parse task) → head d ≡ keyword words.New p → (vs : Values grammar let_symbols) × (new_build p vs ≡ d)
+new_back p (task_new q x r s e t d) h = let same : q ≡ p = cc in
+    (((x, r), (s, (e, (t, (d, tt))))), ap (λ n. task_new n x r s e t d) (sym same))
+new_back p (task_plain t) h = absurd (no_choice t (keyword words.New p) refl h)
+new_back p (task_then t q x r s u) h = absurd (no_choice t (keyword words.New p) refl h)
+new_back p (task_next t q x r s u) h = absurd (no_choice t (keyword words.New p) refl h)
 new_back p d h = absurd cc
 
-abbrev pub new_rule : (p : ℕ) → Rule task 1 (word words.New p)
-new_rule p = record { some = tt; symbols = let_symbols; build = new_build p; tokens_are = λ vs. refl; levels_are = λ vs. omega arith; back = new_back p }
+abbrev pub new_rule : (p : ℕ) → Rule task 1 (keyword words.New p)
+new_rule p = record {
+  some = tt;
+  symbols = let_symbols;
+  build = new_build p;
+  tokens_are = λ vs. refl;
+  levels_are = λ vs. omega arith;
+  back = new_back p;
+}
 
 -- ---- if
 abbrev pub if_symbols : List (Sym grammar)
@@ -53,101 +71,173 @@ if_symbols = part expression ∷ one (a_word words.Then) ∷ part task ∷ one (
 abbrev pub if_build : ℕ → Values grammar if_symbols → Parse task
 if_build p vs = task_if p vs.0 vs.1.0 vs.1.1.0 vs.1.1.1.0 vs.1.1.1.1.0
 
-pub if_back : (p : ℕ) (d : Parse task) → head d ≡ word words.If p → (vs : Values grammar if_symbols) × (if_build p vs ≡ d)
+pub if_back : (p : ℕ) (d : Parse task) → head d ≡ keyword words.If p → (vs : Values grammar if_symbols) × (if_build p vs ≡ d)
 if_back p (task_if q e r a s b) h = let same : q ≡ p = cc in ((e, (r, (a, (s, (b, tt))))), ap (λ n. task_if n e r a s b) (sym same))
-if_back p (task_plain t) h = absurd (no_choice t (word words.If p) refl h)
-if_back p (task_step t o q x r s u) h = absurd (no_choice t (word words.If p) refl h)
+if_back p (task_plain t) h = absurd (no_choice t (keyword words.If p) refl h)
+if_back p (task_then t q x r s u) h = absurd (no_choice t (keyword words.If p) refl h)
+if_back p (task_next t q x r s u) h = absurd (no_choice t (keyword words.If p) refl h)
 if_back p d h = absurd cc
 
-abbrev pub if_rule : (p : ℕ) → Rule task 1 (word words.If p)
-if_rule p = record { some = tt; symbols = if_symbols; build = if_build p; tokens_are = λ vs. append_assoc (word words.If p ∷ tokens vs.0) (word words.Then vs.1.0 ∷ tokens vs.1.1.0) (word words.Else vs.1.1.1.0 ∷ tokens vs.1.1.1.1.0); levels_are = λ vs. omega arith; back = if_back p }
+abbrev pub if_rule : (p : ℕ) → Rule task 1 (keyword words.If p)
+if_rule p = record {
+  some = tt;
+  symbols = if_symbols;
+  build = if_build p;
+  tokens_are = λ vs. append_assoc (keyword words.If p ∷ tokens vs.0)
+      (keyword words.Then vs.1.0 ∷ tokens vs.1.1.0) (keyword words.Else vs.1.1.1.0 ∷ tokens vs.1.1.1.1.0);
+  levels_are = λ vs. omega arith;
+  back = if_back p;
+}
 
 -- ---- case
 abbrev pub case_symbols : List (Sym grammar)
 case_symbols =
-    part expression ∷ one (a_word words.Of) ∷ one (a_sign signs.OpenBracket) ∷ one (a_sign signs.CloseBracket) ∷ one (a_sign signs.Arrow) ∷ part task
+    part expression ∷ one (a_word words.Of) ∷ one (a_sign signs.OpenBracket) ∷ one (a_sign signs.CloseBracket) ∷ one (a_sign signs.Arrow)
+    ∷ part task
     ∷ one (a_sign signs.Bar) ∷ one a_name ∷ one (a_sign signs.Cons) ∷ one a_name ∷ one (a_sign signs.Arrow) ∷ part task ∷ []
 
 abbrev pub case_build : ℕ → Values grammar case_symbols → Parse task
 case_build p vs =
     let after = vs.1.1.1.1.1.1 in
-    task_case p vs.0 vs.1.0 vs.1.1.0 vs.1.1.1.0 vs.1.1.1.1.0 vs.1.1.1.1.1.0 after.0 after.1.0.0 after.1.0.1 after.1.1.0 after.1.1.1.0.0 after.1.1.1.0.1 after.1.1.1.1.0 after.1.1.1.1.1.0
+    task_case p vs.0 vs.1.0 vs.1.1.0 vs.1.1.1.0 vs.1.1.1.1.0 vs.1.1.1.1.1.0 after.0 after.1.0.0 after.1.0.1 after.1.1.0 after.1.1.1.0.0
+    after.1.1.1.0.1 after.1.1.1.1.0 after.1.1.1.1.1.0
 
-pub case_back : (p : ℕ) (d : Parse task) → head d ≡ word words.Case p → (vs : Values grammar case_symbols) × (case_build p vs ≡ d)
-case_back p (task_case o e q r s a d b x i j y k c u) h = let same : o ≡ p = cc in ((e, (q, (r, (s, (a, (d, (b, ((x, i), (j, ((y, k), (c, (u, tt)))))))))))), ap (λ n. task_case n e q r s a d b x i j y k c u) (sym same))
-case_back p (task_plain t) h = absurd (no_choice t (word words.Case p) refl h)
-case_back p (task_step t o q x r s u) h = absurd (no_choice t (word words.Case p) refl h)
+pub case_back : (p : ℕ) (d : Parse task) → head d ≡ keyword words.Case p → (vs : Values grammar case_symbols) × (case_build p vs ≡ d)
+case_back p (task_case o e q r s a d b x i j y k c u) h = let same : o ≡ p = cc in
+    ((e, (q, (r, (s, (a, (d, (b, ((x, i), (j, ((y, k), (c, (u, tt)))))))))))), ap (λ n. task_case n e q r s a d b x i j y k c u) (sym same))
+case_back p (task_plain t) h = absurd (no_choice t (keyword words.Case p) refl h)
+case_back p (task_then t q x r s u) h = absurd (no_choice t (keyword words.Case p) refl h)
+case_back p (task_next t q x r s u) h = absurd (no_choice t (keyword words.Case p) refl h)
 case_back p d h = absurd cc
 
-pub case_tokens : (p : ℕ) (vs : Values grammar case_symbols) → tokens (case_build p vs) ≡ word words.Case p ∷ tokens_of case_symbols vs
+pub case_tokens : (p : ℕ) (vs : Values grammar case_symbols) → tokens (case_build p vs) ≡ keyword words.Case p ∷ tokens_of case_symbols vs
 case_tokens p vs =
     let after = vs.1.1.1.1.1.1 in
-    append_assoc (word words.Case p ∷ tokens vs.0) (word words.Of vs.1.0 ∷ sign signs.OpenBracket vs.1.1.0 ∷ sign signs.CloseBracket vs.1.1.1.0 ∷ sign signs.Arrow vs.1.1.1.1.0 ∷ tokens vs.1.1.1.1.1.0)
-    (sign signs.Bar after.0 ∷ name after.1.0.0 after.1.0.1 ∷ sign signs.Cons after.1.1.0 ∷ name after.1.1.1.0.0 after.1.1.1.0.1 ∷ sign signs.Arrow after.1.1.1.1.0 ∷ tokens after.1.1.1.1.1.0)
+    append_assoc (keyword words.Case p ∷ tokens vs.0)
+    (keyword words.Of vs.1.0 ∷ symbol signs.OpenBracket vs.1.1.0 ∷ symbol signs.CloseBracket vs.1.1.1.0 ∷ symbol signs.Arrow vs.1.1.1.1.0
+    ∷ tokens vs.1.1.1.1.1.0)
+    (symbol signs.Bar after.0 ∷ name after.1.0.0 after.1.0.1 ∷ symbol signs.Cons after.1.1.0 ∷ name after.1.1.1.0.0 after.1.1.1.0.1
+    ∷ symbol signs.Arrow after.1.1.1.1.0 ∷ tokens after.1.1.1.1.1.0)
 
-abbrev pub case_rule : (p : ℕ) → Rule task 1 (word words.Case p)
-case_rule p = record { some = tt; symbols = case_symbols; build = case_build p; tokens_are = case_tokens p; levels_are = λ vs. omega arith; back = case_back p }
+abbrev pub case_rule : (p : ℕ) → Rule task 1 (keyword words.Case p)
+case_rule p = record {
+  some = tt;
+  symbols = case_symbols;
+  build = case_build p;
+  tokens_are = case_tokens p;
+  levels_are = λ vs. omega arith;
+  back = case_back p;
+}
 
 -- ---- atoms of tasks
 abbrev pub edit_symbols : List (Sym grammar)
 edit_symbols = part atom ∷ []
 
-pub edit_back : (p : ℕ) (d : Parse task_atom) → head d ≡ word words.Edit p → (vs : Values grammar edit_symbols) × (task_edit p vs.0 ≡ d)
+pub edit_back : (p : ℕ) (d : Parse task_atom) → head d ≡ keyword words.Edit p → (vs : Values grammar edit_symbols) × (task_edit p vs.0 ≡ d)
 edit_back p (task_edit q e) h = let same : q ≡ p = cc in ((e, tt), ap (λ n. task_edit n e) (sym same))
 edit_back p d h = absurd cc
 
-abbrev pub edit_rule : (p : ℕ) → Rule task_atom 1 (word words.Edit p)
-edit_rule p = record { some = tt; symbols = edit_symbols; build = λ vs. task_edit p vs.0; tokens_are = λ vs. refl; levels_are = λ vs. omega arith; back = edit_back p }
+abbrev pub edit_rule : (p : ℕ) → Rule task_atom 1 (keyword words.Edit p)
+edit_rule p = record {
+  some = tt;
+  symbols = edit_symbols;
+  build = λ vs. task_edit p vs.0;
+  tokens_are = λ vs. refl;
+  levels_are = λ vs. omega arith;
+  back = edit_back p;
+}
 
 abbrev pub type_symbols : List (Sym grammar)
 type_symbols = part basic ∷ []
 
-pub enter_back : (p : ℕ) (d : Parse task_atom) → head d ≡ word words.Enter p → (vs : Values grammar type_symbols) × (task_enter p vs.0 ≡ d)
+pub enter_back : (p : ℕ) (d : Parse task_atom) → head d ≡ keyword words.Enter p → (vs : Values grammar type_symbols)
+    × (task_enter p vs.0 ≡ d)
 enter_back p (task_enter q b) h = let same : q ≡ p = cc in ((b, tt), ap (λ n. task_enter n b) (sym same))
 enter_back p d h = absurd cc
 
-abbrev pub enter_rule : (p : ℕ) → Rule task_atom 1 (word words.Enter p)
-enter_rule p = record { some = tt; symbols = type_symbols; build = λ vs. task_enter p vs.0; tokens_are = λ vs. refl; levels_are = λ vs. omega arith; back = enter_back p }
+abbrev pub enter_rule : (p : ℕ) → Rule task_atom 1 (keyword words.Enter p)
+enter_rule p = record {
+  some = tt;
+  symbols = type_symbols;
+  build = λ vs. task_enter p vs.0;
+  tokens_are = λ vs. refl;
+  levels_are = λ vs. omega arith;
+  back = enter_back p;
+}
 
-pub fail_back : (p : ℕ) (d : Parse task_atom) → head d ≡ word words.Fail p → (vs : Values grammar type_symbols) × (task_fail p vs.0 ≡ d)
+pub fail_back : (p : ℕ) (d : Parse task_atom) → head d ≡ keyword words.Fail p → (vs : Values grammar type_symbols) × (task_fail p vs.0 ≡ d)
 fail_back p (task_fail q b) h = let same : q ≡ p = cc in ((b, tt), ap (λ n. task_fail n b) (sym same))
 fail_back p d h = absurd cc
 
-abbrev pub fail_rule : (p : ℕ) → Rule task_atom 1 (word words.Fail p)
-fail_rule p = record { some = tt; symbols = type_symbols; build = λ vs. task_fail p vs.0; tokens_are = λ vs. refl; levels_are = λ vs. omega arith; back = fail_back p }
+abbrev pub fail_rule : (p : ℕ) → Rule task_atom 1 (keyword words.Fail p)
+fail_rule p = record {
+  some = tt;
+  symbols = type_symbols;
+  build = λ vs. task_fail p vs.0;
+  tokens_are = λ vs. refl;
+  levels_are = λ vs. omega arith;
+  back = fail_back p;
+}
 
 abbrev pub share_symbols : List (Sym grammar)
 share_symbols = one a_name ∷ []
 
-pub share_back : (p : ℕ) (d : Parse task_atom) → head d ≡ word words.Share p → (vs : Values grammar share_symbols) × (task_share p vs.0.0 vs.0.1 ≡ d)
+pub share_back : (p : ℕ) (d : Parse task_atom) → head d ≡ keyword words.Share p → (vs : Values grammar share_symbols)
+    × (task_share p vs.0.0 vs.0.1 ≡ d)
 share_back p (task_share q x r) h = let same : q ≡ p = cc in (((x, r), tt), ap (λ n. task_share n x r) (sym same))
 share_back p d h = absurd cc
 
-abbrev pub share_rule : (p : ℕ) → Rule task_atom 1 (word words.Share p)
-share_rule p = record { some = tt; symbols = share_symbols; build = λ vs. task_share p vs.0.0 vs.0.1; tokens_are = λ vs. refl; levels_are = λ vs. refl; back = share_back p }
+abbrev pub share_rule : (p : ℕ) → Rule task_atom 1 (keyword words.Share p)
+share_rule p = record {
+  some = tt;
+  symbols = share_symbols;
+  build = λ vs. task_share p vs.0.0 vs.0.1;
+  tokens_are = λ vs. refl;
+  levels_are = λ vs. refl;
+  back = share_back p;
+}
 
 abbrev pub call_symbols : List (Sym grammar)
 call_symbols = part (enclosed arguments) ∷ []
 
 pub call_back : (x : Text) (p : ℕ) (d : Parse task_atom) → head d ≡ name x p → (vs : Values grammar call_symbols) × (task_call x p vs.0 ≡ d)
-call_back x p (task_call y q es) h = let e : y ≡ x = cc in let e' : q ≡ p = cc in ((es, tt), sym (ap (λ n. task_call n q es) e ∙ ap (λ n. task_call x n es) e'))
+call_back x p (task_call y q es) h = let e : y ≡ x = cc in let e' : q ≡ p = cc in
+    ((es, tt), sym (ap (λ n. task_call n q es) e ∙ ap (λ n. task_call x n es) e'))
 call_back x p d h = absurd cc
 
 abbrev pub call_rule : (x : Text) (p : ℕ) → Rule task_atom 1 (name x p)
-call_rule x p = record { some = tt; symbols = call_symbols; build = λ vs. task_call x p vs.0; tokens_are = λ vs. refl; levels_are = λ vs. omega arith; back = call_back x p }
+call_rule x p = record {
+  some = tt;
+  symbols = call_symbols;
+  build = λ vs. task_call x p vs.0;
+  tokens_are = λ vs. refl;
+  levels_are = λ vs. omega arith;
+  back = call_back x p;
+}
 
 abbrev pub group_symbols : List (Sym grammar)
 group_symbols = part task ∷ one (a_sign signs.Close) ∷ []
 
-pub group_back : (p : ℕ) (d : Parse task_atom) → head d ≡ sign signs.Open p → (vs : Values grammar group_symbols) × (task_group p vs.0 vs.1.0 ≡ d)
+pub group_back : (p : ℕ) (d : Parse task_atom) → head d ≡ symbol signs.Open p → (vs : Values grammar group_symbols)
+    × (task_group p vs.0 vs.1.0 ≡ d)
 group_back p (task_group q t r) h = let same : q ≡ p = cc in ((t, (r, tt)), ap (λ n. task_group n t r) (sym same))
 group_back p d h = absurd cc
 
-abbrev pub group_rule : (p : ℕ) → Rule task_atom 1 (sign signs.Open p)
-group_rule p = record { some = tt; symbols = group_symbols; build = λ vs. task_group p vs.0 vs.1.0; tokens_are = λ vs. refl; levels_are = λ vs. omega arith; back = group_back p }
+abbrev pub group_rule : (p : ℕ) → Rule task_atom 1 (symbol signs.Open p)
+group_rule p = record {
+  some = tt;
+  symbols = group_symbols;
+  build = λ vs. task_group p vs.0 vs.1.0;
+  tokens_are = λ vs. refl;
+  levels_are = λ vs. omega arith;
+  back = group_back p;
+}
 
 -- the tokens begin no atom of a task
-module _ (ts : List Lexeme) (no_edit : (p : ℕ) (s : List Lexeme) → ts ≡ word words.Edit p ∷ s → ⊥) (no_enter : (p : ℕ) (s : List Lexeme) → ts ≡ word words.Enter p ∷ s → ⊥) (no_share : (p : ℕ) (s : List Lexeme) → ts ≡ word words.Share p ∷ s → ⊥) (no_fail : (p : ℕ) (s : List Lexeme) → ts ≡ word words.Fail p ∷ s → ⊥) (no_name : (x : Text) (p : ℕ) (s : List Lexeme) → ts ≡ name x p ∷ s → ⊥) (no_open : (p : ℕ) (s : List Lexeme) → ts ≡ sign signs.Open p ∷ s → ⊥) where
+module _ (ts : List Lexeme) (no_edit : (p : ℕ) (s : List Lexeme) → ts ≡ keyword words.Edit p ∷ s → ⊥) (no_enter : (p : ℕ) (s : List Lexeme)
+    → ts ≡ keyword words.Enter p ∷ s → ⊥) (no_share : (p : ℕ) (s : List Lexeme) → ts ≡ keyword words.Share p ∷ s → ⊥)
+    (no_fail : (p : ℕ) (s : List Lexeme) → ts ≡ keyword words.Fail p ∷ s → ⊥) (no_name : (x : Text) (p : ℕ) (s : List Lexeme)
+    → ts ≡ name x p ∷ s → ⊥) (no_open : (p : ℕ) (s : List Lexeme) → ts ≡ symbol signs.Open p ∷ s → ⊥) where
   none : (d : Parse task_atom) (s : List Lexeme) → ts ≡ head d ∷ s → ⊥
   none (task_edit p e) s h = no_edit p s h
   none (task_enter p b) s h = no_enter p s h
@@ -156,5 +246,5 @@ module _ (ts : List Lexeme) (no_edit : (p : ℕ) (s : List Lexeme) → ts ≡ wo
   none (task_call x p es) s h = no_name x p s h
   none (task_group p t q) s h = no_open p s h
 
-  pub no_task_atom : {room : ℕ} → Right (Of task_atom) (Within room) (Stops task_atom) ts (Err (Fault Unexpected (length ts)))
+  pub no_task_atom : {room : ℕ} → Right (Of task_atom) (IsWithinLevels room) (EndsForm task_atom) ts (Err (Fault Unexpected (length ts)))
   no_task_atom = refused_first (Of task_atom) ts (λ a y z h _ b. let (s, is) = begins_head y.0 tt a z ts h.0 b in none y.0 s is)

@@ -1,25 +1,24 @@
 -- Definitions and programs as their readers hand them on.
 use Rattle.std.specs.Prelude.{ℕ, List, [], ◌∷◌, ◌++◌, map}
-use Rattle.task_model.specs.Task.{BodyTerm, body_term}
+use Rattle.task_model.specs.Task.{TaskTerm, BodyTerm, body_term}
 use Rattle.task_model.specs.Text.{Text}
 use Rattle.task_model.specs.Basic.{BasicTerm}
 use Rattle.task_model.specs.Host.{HostTerm}
-use Rattle.task_model.specs.Program.{ParamTerm, param_term, DefTerm, def_term, fun_body, task_body}
-use Rattle.program_grammar.specs.Parts.{Shown}
-use Rattle.task_builder.specs.Works.{ShownWork}
+use Rattle.task_model.specs.Program.{ParamTerm, param_term, DefBodyTerm, DefTerm, def_term, fun_body, task_body}
+use Rattle.program_grammar.specs.Parts.{ParsedTerm, PartsTerm, one_part}
 use Rattle.program_reader.specs.declared.parameters.Parameters.{Parameters}
 use Rattle.program_reader.specs.declared.definition.ReadDefinition.{ReadDefinition}
 use Rattle.program_reader.specs.declared.program.Definitions.{Definitions}
-use Rattle.program_grammar.specs.Grammar.{program, definition, parameter, series, list, enclosed, parameters, Parse}
-use Rattle.program_grammar.specs.Meaning.{meaning, bodies_of}
-use Rattle.program_grammar.specs.Nodes.{start, places}
+use Rattle.task_model.specs.Grammar.{program, definition, parameter, series, list, enclosed, parameters, Parse}
+use Rattle.task_model.specs.Meaning.{meaning, bodies_of}
+use Rattle.task_model.specs.Nodes.{start, places}
 
 -- ---- parameters, with their places
 abbrev pub shown_parameter : Parse parameter → ParamTerm × ℕ
 shown_parameter d = (meaning d, start d)
 
-abbrev pub shown_series : Parse (series (list parameters)) → List ParamTerm × List ℕ
-shown_series d = (meaning d, places d)
+abbrev pub shown_parameter_list : Parse (series (list parameters)) → List ParamTerm × List ℕ
+shown_parameter_list d = (meaning d, places d)
 
 abbrev pub shown_enclosed : Parse (enclosed parameters) → List ParamTerm × List ℕ
 shown_enclosed d = (meaning d, places d)
@@ -40,11 +39,18 @@ abbrev pub shown_definition : ReadDefinition → ShownDefinition
 shown_definition r = record { def = def_term r.def; places = r.places.items; bodies = map body_term r.bodies.items }
 
 -- definitions from their parts
-abbrev pub function_definition : ℕ → Text → List ParamTerm × List ℕ → BasicTerm × ℕ → Shown HostTerm → ShownDefinition
-function_definition p x ps b e = record { def = record { name = x; params = ps.0; result = b.0; what = fun_body e.term }; places = p ∷ (ps.1 ++ e.places); bodies = [] }
+abbrev pub definition_of : ℕ → Text → List ParamTerm × List ℕ → BasicTerm × ℕ → DefBodyTerm → PartsTerm → ShownDefinition
+definition_of p x ps b what parts = record {
+  def = record { name = x; params = ps.0; result = b.0; what = what };
+  places = p ∷ (ps.1 ++ parts.places);
+  bodies = parts.bodies;
+}
 
-abbrev pub task_definition : ℕ → Text → List ParamTerm × List ℕ → BasicTerm × ℕ → ShownWork → ShownDefinition
-task_definition p x ps b t = record { def = record { name = x; params = ps.0; result = b.0; what = task_body t.term }; places = p ∷ (ps.1 ++ t.places); bodies = t.bodies }
+abbrev pub function_definition : ℕ → Text → List ParamTerm × List ℕ → BasicTerm × ℕ → ParsedTerm HostTerm → ShownDefinition
+function_definition p x ps b e = definition_of p x ps b (fun_body e.term) (one_part e)
+
+abbrev pub task_definition : ℕ → Text → List ParamTerm × List ℕ → BasicTerm × ℕ → ParsedTerm TaskTerm → ShownDefinition
+task_definition p x ps b t = definition_of p x ps b (task_body t.term) (one_part t)
 
 -- ---- a program
 pub record ShownProgram : Type 0 where

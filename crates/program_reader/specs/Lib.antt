@@ -1,2 +1,2 @@
 pub mod Definitions
-pub mod Signs
+pub mod DefinitionKeywords

@@ -1,29 +1,26 @@
 ghost use Rattle.std.specs.Prelude.{◌≡◌, ◌≤◌, ℕ, ◌∷◌, map, IfOk, IfErr};
 ghost use Rattle.exact_reading.specs.Reading.{seen};
-ghost use Rattle.task_syntax.specs.declared.keyword.Keyword.TheVariants as words;
-ghost use Rattle.program_grammar.specs.Lexemes as terms;
-ghost use Rattle.program_grammar.specs.Grammar as grammar;
+ghost use Rattle.task_model.specs.declared.keyword.Keyword.TheVariants as words;
+ghost use Rattle.task_model.specs.Lexemes as terms;
+ghost use Rattle.task_model.specs.Grammar as grammar;
 ghost use Rattle.program_grammar.specs.Languages.{Reads};
-ghost use Rattle.program_grammar.specs.Parts.{lexemes, measured, shown_host};
+ghost use Rattle.program_grammar.specs.Parts.{lexemes, measured, shown_host, parts_term};
 ghost use Rattle.program_reader.specs.Definitions.{shown_meaning, shown_definition, shown_parameters};
-ghost use Rattle.task_builder.specs.Works.{shown_task, shown_work};
-ghost use Rattle.program_reader.specs.Signs.{word_of};
-ghost use Rattle.task_model.specs.Basic.{basic_term};
-ghost use Rattle.task_model.specs.Task.{task_term, body_term};
-ghost use Rattle.task_model.specs.Program.{param_term, task_body};
+ghost use Rattle.task_builder.specs.Tasks.{shown_task, parsed_task};
+ghost use Rattle.task_model.specs.Program.{def_body_term};
+ghost use Rattle.program_reader.specs.DefinitionKeywords.{word_of};
 
 use crate::definition_words::DefinitionWord;
 use crate::parameters::{Parameters, enclosed_parameters};
 use crate::tasks::task;
-use exact_reading::Stop;
+use exact_reading::ParseStop;
 use expression_reader::expression;
 use program_grammar::{
-    Located, Measured, Node, basic, expect_name, expect_sign, joined, name_text,
+    Measured, Parsed, Parts, PositionedToken, basic, expect_name, expect_symbol, name_text,
 };
 use std::alloc::Global;
-use task_builder::{Scope, Work};
-use task_model::{Basic, Body, Def, DefBody, Host, Param, Row, TaskText};
-use task_syntax::Symbol;
+use task_builder::parameter_scope;
+use task_model::{Body, Def, DefBody, Host, Symbol, Task};
 
 /// A definition that was read, the places of its nodes in pre-order, and its bodies in the order in which their texts begin.
 #[derive(Drop)]
@@ -34,7 +31,37 @@ pub(crate) struct ReadDefinition {
 }
 
 impl ReadDefinition {
-    ghost use Rattle.program_reader.specs.Definitions.{function_definition, task_definition};
+    ghost use Rattle.program_reader.specs.Definitions.{definition_of, function_definition, task_definition};
+
+    /// The definition whose word stands here, of what stands in its body.
+    fn of(
+        alloc: Global,
+        place: u64,
+        name: &str,
+        parameters: Parameters,
+        result_type: Measured,
+        body: (DefBody, Parts),
+    ) -> Result<ReadDefinition, ParseStop>
+        ensures shown { IfOk result (λ r. shown_definition r ≡ definition_of place name.now (shown_parameters parameters) (measured result_type) (def_body_term body.0) (parts_term body.1)) }
+        ensures memory { IfErr result (λ e. e ≡ ParseStop.Memory) }
+    {
+        let name = name_text(alloc, name)?;
+        let (what, parts) = body;
+        let mut places = parameters.places;
+        let mut inner_places = parts.places;
+        places.insert(0, place)?;
+        places.append(&mut inner_places)?;
+        Ok(ReadDefinition {
+            def: Def {
+                name,
+                params: parameters.list,
+                result: result_type.basic,
+                what,
+            },
+            places,
+            bodies: parts.bodies,
+        })
+    }
 
     /// The definition of a function.
     fn of_function(
@@ -43,23 +70,14 @@ impl ReadDefinition {
         name: &str,
         parameters: Parameters,
         result_type: Measured,
-        body: Node<Host>,
-    ) -> Result<ReadDefinition, Stop>
+        body: Parsed<Host>,
+    ) -> Result<ReadDefinition, ParseStop>
         ensures shown { IfOk result (λ r. shown_definition r ≡ function_definition place name.now (shown_parameters parameters) (measured result_type) (shown_host body)) }
-        ensures memory { IfErr result (λ e. e ≡ Stop.Memory) }
+        ensures memory { IfErr result (λ e. e ≡ ParseStop.Memory) }
     {
-        let places = joined(place, parameters.places, body.places)?;
-        let name = name_text(alloc, name)?;
-        Ok(ReadDefinition {
-            def: Def {
-                name,
-                params: parameters.list,
-                result: result_type.basic,
-                what: DefBody::Fun(Box::into_inner(body.term)),
-            },
-            places,
-            bodies: Vec::new(alloc),
-        })
+        let (body, parts) = body.into_parts();
+        let body = (DefBody::Fun(Box::into_inner(body)), parts);
+        ReadDefinition::of(alloc, place, name, parameters, result_type, body)
     }
 
     /// The definition of a task.
@@ -69,48 +87,14 @@ impl ReadDefinition {
         name: &str,
         parameters: Parameters,
         result_type: Measured,
-        body: Work,
-    ) -> Result<ReadDefinition, Stop>
-        ensures shown { IfOk result (λ r. shown_definition r ≡ task_definition place name.now (shown_parameters parameters) (measured result_type) (shown_work body)) }
-        ensures memory { IfErr result (λ e. e ≡ Stop.Memory) }
+        body: Parsed<Task>,
+    ) -> Result<ReadDefinition, ParseStop>
+        ensures shown { IfOk result (λ r. shown_definition r ≡ task_definition place name.now (shown_parameters parameters) (measured result_type) (parsed_task body)) }
+        ensures memory { IfErr result (λ e. e ≡ ParseStop.Memory) }
     {
-        let name = name_text(alloc, name)?;
-        ReadDefinition::headed(place, name, parameters, result_type, body)
-    }
-
-    /// The definition of a task of this name.
-    fn headed(
-        place: u64,
-        name: TaskText,
-        parameters: Parameters,
-        result_type: Measured,
-        body: Work,
-    ) -> Result<ReadDefinition, Stop>
-        ensures shown { IfOk result (λ r. shown_definition r ≡ task_definition place name (shown_parameters parameters) (measured result_type) (shown_work body)) }
-        ensures memory { IfErr result (λ e. e ≡ Stop.Memory) }
-    {
-        let body = body.under(place, parameters.places)?;
-        Ok(ReadDefinition::titled(name, parameters.list, result_type.basic, body))
-    }
-
-    /// The definition of a task whose places stand with its body.
-    fn titled(name: TaskText, params: Row<Param>, result_type: Basic, body: Work) -> ReadDefinition
-        ensures { shown_definition result ≡ record {
-          def = record { name = name; params = map param_term params.list; result = basic_term result_type; what = task_body (task_term body.task.value) };
-          places = body.places.items;
-          bodies = map body_term body.bodies.items;
-        } }
-    {
-        ReadDefinition {
-            def: Def {
-                name,
-                params,
-                result: result_type,
-                what: DefBody::Task(Box::into_inner(body.task)),
-            },
-            places: body.places,
-            bodies: body.bodies,
-        }
+        let (body, parts) = body.into_parts();
+        let body = (DefBody::Task(Box::into_inner(body)), parts);
+        ReadDefinition::of(alloc, place, name, parameters, result_type, body)
     }
 }
 
@@ -119,16 +103,16 @@ fn function<'t>(
     alloc: Global,
     room: usize,
     place: u64,
-    tokens: &'t [Located<'t>],
-) -> Result<(ReadDefinition, &'t [Located<'t>]), Stop>
+    tokens: &'t [PositionedToken<'t>],
+) -> Result<(ReadDefinition, &'t [PositionedToken<'t>]), ParseStop>
     requires { 1 ≤ room }
-    ensures { (next : ℕ) → Reads grammar.definition (shown_meaning next) room (terms.word words.Fun place ∷ lexemes tokens.now) (seen (λ r. (shown_definition r.0, lexemes r.1.now)) result) }
+    ensures { (next : ℕ) → Reads grammar.definition (shown_meaning next) room (terms.keyword words.Fun place ∷ lexemes tokens.now) (seen (λ r. (shown_definition r.0, lexemes r.1.now)) result) }
 {
     let (name, _, rest) = expect_name(tokens)?;
     let (parameters, rest) = enclosed_parameters(alloc, room, rest)?;
-    let (_, rest) = expect_sign(rest, Symbol::Colon)?;
+    let (_, rest) = expect_symbol(rest, Symbol::Colon)?;
     let (result, rest) = basic(alloc, room, rest)?;
-    let (_, rest) = expect_sign(rest, Symbol::Define)?;
+    let (_, rest) = expect_symbol(rest, Symbol::Define)?;
     let (body, rest) = expression(alloc, room, rest)?;
     let read = ReadDefinition::of_function(alloc, place, name, parameters, result, body)?;
     Ok((read, rest))
@@ -140,11 +124,11 @@ fn body_of_task<'t>(
     room: usize,
     parameters: &Parameters,
     next: u32,
-    tokens: &'t [Located<'t>],
-) -> Result<(Work, &'t [Located<'t>]), Stop>
-    ensures { Reads grammar.task (shown_task (map (λ q. q.name) parameters.now.list.list) next) room (lexemes tokens.now) (seen (λ r. (shown_work r.0, lexemes r.1.now)) result) }
+    tokens: &'t [PositionedToken<'t>],
+) -> Result<(Parsed<Task>, &'t [PositionedToken<'t>]), ParseStop>
+    ensures { Reads grammar.task (shown_task (map (λ q. q.name) parameters.now.list.list) next) room (lexemes tokens.now) (seen (λ r. (parsed_task r.0, lexemes r.1.now)) result) }
 {
-    let scope = Scope::of(alloc, parameters.list.as_slice());
+    let scope = parameter_scope(alloc, parameters.list.as_slice())?;
     task(alloc, room, &scope, next, tokens)
 }
 
@@ -154,16 +138,16 @@ fn task_definition<'t>(
     room: usize,
     next: u32,
     place: u64,
-    tokens: &'t [Located<'t>],
-) -> Result<(ReadDefinition, &'t [Located<'t>]), Stop>
+    tokens: &'t [PositionedToken<'t>],
+) -> Result<(ReadDefinition, &'t [PositionedToken<'t>]), ParseStop>
     requires { 1 ≤ room }
-    ensures { Reads grammar.definition (shown_meaning next) room (terms.word words.Task place ∷ lexemes tokens.now) (seen (λ r. (shown_definition r.0, lexemes r.1.now)) result) }
+    ensures { Reads grammar.definition (shown_meaning next) room (terms.keyword words.Task place ∷ lexemes tokens.now) (seen (λ r. (shown_definition r.0, lexemes r.1.now)) result) }
 {
     let (name, _, rest) = expect_name(tokens)?;
     let (parameters, rest) = enclosed_parameters(alloc, room, rest)?;
-    let (_, rest) = expect_sign(rest, Symbol::Colon)?;
+    let (_, rest) = expect_symbol(rest, Symbol::Colon)?;
     let (result, rest) = basic(alloc, room, rest)?;
-    let (_, rest) = expect_sign(rest, Symbol::Define)?;
+    let (_, rest) = expect_symbol(rest, Symbol::Define)?;
     let (body, rest) = body_of_task(alloc, room, &parameters, next, rest)?;
     let read = ReadDefinition::of_task(alloc, place, name, parameters, result, body)?;
     Ok((read, rest))
@@ -176,10 +160,10 @@ pub(crate) fn definition<'t>(
     next: u32,
     word: DefinitionWord,
     place: u64,
-    tokens: &'t [Located<'t>],
-) -> Result<(ReadDefinition, &'t [Located<'t>]), Stop>
+    tokens: &'t [PositionedToken<'t>],
+) -> Result<(ReadDefinition, &'t [PositionedToken<'t>]), ParseStop>
     requires { 1 ≤ room }
-    ensures { Reads grammar.definition (shown_meaning next) room (terms.word (word_of word) place ∷ lexemes tokens.now) (seen (λ r. (shown_definition r.0, lexemes r.1.now)) result) }
+    ensures { Reads grammar.definition (shown_meaning next) room (terms.keyword (word_of word) place ∷ lexemes tokens.now) (seen (λ r. (shown_definition r.0, lexemes r.1.now)) result) }
 {
     match word {
         DefinitionWord::Function => function(alloc, room, place, tokens),

@@ -1,16 +1,17 @@
 ghost use Rattle.std.specs.Prelude.{◌≡◌, ◌≤◌, [], ◌∷◌, ◌++◌, IfOk, IfErr};
 ghost use Rattle.exact_reading.specs.Reading.{seen};
 ghost use Rattle.task_model.specs.Program.{param_term};
-ghost use Rattle.program_grammar.specs.Grammar as grammar;
+ghost use Rattle.task_model.specs.Grammar as grammar;
 ghost use Rattle.program_grammar.specs.Languages.{Reads};
 ghost use Rattle.program_grammar.specs.Parts.{lexemes};
-ghost use Rattle.program_reader.specs.Definitions.{shown_parameter, shown_series, shown_enclosed, shown_parameters};
+ghost use Rattle.program_reader.specs.Definitions.{shown_parameter, shown_parameter_list, shown_enclosed, shown_parameters};
 
-use exact_reading::{Stop, unexpected};
-use program_grammar::{Located, basic, expect_sign, name_text, strip_name, strip_sign, strip_word};
+use exact_reading::{ParseStop, unexpected};
+use program_grammar::{
+    PositionedToken, basic, expect_symbol, name_text, strip_keyword, strip_name, strip_symbol,
+};
 use std::alloc::Global;
-use task_model::{Kind, Param, Row};
-use task_syntax::{Keyword, Symbol};
+use task_model::{Keyword, Kind, Param, Row, Symbol};
 
 /// Parameters that were read, and their places.
 #[derive(Drop)]
@@ -31,15 +32,15 @@ impl Parameters {
     }
 
     /// These parameters, and one more behind them, which stands here.
-    fn and(self, parameter: Param, place: u64) -> Result<Parameters, Stop>
+    fn and(self, parameter: Param, place: u64) -> Result<Parameters, ParseStop>
         ensures shown { IfOk result (λ r. shown_parameters r ≡ ((shown_parameters self).0 ++ param_term parameter ∷ [], (shown_parameters self).1 ++ place ∷ [])) }
-        ensures memory { IfErr result (λ e. e ≡ Stop.Memory) }
+        ensures memory { IfErr result (λ e. e ≡ ParseStop.Memory) }
     {
         let mut places = self.places;
         places.push(place)?;
         let mut list = self.list;
         if list.push(parameter).is_err() {
-            return Err(Stop::Memory);
+            return Err(ParseStop::Memory);
         }
         Ok(Parameters { list, places })
     }
@@ -49,18 +50,18 @@ impl Parameters {
 fn parameter<'t>(
     alloc: Global,
     room: usize,
-    tokens: &'t [Located<'t>],
-) -> Result<(Param, u64, &'t [Located<'t>]), Stop>
+    tokens: &'t [PositionedToken<'t>],
+) -> Result<(Param, u64, &'t [PositionedToken<'t>]), ParseStop>
     requires { 1 ≤ room }
     ensures { Reads grammar.parameter shown_parameter room (lexemes tokens.now) (seen (λ r. ((param_term r.0, r.1), lexemes r.2.now)) result) }
 {
     let Some((name, place, rest)) = strip_name(tokens) else {
         return Err(unexpected(tokens));
     };
-    let Some((_, rest)) = strip_sign(rest, Symbol::Colon) else {
+    let Some((_, rest)) = strip_symbol(rest, Symbol::Colon) else {
         return Err(unexpected(rest));
     };
-    if let Some((_, rest)) = strip_word(rest, Keyword::Ref) {
+    if let Some((_, rest)) = strip_keyword(rest, Keyword::Ref) {
         let (item, rest) = basic(alloc, room, rest)?;
         let name = name_text(alloc, name)?;
         let kind = Kind::Ref(item.basic);
@@ -76,14 +77,14 @@ fn parameter<'t>(
 fn some_parameters<'t>(
     alloc: Global,
     room: usize,
-    tokens: &'t [Located<'t>],
-) -> Result<(Parameters, &'t [Located<'t>]), Stop>
+    tokens: &'t [PositionedToken<'t>],
+) -> Result<(Parameters, &'t [PositionedToken<'t>]), ParseStop>
     requires { 1 ≤ room }
-    ensures { Reads (grammar.series (grammar.list grammar.parameters)) shown_series room (lexemes tokens.now) (seen (λ r. (shown_parameters r.0, lexemes r.1.now)) result) }
+    ensures { Reads (grammar.series (grammar.list grammar.parameters)) shown_parameter_list room (lexemes tokens.now) (seen (λ r. (shown_parameters r.0, lexemes r.1.now)) result) }
 {
     let (first, place, mut rest) = parameter(alloc, room, tokens)?;
     let mut all = Parameters::none(alloc).and(first, place)?;
-    while let Some((_, after)) = strip_sign(rest, Symbol::Comma) {
+    while let Some((_, after)) = strip_symbol(rest, Symbol::Comma) {
         let (next, place, after) = parameter(alloc, room, after)?;
         all = all.and(next, place)?;
         rest = after;
@@ -95,18 +96,18 @@ fn some_parameters<'t>(
 pub(crate) fn enclosed_parameters<'t>(
     alloc: Global,
     room: usize,
-    tokens: &'t [Located<'t>],
-) -> Result<(Parameters, &'t [Located<'t>]), Stop>
+    tokens: &'t [PositionedToken<'t>],
+) -> Result<(Parameters, &'t [PositionedToken<'t>]), ParseStop>
     requires { 1 ≤ room }
     ensures { Reads (grammar.enclosed grammar.parameters) shown_enclosed room (lexemes tokens.now) (seen (λ r. (shown_parameters r.0, lexemes r.1.now)) result) }
 {
-    let Some((_, rest)) = strip_sign(tokens, Symbol::Open) else {
+    let Some((_, rest)) = strip_symbol(tokens, Symbol::Open) else {
         return Err(unexpected(tokens));
     };
-    if let Some((_, rest)) = strip_sign(rest, Symbol::Close) {
+    if let Some((_, rest)) = strip_symbol(rest, Symbol::Close) {
         return Ok((Parameters::none(alloc), rest));
     }
     let (all, rest) = some_parameters(alloc, room, rest)?;
-    let (_, rest) = expect_sign(rest, Symbol::Close)?;
+    let (_, rest) = expect_symbol(rest, Symbol::Close)?;
     Ok((all, rest))
 }

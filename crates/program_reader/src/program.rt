@@ -1,14 +1,14 @@
 ghost use Rattle.std.specs.Prelude.{◌≡◌, ◌≤◌, ◌+◌, [], length, IfOk, IfErr};
 ghost use Rattle.exact_reading.specs.Reading.{seen};
-ghost use Rattle.program_grammar.specs.Grammar as grammar;
+ghost use Rattle.task_model.specs.Grammar as grammar;
 ghost use Rattle.program_grammar.specs.Languages.{Reads};
 ghost use Rattle.program_grammar.specs.Parts.{lexemes};
 ghost use Rattle.program_reader.specs.Definitions.{shown_definition, shown_program, shown_definitions, more_shown};
 
 use crate::definition::{ReadDefinition, definition};
 use crate::definition_words::definition_word;
-use exact_reading::Stop;
-use program_grammar::Located;
+use exact_reading::ParseStop;
+use program_grammar::PositionedToken;
 use std::alloc::Global;
 use task_builder::number_after;
 use task_model::{Body, Def, Row};
@@ -34,17 +34,17 @@ impl Definitions {
     }
 
     /// The number behind the bodies of these definitions.
-    fn number_after(&self) -> Result<u32, Stop>
+    fn number_after(&self) -> Result<u32, ParseStop>
         ensures number { IfOk result (λ number. number ≡ 0 + length (shown_definitions self.now).bodies) }
-        ensures memory { IfErr result (λ e. e ≡ Stop.Memory) }
+        ensures memory { IfErr result (λ e. e ≡ ParseStop.Memory) }
     {
         number_after(0, self.bodies.len())
     }
 
     /// These definitions, and one more behind them.
-    fn and(self, definition: ReadDefinition) -> Result<Definitions, Stop>
+    fn and(self, definition: ReadDefinition) -> Result<Definitions, ParseStop>
         ensures shown { IfOk result (λ r. shown_definitions r ≡ more_shown (shown_definitions self) (shown_definition definition)) }
-        ensures memory { IfErr result (λ e. e ≡ Stop.Memory) }
+        ensures memory { IfErr result (λ e. e ≡ ParseStop.Memory) }
     {
         let mut places = self.places;
         let mut other_places = definition.places;
@@ -54,7 +54,7 @@ impl Definitions {
         bodies.append(&mut other_bodies)?;
         let mut defs = self.defs;
         if defs.push(definition.def).is_err() {
-            return Err(Stop::Memory);
+            return Err(ParseStop::Memory);
         }
         Ok(Definitions {
             defs,
@@ -65,7 +65,10 @@ impl Definitions {
 }
 
 /// No definitions yet, and all tokens before them.
-fn nothing_read<'t>(alloc: Global, tokens: &'t [Located<'t>]) -> (Definitions, &'t [Located<'t>])
+fn nothing_read<'t>(
+    alloc: Global,
+    tokens: &'t [PositionedToken<'t>],
+) -> (Definitions, &'t [PositionedToken<'t>])
     ensures none { shown_definitions result.0 ≡ record { defs = []; places = []; bodies = [] } }
     ensures rest { result.1.now ≡ tokens.now }
 {
@@ -76,8 +79,8 @@ fn nothing_read<'t>(alloc: Global, tokens: &'t [Located<'t>]) -> (Definitions, &
 pub(crate) fn program<'t>(
     alloc: Global,
     room: usize,
-    tokens: &'t [Located<'t>],
-) -> Result<(Definitions, &'t [Located<'t>]), Stop>
+    tokens: &'t [PositionedToken<'t>],
+) -> Result<(Definitions, &'t [PositionedToken<'t>]), ParseStop>
     requires { 1 ≤ room }
     ensures { Reads grammar.program shown_program room (lexemes tokens.now) (seen (λ r. (shown_definitions r.0, lexemes r.1.now)) result) }
 {

@@ -2,17 +2,17 @@ ghost use Rattle.std.specs.Prelude.{◌≡◌, ◌<◌, ◌≤◌, length, List,
 ghost use Rattle.task_model.specs.Token.{TokenTerm};
 ghost use Rattle.task_syntax.specs.Tokens.{IsToken, AreTokens, AreSpans};
 ghost use Rattle.program_grammar.specs.Faults.{IsSpelled, AreSpelled};
-ghost use Rattle.program_grammar.specs.Lexemes.{token_term, token_terms};
+ghost use Rattle.task_model.specs.Lexemes.{token_term, token_terms};
 ghost use Rattle.program_grammar.specs.Parts.{lexeme, lexemes};
 
-use exact_reading::Stop;
-use program_grammar::{Digits, Lexeme, Located, Quote};
+use exact_reading::ParseStop;
+use program_grammar::{Digits, Lexeme, PositionedToken, QuotedText};
 use std::alloc::Global;
 use std::str;
 use task_syntax::{Token, TokenKind};
 
 /// A token of a source, as the grammar takes it.
-fn lexeme_of<'s>(source: &'s str, token: &'s Token) -> Located<'s>
+fn lexeme_of<'s>(source: &'s str, token: &'s Token) -> PositionedToken<'s>
     requires spelled { (term : TokenTerm) × IsToken source.now token.now term × IsSpelled term }
     requires some { token.now.from < token.now.to }
     requires within { token.now.to ≤ length source.now }
@@ -26,26 +26,26 @@ fn lexeme_of<'s>(source: &'s str, token: &'s Token) -> Located<'s>
                 unreachable!();
             };
             let lexeme = Lexeme::Name(name);
-            Located { lexeme, from }
+            PositionedToken { lexeme, from }
         }
         TokenKind::Keyword(keyword) => {
-            let lexeme = Lexeme::Word(*keyword);
-            Located { lexeme, from }
+            let lexeme = Lexeme::Keyword(*keyword);
+            PositionedToken { lexeme, from }
         }
         TokenKind::Number(value) => {
             let lexeme = Lexeme::Number(Digits {
                 digits: spelling,
                 value: *value,
             });
-            Located { lexeme, from }
+            PositionedToken { lexeme, from }
         }
         TokenKind::Text(content) => {
-            let lexeme = Lexeme::Quote(Quote { spelling, content });
-            Located { lexeme, from }
+            let lexeme = Lexeme::Text(QuotedText { spelling, content });
+            PositionedToken { lexeme, from }
         }
         TokenKind::Symbol(symbol) => {
-            let lexeme = Lexeme::Sign(*symbol);
-            Located { lexeme, from }
+            let lexeme = Lexeme::Symbol(*symbol);
+            PositionedToken { lexeme, from }
         }
     }
 }
@@ -55,13 +55,13 @@ pub(crate) fn lexemes_of<'s>(
     alloc: Global,
     source: &'s str,
     tokens: &'s [Token],
-) -> Result<Vec<Located<'s>>, Stop>
+) -> Result<Vec<PositionedToken<'s>>, ParseStop>
     requires are { (ts : List TokenTerm) × AreTokens source.now tokens.now ts × AreSpelled ts }
     requires spans { AreSpans 0 tokens.now (length source.now) }
     ensures terms { IfOk result (λ r. (ts : List TokenTerm) → AreTokens source.now tokens.now ts → AreSpelled ts → ts ≡ token_terms (lexemes r.items)) }
-    ensures memory { IfErr result (λ e. e ≡ Stop.Memory) }
+    ensures memory { IfErr result (λ e. e ≡ ParseStop.Memory) }
 {
-    let mut all = Vec::new(alloc);
+    let mut all = Vec::with_capacity(alloc, tokens.len())?;
     let mut rest = tokens;
     while let Some((token, more)) = rest.split_first() {
         all.push(lexeme_of(source, token))?;

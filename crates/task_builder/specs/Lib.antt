@@ -1,3 +1,3 @@
 pub mod Numbers
-pub mod Signs
-pub mod Works
+pub mod TaskOperators
+pub mod Tasks

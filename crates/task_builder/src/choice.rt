@@ -1,11 +1,11 @@
 ghost use Rattle.std.specs.Prelude.{◌≡◌, ℕ, List, ◌∷◌, MatchOption};
-ghost use Rattle.program_grammar.specs.Lexemes as terms;
-ghost use Rattle.program_grammar.specs.Grammar as grammar;
+ghost use Rattle.task_model.specs.Lexemes as terms;
+ghost use Rattle.task_model.specs.Grammar as grammar;
 ghost use Rattle.program_grammar.specs.Parts.{lexemes};
-ghost use Rattle.task_builder.specs.Signs.{choice_term};
+ghost use Rattle.task_builder.specs.TaskOperators.{choice_term};
 
-use program_grammar::{Located, strip_sign};
-use task_syntax::Symbol;
+use program_grammar::{PositionedToken, strip_symbol};
+use task_model::Symbol;
 
 /// Who chooses between two tasks: the one that has a value, or the user.
 #[derive(Clone, Copy, Debug, PartialEq, Eq)]
@@ -17,15 +17,17 @@ pub enum Choice {
 }
 
 /// The choice that stands first, if one does, its place, and what stands after it.
-pub fn choice_sign<'t>(tokens: &'t [Located<'t>]) -> Option<(Choice, u64, &'t [Located<'t>])>
+pub fn choice_sign<'t>(
+    tokens: &'t [PositionedToken<'t>],
+) -> Option<(Choice, u64, &'t [PositionedToken<'t>])>
     ensures { MatchOption result
         ((o : grammar.Operator grammar.choice) (p : ℕ) (rest : List terms.Lexeme) → lexemes tokens.now ≡ grammar.operator o p ∷ rest → ⊥)
         (λ r. lexemes tokens.now ≡ grammar.operator (choice_term r.0) r.1 ∷ lexemes r.2.now) }
 {
-    if let Some((place, rest)) = strip_sign(tokens, Symbol::InternalChoice) {
+    if let Some((place, rest)) = strip_symbol(tokens, Symbol::InternalChoice) {
         return Some((Choice::Internal, place, rest));
     }
-    if let Some((place, rest)) = strip_sign(tokens, Symbol::ExternalChoice) {
+    if let Some((place, rest)) = strip_symbol(tokens, Symbol::ExternalChoice) {
         return Some((Choice::External, place, rest));
     }
     None

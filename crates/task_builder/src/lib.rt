@@ -1,15 +1,20 @@
 //! Tasks that were read, and larger ones made of them: with their levels, their places, and their bodies by number.
 #![tactic(auto)]
 
+mod atoms;
+mod binders;
 mod bodies;
+mod branches;
 mod choice;
 mod numbers;
-mod scope;
+mod scopes;
 mod step;
-mod work;
 
+pub use atoms::{call_task, edit_task, enter_task, fail_task, grouped_task, share_task};
+pub use binders::{let_task, new_task, put_task};
+pub use bodies::{and_task, choice_task, step_task};
+pub use branches::{case_task, if_task};
 pub use choice::{Choice, choice_sign};
-pub use numbers::number_after;
-pub use scope::Scope;
+pub use numbers::{number_after, number_behind, number_of_choice, number_of_step};
+pub use scopes::{inner_scope, parameter_scope};
 pub use step::{Step, step_sign};
-pub use work::Work;

@@ -84,27 +84,34 @@ module _ (f : Frame) where
   pub give_state : (t : TreeTerm) (σ τ : List ValueTerm) → TreeIn f.inside t → Twins f σ τ → Goes SameState (give (at t σ)) (give (at t τ))
   give_state t σ τ h q = like_give (at t σ) (at t τ) (τ, refl, record { tree = h; stores = q })
 
-  pub like_known : {X A B : Type 0} (R : A → B → Type 0) (o : Option X) (p : X → Plan A) (p' : X → Plan B) → ((x : X) → Goes R (p x) (p' x)) → Goes R (known o p) (known o p')
+  pub like_known : {X A B : Type 0} (R : A → B → Type 0) (o : Option X) (p : X → Plan A) (p' : X → Plan B) → ((x : X) → Goes R (p x) (p' x))
+      → Goes R (known o p) (known o p')
   like_known R None p p' h = like_stuck
   like_known R (Some x) p p' h = h x
 
-  like_slot : {A B : Type 0} (R : A → B → Type 0) (o : Option SlotTerm) (p : SlotTerm → Plan A) (p' : SlotTerm → Plan B) → IfIn f.inside o → ((s : SlotTerm) → SlotIn f.inside s → Goes R (p s) (p' s)) → Goes R (known o p) (known o p')
+  like_slot : {A B : Type 0} (R : A → B → Type 0) (o : Option SlotTerm) (p : SlotTerm → Plan A) (p' : SlotTerm → Plan B) → IfIn f.inside o
+      → ((s : SlotTerm) → SlotIn f.inside s → Goes R (p s) (p' s)) → Goes R (known o p) (known o p')
   like_slot R None p p' i h = like_stuck
   like_slot R (Some s) p p' i h = h s i
 
-  like_place : {A B : Type 0} (R : A → B → Type 0) (s : SlotTerm) (p : ℕ → Plan A) (p' : ℕ → Plan B) → SlotIn f.inside s → ((n : ℕ) → f.inside n ≡ true → Goes R (p n) (p' n)) → Goes R (as_place s p) (as_place s p')
+  like_place : {A B : Type 0} (R : A → B → Type 0) (s : SlotTerm) (p : ℕ → Plan A) (p' : ℕ → Plan B) → SlotIn f.inside s
+      → ((n : ℕ) → f.inside n ≡ true → Goes R (p n) (p' n)) → Goes R (as_place s p) (as_place s p')
   like_place R (plain_slot v) p p' i h = like_stuck
   like_place R (place_slot n) p p' i h = h n i
 
   -- the slot of a name that is a reference
-  pub like_ref : {A B : Type 0} (R : A → B → Type 0) (env : EnvTerm) (x : Text) (p : ℕ → Plan A) (p' : ℕ → Plan B) → SlotsIn f.inside env.slots → ((n : ℕ) → f.inside n ≡ true → Goes R (p n) (p' n)) → Goes R (known (slot_of env x) (λ s. as_place s p)) (known (slot_of env x) (λ s. as_place s p'))
+  pub like_ref : {A B : Type 0} (R : A → B → Type 0) (env : EnvTerm) (x : Text) (p : ℕ → Plan A) (p' : ℕ → Plan B)
+      → SlotsIn f.inside env.slots → ((n : ℕ) → f.inside n ≡ true → Goes R (p n) (p' n))
+      → Goes R (known (slot_of env x) (λ s. as_place s p)) (known (slot_of env x) (λ s. as_place s p'))
   like_ref R env x p p' i h = like_slot R (slot_of env x) _ _ (found_in f.inside env.names env.slots x i) (λ s q. like_place R s p p' q h)
 
-  pub like_branch : {A B : Type 0} (R : A → B → Type 0) (b : Bool) (p q : Plan A) (p' q' : Plan B) → Goes R p p' → Goes R q q' → Goes R (branch b p q) (branch b p' q')
+  pub like_branch : {A B : Type 0} (R : A → B → Type 0) (b : Bool) (p q : Plan A) (p' q' : Plan B) → Goes R p p' → Goes R q q'
+      → Goes R (branch b p q) (branch b p' q')
   like_branch R true p q p' q' h k = h
   like_branch R false p q p' q' h k = k
 
-  pub like_chosen : {A B : Type 0} (R : A → B → Type 0) (v : ValueTerm) (p q : Plan A) (p' q' : Plan B) → Goes R p p' → Goes R q q' → Goes R (chosen v p q) (chosen v p' q')
+  pub like_chosen : {A B : Type 0} (R : A → B → Type 0) (v : ValueTerm) (p q : Plan A) (p' q' : Plan B) → Goes R p p' → Goes R q q'
+      → Goes R (chosen v p q) (chosen v p' q')
   like_chosen R (bool_value b) p q p' q' h k = like_branch R b p q p' q' h k
   like_chosen R unit_value p q p' q' h k = like_stuck
   like_chosen R (int_value i) p q p' q' h k = like_stuck
@@ -112,7 +119,9 @@ module _ (f : Frame) where
   like_chosen R (pair_value v w) p q p' q' h k = like_stuck
   like_chosen R (list_value vs) p q p' q' h k = like_stuck
 
-  pub like_matched : {A B : Type 0} (R : A → B → Type 0) (v : ValueTerm) (p : Plan A) (p' : Plan B) (q : ValueTerm → ValueTerm → Plan A) (q' : ValueTerm → ValueTerm → Plan B) → Goes R p p' → ((head tail : ValueTerm) → Goes R (q head tail) (q' head tail)) → Goes R (matched v p q) (matched v p' q')
+  pub like_matched : {A B : Type 0} (R : A → B → Type 0) (v : ValueTerm) (p : Plan A) (p' : Plan B) (q : ValueTerm → ValueTerm → Plan A)
+      (q' : ValueTerm → ValueTerm → Plan B) → Goes R p p' → ((head tail : ValueTerm) → Goes R (q head tail) (q' head tail))
+      → Goes R (matched v p q) (matched v p' q')
   like_matched R (list_value no_values) p p' q q' h k = h
   like_matched R (list_value (more_values v vs)) p p' q q' h k = k v (list_value vs)
   like_matched R unit_value p p' q q' h k = like_stuck
@@ -121,60 +130,79 @@ module _ (f : Frame) where
   like_matched R (text_value t) p p' q q' h k = like_stuck
   like_matched R (pair_value v w) p p' q q' h k = like_stuck
 
-  pub like_or : {A B : Type 0} (R : A → B → Type 0) (o : Option ValueTerm) (p q : Plan A) (p' q' : Plan B) → Goes R p p' → Goes R q q' → Goes R (with_value o p q) (with_value o p' q')
+  pub like_or : {A B : Type 0} (R : A → B → Type 0) (o : Option ValueTerm) (p q : Plan A) (p' q' : Plan B) → Goes R p p' → Goes R q q'
+      → Goes R (with_value o p q) (with_value o p' q')
   like_or R None p q p' q' h k = k
   like_or R (Some v) p q p' q' h k = h
 
   -- ---- names
-  pub bind_in : (env : EnvTerm) (σ τ : List ValueTerm) (x : Text) (s : SlotTerm) → AlikeIn env σ τ → SlotIn f.inside s → AlikeIn (bound env x s) σ τ
+  pub bind_in : (env : EnvTerm) (σ τ : List ValueTerm) (x : Text) (s : SlotTerm) → AlikeIn env σ τ → SlotIn f.inside s
+      → AlikeIn (bound env x s) σ τ
   bind_in env σ τ x s h q = record { slots = slots_in_push f.inside env.slots s h.slots q; stores = h.stores }
 
   -- a head and a tail
-  pub bind_two : (env : EnvTerm) (σ τ : List ValueTerm) (x y : Text) (v w : ValueTerm) → AlikeIn env σ τ → AlikeIn (bound (bound env x (plain_slot v)) y (plain_slot w)) σ τ
+  pub bind_two : (env : EnvTerm) (σ τ : List ValueTerm) (x y : Text) (v w : ValueTerm) → AlikeIn env σ τ
+      → AlikeIn (bound (bound env x (plain_slot v)) y (plain_slot w)) σ τ
   bind_two env σ τ x y v w h = bind_in (bound env x (plain_slot v)) σ τ y (plain_slot w) (bind_in env σ τ x (plain_slot v) h tt) tt
 
   pub moved_in : (env : EnvTerm) (σ τ : List ValueTerm) (n : ℕ) → AlikeIn env σ τ → AlikeIn (later_by n env) σ τ
   moved_in env σ τ n h = record { slots = h.slots; stores = h.stores }
 
   -- over the stores that a part leaves
-  pub over_left : (env : EnvTerm) (σ τ : List ValueTerm) (s : State) (τ' : List ValueTerm) → AlikeIn env σ τ → Alike s τ' → AlikeIn env s.store τ'
+  pub over_left : (env : EnvTerm) (σ τ : List ValueTerm) (s : State) (τ' : List ValueTerm) → AlikeIn env σ τ → Alike s τ'
+      → AlikeIn env s.store τ'
   over_left env σ τ s τ' h q = record { slots = h.slots; stores = q.stores }
 
   -- ---- arguments
-  like_argument : {A B : Type 0} (R : A → B → Type 0) (env : EnvTerm) (σ τ : List ValueTerm) (e : HostTerm) (k : KindTerm) (p : SlotTerm → Plan A) (p' : SlotTerm → Plan B) → AlikeIn env σ τ → ((s : SlotTerm) → SlotIn f.inside s → Goes R (p s) (p' s)) → Goes R (slot_for env σ e k p) (slot_for env τ e k p')
+  like_argument : {A B : Type 0} (R : A → B → Type 0) (env : EnvTerm) (σ τ : List ValueTerm) (e : HostTerm) (k : KindTerm)
+      (p : SlotTerm → Plan A) (p' : SlotTerm → Plan B) → AlikeIn env σ τ → ((s : SlotTerm) → SlotIn f.inside s → Goes R (p s) (p' s))
+      → Goes R (slot_for env σ e k p) (slot_for env τ e k p')
   like_argument R env σ τ e (plain_kind b) p p' h q = like_ask (gives_value e env σ) τ _ _ h (λ v τ' r. q (plain_slot v) tt)
-  like_argument R env σ τ e (ref_kind b) p p' h q = like_known R (bare_name e) _ _ (λ x. like_ref R env x _ _ h.slots (λ n i. q (place_slot n) i))
+  like_argument R env σ τ e (ref_kind b) p p' h q = like_known R (bare_name e) _ _
+      (λ x. like_ref R env x _ _ h.slots (λ n i. q (place_slot n) i))
 
-  pub like_slots : (env : EnvTerm) (σ τ : List ValueTerm) (done : List SlotTerm) (es : List HostTerm) (qs : List ParamTerm) → AlikeIn env σ τ → SlotsIn f.inside done → Goes SameSlots (slots_for env σ done es qs) (slots_for env τ done es qs)
+  pub like_slots : (env : EnvTerm) (σ τ : List ValueTerm) (done : List SlotTerm) (es : List HostTerm) (qs : List ParamTerm)
+      → AlikeIn env σ τ → SlotsIn f.inside done → Goes SameSlots (slots_for env σ done es qs) (slots_for env τ done es qs)
   like_slots env σ τ done [] [] h i = like_give done done (refl, i)
   like_slots env σ τ done [] (q ∷ qs) h i = like_stuck
   like_slots env σ τ done (e ∷ es) [] h i = like_stuck
   like_slots env σ τ done (e ∷ es) (q ∷ qs) h i =
-      like_argument SameSlots env σ τ e q.kind _ _ h (λ s j. like_slots env σ τ (done ++ s ∷ []) es qs h (slots_in_push f.inside done s i j))
+      like_argument SameSlots env σ τ e q.kind _ _ h
+      (λ s j. like_slots env σ τ (done ++ s ∷ []) es qs h (slots_in_push f.inside done s i j))
 
-  like_values : (env : EnvTerm) (σ τ : List ValueTerm) (done : List ValueTerm) (es : HostTerms) → AlikeIn env σ τ → Goes SameValues (values_for env σ done es) (values_for env τ done es)
+  like_values : (env : EnvTerm) (σ τ : List ValueTerm) (done : List ValueTerm) (es : HostTerms) → AlikeIn env σ τ
+      → Goes SameValues (values_for env σ done es) (values_for env τ done es)
   like_values env σ τ done no_exprs h = like_give done done refl
-  like_values env σ τ done (more_exprs e es) h = like_ask (gives_value e env σ) τ _ _ h (λ v τ' r. like_values env σ τ (done ++ v ∷ []) es h)
+  like_values env σ τ done (more_exprs e es) h = like_ask (gives_value e env σ) τ _ _ h
+      (λ v τ' r. like_values env σ τ (done ++ v ∷ []) es h)
 
   -- ---- expressions
   -- a last part
-  last_value : (e : HostTerm) (env : EnvTerm) (σ τ : List ValueTerm) → AlikeIn env σ τ → Goes SameValue (ask (gives_value e env σ) give) (ask (gives_value e env τ) give)
+  last_value : (e : HostTerm) (env : EnvTerm) (σ τ : List ValueTerm) → AlikeIn env σ τ
+      → Goes SameValue (ask (gives_value e env σ) give) (ask (gives_value e env τ) give)
   last_value e env σ τ h = like_ask (gives_value e env σ) τ _ _ h (λ v τ' r. give_value v)
 
   -- one operand, and two
-  one_operand : (a : HostTerm) (env : EnvTerm) (σ τ : List ValueTerm) (made : ValueTerm → Option ValueTerm) → AlikeIn env σ τ → Goes SameValue (ask (gives_value a env σ) (λ v. known (made v) give)) (ask (gives_value a env τ) (λ v. known (made v) give))
+  one_operand : (a : HostTerm) (env : EnvTerm) (σ τ : List ValueTerm) (made : ValueTerm → Option ValueTerm) → AlikeIn env σ τ
+      → Goes SameValue (ask (gives_value a env σ) (λ v. known (made v) give)) (ask (gives_value a env τ) (λ v. known (made v) give))
   one_operand a env σ τ made h = like_ask (gives_value a env σ) τ _ _ h (λ v τ' r. like_known SameValue (made v) give give give_value)
 
-  two_operands : (a b : HostTerm) (env : EnvTerm) (σ τ : List ValueTerm) (made : ValueTerm → ValueTerm → Option ValueTerm) → AlikeIn env σ τ → Goes SameValue (ask (gives_value a env σ) (λ v. ask (gives_value b env σ) (λ w. known (made v w) give))) (ask (gives_value a env τ) (λ v. ask (gives_value b env τ) (λ w. known (made v w) give)))
+  two_operands : (a b : HostTerm) (env : EnvTerm) (σ τ : List ValueTerm) (made : ValueTerm → ValueTerm → Option ValueTerm) → AlikeIn env σ τ
+      → Goes SameValue (ask (gives_value a env σ) (λ v. ask (gives_value b env σ) (λ w. known (made v w) give)))
+      (ask (gives_value a env τ) (λ v. ask (gives_value b env τ) (λ w. known (made v w) give)))
   two_operands a b env σ τ made h = like_ask (gives_value a env σ) τ _ _ h (λ v τ' r. one_operand b env σ τ (made v) h)
 
   module _ (c : CheckedTerm) where
-    like_op : (o : Op) (a b : HostTerm) (env : EnvTerm) (σ τ : List ValueTerm) → AlikeIn env σ τ → Goes SameValue (op_rule c o a b env σ) (op_rule c o a b env τ)
-    like_op ops.Or a b env σ τ h = like_ask (gives_value a env σ) τ _ _ h (λ v τ' r. like_chosen SameValue v _ _ _ _ (give_value (bool_value true)) (last_value b env σ τ h))
-    like_op ops.And a b env σ τ h = like_ask (gives_value a env σ) τ _ _ h (λ v τ' r. like_chosen SameValue v _ _ _ _ (last_value b env σ τ h) (give_value (bool_value false)))
+    like_op : (o : Op) (a b : HostTerm) (env : EnvTerm) (σ τ : List ValueTerm) → AlikeIn env σ τ
+        → Goes SameValue (op_rule c o a b env σ) (op_rule c o a b env τ)
+    like_op ops.Or a b env σ τ h = like_ask (gives_value a env σ) τ _ _ h
+        (λ v τ' r. like_chosen SameValue v _ _ _ _ (give_value (bool_value true)) (last_value b env σ τ h))
+    like_op ops.And a b env σ τ h = like_ask (gives_value a env σ) τ _ _ h
+        (λ v τ' r. like_chosen SameValue v _ _ _ _ (last_value b env σ τ h) (give_value (bool_value false)))
     like_op o a b env σ τ h = two_operands a b env σ τ (operated o) h
 
-    pub like_host : (e : HostTerm) (env : EnvTerm) (σ τ : List ValueTerm) → AlikeIn env σ τ → Goes SameValue (value_rule c e env σ) (value_rule c e env τ)
+    pub like_host : (e : HostTerm) (env : EnvTerm) (σ τ : List ValueTerm) → AlikeIn env σ τ
+        → Goes SameValue (value_rule c e env σ) (value_rule c e env τ)
     like_host unit_expr env σ τ h = give_value unit_value
     like_host (bool_expr b) env σ τ h = give_value (bool_value b)
     like_host (int_expr i) env σ τ h = give_value (int_value i)
@@ -185,17 +213,26 @@ module _ (f : Frame) where
         by_slot (plain_slot v) = give_value v
         by_slot (place_slot n) = like_stuck
     like_host (read_expr x) env σ τ h =
-        like_ref SameValue env x _ _ h.slots (λ n i. subst (λ z. Goes SameValue (known (slice_get σ n) give) (known z give)) (h.stores.within n i)
+        like_ref SameValue env x _ _ h.slots
+        (λ n i. subst (λ z. Goes SameValue (known (slice_get σ n) give) (known z give)) (h.stores.within n i)
         (like_known SameValue (slice_get σ n) give give give_value))
     like_host (call_expr g es) env σ τ h =
         like_known SameValue (fun_named c.program g) _ _
-        (λ d. like_unit _ _ (like_after Pre Post SameSlots SameValue (slots_for env σ [] (exprs_of es) d.params) (slots_for env τ [] (exprs_of es) d.params) _ _ (like_slots env σ τ [] (exprs_of es) d.params h tt)
-        (λ ss ss' q. subst (λ z. Goes SameValue (ask (gives_value d.expr (record { names = param_names d.params; slots = ss; first = 0 }) σ) give) (ask (gives_value d.expr (record { names = param_names d.params; slots = z; first = 0 }) τ) give)) (sym q.0)
-        (last_value d.expr (record { names = param_names d.params; slots = ss; first = 0 }) σ τ (record { slots = q.1; stores = h.stores })))))
+        (λ d. like_unit _ _ (like_after Pre Post SameSlots SameValue (slots_for env σ [] (exprs_of es) d.params)
+        (slots_for env τ [] (exprs_of es) d.params) _ _ (like_slots env σ τ [] (exprs_of es) d.params h tt)
+        (λ ss ss' q. subst
+        (λ z. Goes SameValue (ask (gives_value d.expr (record { names = param_names d.params; slots = ss; first = 0 }) σ) give)
+        (ask (gives_value d.expr (record { names = param_names d.params; slots = z; first = 0 }) τ) give)) (sym q.0)
+        (last_value d.expr (record {
+          names = param_names d.params;
+          slots = ss;
+          first = 0;
+        }) σ τ (record { slots = q.1; stores = h.stores })))))
     like_host (pair_expr a b) env σ τ h =
         like_ask (gives_value a env σ) τ _ _ h (λ v τ' r. like_ask (gives_value b env σ) τ _ _ h (λ w τ'' r'. give_value (pair_value v w)))
     like_host (list_expr es) env σ τ h =
-        like_after Pre Post SameValues SameValue (values_for env σ [] es) (values_for env τ [] es) _ _ (like_values env σ τ [] es h) (λ vs vs' q. like_give (list_of vs) (list_of vs') ([], ap list_of q, tt))
+        like_after Pre Post SameValues SameValue (values_for env σ [] es) (values_for env τ [] es) _ _ (like_values env σ τ [] es h)
+        (λ vs vs' q. like_give (list_of vs) (list_of vs') ([], ap list_of q, tt))
     like_host (nil_expr b) env σ τ h = give_value (list_value no_values)
     like_host (neg_expr a) env σ τ h = one_operand a env σ τ negated h
     like_host (not_expr a) env σ τ h = one_operand a env σ τ opposite h
@@ -204,7 +241,8 @@ module _ (f : Frame) where
     like_host (len_expr a) env σ τ h = one_operand a env σ τ length_of h
     like_host (op_expr o a b) env σ τ h = like_op o a b env σ τ h
     like_host (let_expr x a b) env σ τ h =
-        like_ask (gives_value a env σ) τ _ _ h (λ v τ' r. last_value b (bound env x (plain_slot v)) σ τ (bind_in env σ τ x (plain_slot v) h tt))
+        like_ask (gives_value a env σ) τ _ _ h
+        (λ v τ' r. last_value b (bound env x (plain_slot v)) σ τ (bind_in env σ τ x (plain_slot v) h tt))
     like_host (if_expr e a b) env σ τ h =
         like_ask (gives_value e env σ) τ _ _ h (λ v τ' r. like_chosen SameValue v _ _ _ _ (last_value a env σ τ h) (last_value b env σ τ h))
     like_host (case_expr e a x y b) env σ τ h =

@@ -6,9 +6,9 @@ use Rattle.task_model.specs.Value.{ValueTerm}
 use Rattle.task_model.specs.Env.{SlotTerm}
 use Rattle.task_model.specs.Tree.{LaterTerm, TreeTerm, edit_tree, enter_tree, share_tree, then_tree, next_tree, fail_tree, and_tree, or_tree, xor_tree, at}
 use Rattle.task_model.specs.Checked.{CheckedTerm}
-use Rattle.task_model.specs.Plan.{fails, Plan, give, ask, work, Derives}
+use Rattle.task_model.specs.Plan.{fails, Plan, give, ask, plan_work, Derives}
 use Rattle.task_model.specs.Rules.{branch, paired, value_of, tested, side, fail_rule, rule_of}
-use Rattle.task_model.specs.Judgements.{Fails, Within}
+use Rattle.task_model.specs.Judgements.{Fails, IsWithinBudget}
 use Rattle.task_model.specs.Sign.{Test, IsStepSign}
 use Rattle.task_model.specs.Offer.{OfferTerm, next_offer, left_offer, right_offer, offered, both_offers, AreOffers}
 use Rattle.task_model.specs.declared.widget.Sign.TheVariants as signs
@@ -30,7 +30,8 @@ module _ (c : CheckedTerm) (budget top : ℕ) where
   FailsHere t σ = (n : ℕ) × (h : ℕ) × Fails c (at t σ) true n h × Bounds budget top n h
 
   -- the one part that a rule asked for
-  one_part : (t : TreeTerm) (σ : List ValueTerm) (n h : ℕ) → work (Derives (rule_of c)) (ask (fails (at t σ)) give) true n h → Bounds budget top n h → FailsHere t σ
+  one_part : (t : TreeTerm) (σ : List ValueTerm) (n h : ℕ) → plan_work (Derives (rule_of c)) (ask (fails (at t σ)) give) true n h
+      → Bounds budget top n h → FailsHere t σ
   one_part t σ n h d i =
       let last = d.two in
       let e : true ≡ d.middle = last.value in
@@ -41,7 +42,9 @@ module _ (c : CheckedTerm) (budget top : ℕ) where
       (d.n1, d.h1, subst (λ z. Fails c (at t σ) z d.n1 d.h1) (sym e) d.one, record { units = omega arith; height = omega arith })
 
   -- both of two parts that a rule asked for in turn
-  two_parts : (t u : TreeTerm) (σ : List ValueTerm) (n h : ℕ) → work (Derives (rule_of c)) (ask (fails (at t σ)) (λ no. branch no (ask (fails (at u σ)) give) (give false))) true n h → Bounds budget top n h → FailsHere t σ × FailsHere u σ
+  two_parts : (t u : TreeTerm) (σ : List ValueTerm) (n h : ℕ)
+      → plan_work (Derives (rule_of c)) (ask (fails (at t σ)) (λ no. branch no (ask (fails (at u σ)) give) (give false))) true n h
+      → Bounds budget top n h → FailsHere t σ × FailsHere u σ
   two_parts t u σ n h d i =
       let iu = i.units in
       let ih = i.height in
@@ -51,15 +54,18 @@ module _ (c : CheckedTerm) (budget top : ℕ) where
       let w2 : Bounds budget top d.n2 d.h2 = record { units = omega arith; height = omega arith } in
       by_first d.middle d.n1 d.h1 d.n2 d.h2 d.one d.two w1 w2
     where
-      by_first : (b : Bool) (n1 h1 n2 h2 : ℕ) → Fails c (at t σ) b n1 h1 → work (Derives (rule_of c)) (branch b (ask (fails (at u σ)) give) (give false)) true n2 h2 → Bounds budget top n1 h1 → Bounds budget top n2 h2 → FailsHere t σ × FailsHere u σ
+      by_first : (b : Bool) (n1 h1 n2 h2 : ℕ) → Fails c (at t σ) b n1 h1
+          → plan_work (Derives (rule_of c)) (branch b (ask (fails (at u σ)) give) (give false)) true n2 h2 → Bounds budget top n1 h1
+          → Bounds budget top n2 h2 → FailsHere t σ × FailsHere u σ
       by_first false n1 h1 n2 h2 one two w1 w2 = let e = two.value in absurd (cc)
       by_first true n1 h1 n2 h2 one two w1 w2 = ((n1, h1, one, w1), one_part u σ n2 h2 two w2)
 
   -- both sides of a choice
   abbrev SideFails : LaterTerm → List ValueTerm → Type 0
-  SideFails k σ = (n : ℕ) × (h : ℕ) × Test c budget (side c k σ) true n h × Bounds budget top n h
+  SideFails k σ = (n : ℕ) × (h : ℕ) × Test c (side c k σ) true n h × Bounds budget top n h
 
-  two_sides : (j k : LaterTerm) (σ : List ValueTerm) (n h : ℕ) → work (Derives (rule_of c)) (fail_rule c (xor_tree j k) σ) true n h → Bounds budget top n h → SideFails j σ × SideFails k σ
+  two_sides : (j k : LaterTerm) (σ : List ValueTerm) (n h : ℕ) → plan_work (Derives (rule_of c)) (fail_rule c (xor_tree j k) σ) true n h
+      → Bounds budget top n h → SideFails j σ × SideFails k σ
   two_sides j k σ n h d i =
       let w = work_after (Derives (rule_of c)) (λ no. branch no (side c k σ) (give false)) (side c j σ) true n h d in
       let iu = i.units in
@@ -70,12 +76,15 @@ module _ (c : CheckedTerm) (budget top : ℕ) where
       let w2 : Bounds budget top w.n2 w.h2 = record { units = omega arith; height = omega arith } in
       by_first w.middle w.n1 w.h1 w.n2 w.h2 w.one w.two w1 w2
     where
-      by_first : (b : Bool) (n1 h1 n2 h2 : ℕ) → Test c budget (side c j σ) b n1 h1 → work (Derives (rule_of c)) (branch b (side c k σ) (give false)) true n2 h2 → Bounds budget top n1 h1 → Bounds budget top n2 h2 → SideFails j σ × SideFails k σ
+      by_first : (b : Bool) (n1 h1 n2 h2 : ℕ) → Test c (side c j σ) b n1 h1
+          → plan_work (Derives (rule_of c)) (branch b (side c k σ) (give false)) true n2 h2 → Bounds budget top n1 h1
+          → Bounds budget top n2 h2 → SideFails j σ × SideFails k σ
       by_first false n1 h1 n2 h2 one two w1 w2 = let e = two.value in absurd (cc)
       by_first true n1 h1 n2 h2 one two w1 w2 = ((n1, h1, one, w1), (n2, h2, two, w2))
 
   -- by its rule
-  by_fail : (t : TreeTerm) (σ : List ValueTerm) (f : FailsHere t σ) → (h : ℕ) × work (Derives (rule_of c)) (fail_rule c t σ) true f.0 h × Bounds budget top f.0 h
+  by_fail : (t : TreeTerm) (σ : List ValueTerm) (f : FailsHere t σ) → (h : ℕ) × plan_work (Derives (rule_of c)) (fail_rule c t σ) true f.0 h
+      × Bounds budget top f.0 h
   by_fail t σ f =
       let d = by_rule (rule_of c) (fails (at t σ)) true f.0 f.1 f.2 in
       let e = d.height in
@@ -83,7 +92,8 @@ module _ (c : CheckedTerm) (budget top : ℕ) where
       (d.below, d.part, record { units = f.3.units; height = omega arith })
 
   one_fails : (t u : TreeTerm) (σ : List ValueTerm) → fail_rule c u σ ≡ ask (fails (at t σ)) give → FailsHere u σ → FailsHere t σ
-  one_fails t u σ e f = let r = by_fail u σ f in one_part t σ f.0 r.0 (subst (λ p. work (Derives (rule_of c)) p true f.0 r.0) e r.1) r.2
+  one_fails t u σ e f = let r = by_fail u σ f in one_part t σ f.0 r.0 (subst (λ p. plan_work (Derives (rule_of c)) p true f.0 r.0) e r.1)
+      r.2
 
   pub and_fail : (t u : TreeTerm) (σ : List ValueTerm) → FailsHere (and_tree t u) σ → FailsHere t σ × FailsHere u σ
   and_fail t u σ f = let r = by_fail (and_tree t u) σ f in two_parts t u σ f.0 r.0 r.1 r.2
@@ -123,7 +133,8 @@ both_empty : (os us : List OfferTerm) → os ≡ [] → us ≡ [] → both_offer
 both_empty os us e q = let a = ap (λ z. both_offers z us) e in let b = ap (λ z. both_offers [] z) q in a ∙ b
 
 module _ (c : CheckedTerm) (budget : ℕ) where
-  no_offers : (t : TreeTerm) (σ : List ValueTerm) → FailsHere c budget 1000 t σ → (os : List OfferTerm) → AreOffers c budget t σ os → os ≡ []
+  no_offers : (t : TreeTerm) (σ : List ValueTerm) → FailsHere c budget 1000 t σ → (os : List OfferTerm) → AreOffers c budget t σ os
+      → os ≡ []
   no_offers (edit_tree b v) σ f os h = absurd (edit_stands c budget 1000 b v σ f)
   no_offers (enter_tree b) σ f os h = absurd (enter_stands c budget 1000 b σ f)
   no_offers (share_tree b n) σ f os h = absurd (share_stands c budget 1000 b n σ f)
@@ -133,16 +144,19 @@ module _ (c : CheckedTerm) (budget : ℕ) where
       let none : h.0 ≡ signs.No = subst (λ z. IsStepSign c budget z k σ h.0) (no_value c budget 1000 t σ g) h.2 in
       h.4 ∙ ap (λ z. offered next_offer z ++ h.1) none ∙ no_offers t σ g h.1 h.3
   no_offers fail_tree σ f os h = h
-  no_offers (and_tree t u) σ f os h = let g = and_fail c budget 1000 t u σ f in h.4 ∙ both_empty h.0 h.1 (no_offers t σ g.0 h.0 h.2) (no_offers u σ g.1 h.1 h.3)
-  no_offers (or_tree t u) σ f os h = let g = or_fail c budget 1000 t u σ f in h.4 ∙ both_empty h.0 h.1 (no_offers t σ g.0 h.0 h.2) (no_offers u σ g.1 h.1 h.3)
+  no_offers (and_tree t u) σ f os h = let g = and_fail c budget 1000 t u σ f in
+      h.4 ∙ both_empty h.0 h.1 (no_offers t σ g.0 h.0 h.2) (no_offers u σ g.1 h.1 h.3)
+  no_offers (or_tree t u) σ f os h = let g = or_fail c budget 1000 t u σ f in
+      h.4 ∙ both_empty h.0 h.1 (no_offers t σ g.0 h.0 h.2) (no_offers u σ g.1 h.1 h.3)
   no_offers (xor_tree j k) σ f os h =
       let g = xor_fail c budget 1000 j k σ f in
-      let w1 : Within budget g.0.0 g.0.1 = record { units = g.0.3.units; height = g.0.3.height } in
-      let w2 : Within budget g.1.0 g.1.1 = record { units = g.1.3.units; height = g.1.3.height } in
+      let w1 : IsWithinBudget budget g.0.0 g.0.1 = record { units = g.0.3.units; height = g.0.3.height } in
+      let w2 : IsWithinBudget budget g.1.0 g.1.1 = record { units = g.1.3.units; height = g.1.3.height } in
       let first = sign_failing c budget (side c j σ) g.0.0 g.0.1 h.0 g.0.2 w1 h.2 in
       let second = sign_failing c budget (side c k σ) g.1.0 g.1.1 h.1 g.1.2 w2 h.3 in
       h.4 ∙ ap (λ z. offered left_offer z ++ offered right_offer h.1) first ∙ ap (offered right_offer) second
 
   -- what is failing within the budget offers nothing
-  pub failing_offerless : (t : TreeTerm) (σ : List ValueTerm) (n h : ℕ) → Fails c (at t σ) true n h → Within budget n h → (os : List OfferTerm) → AreOffers c budget t σ os → os ≡ []
+  pub failing_offerless : (t : TreeTerm) (σ : List ValueTerm) (n h : ℕ) → Fails c (at t σ) true n h → IsWithinBudget budget n h
+      → (os : List OfferTerm) → AreOffers c budget t σ os → os ≡ []
   failing_offerless t σ n h d w os = no_offers t σ (n, h, d, record { units = w.units; height = w.height }) os

@@ -19,7 +19,7 @@ use Rattle.task_model.specs.Offer.{OfferTerm, AreOffers}
 use Rattle.task_model.specs.Widget.{WidgetTerm, share_shape, here, AreWidgets}
 use Rattle.task_model.specs.declared.widget.Sign.{Sign}
 use Rattle.task_model.specs.declared.widget.Sign.TheVariants as signs
-use Rattle.task_laws.specs.Places.{slot_places, places_in}
+use Rattle.task_laws.specs.TreePlaces.{slot_places, places_in}
 use Rattle.task_laws.proofs.LikeLemmas.{work_alike}
 use Rattle.task_laws.proofs.TwinLemmas.{SlotsIn, TreeIn, slots_in_push, Frame, Twins, value_alike}
 use Rattle.task_laws.proofs.AlikeLemmas.{Pre, Post, steady, SameBool}
@@ -30,26 +30,30 @@ use Rattle.task_laws.proofs.PlaceLemmas.{among-append, among-foot, among-slots, 
 -- ---- what holds of tests over both stores
 module _ (c : CheckedTerm) (f : Frame) where
   -- a test over the one store is one over the other
-  test_alike : (i : ℕ) (ss : List SlotTerm) (σ τ : List ValueTerm) → SlotsIn f.inside ss → Twins f σ τ → (b : Bool) (n h : ℕ) → Test c 0 (test_of c i ss σ) b n h → Test c 0 (test_of c i ss τ) b n h
+  test_alike : (i : ℕ) (ss : List SlotTerm) (σ τ : List ValueTerm) → SlotsIn f.inside ss → Twins f σ τ → (b : Bool) (n h : ℕ)
+      → Test c (test_of c i ss σ) b n h → Test c (test_of c i ss τ) b n h
   test_alike i ss σ τ q t b n h d =
       let w = work_alike (Pre f) (Post f) (steady f) (Derives (rule_of c))
       (λ k τ' a r m g e. let z = all_alike f c e.0 k τ' a r m g e.1 in (z.0, (e.0, z.1), z.2))
       (SameBool f) (test_of c i ss σ) (test_of c i ss τ) (like_test f c i ss σ τ q t) b n h d in
-      subst (λ z. Test c 0 (test_of c i ss τ) z n h) w.2.1 w.1
+      subst (λ z. Test c (test_of c i ss τ) z n h) w.2.1 w.1
 
-  fails_alike : (t : TreeTerm) (σ τ : List ValueTerm) → TreeIn f.inside t → Twins f σ τ → (b : Bool) (n h : ℕ) → Derives (rule_of c) (fails (at t σ)) b n h → Derives (rule_of c) (fails (at t τ)) b n h
+  fails_alike : (t : TreeTerm) (σ τ : List ValueTerm) → TreeIn f.inside t → Twins f σ τ → (b : Bool) (n h : ℕ)
+      → Derives (rule_of c) (fails (at t σ)) b n h → Derives (rule_of c) (fails (at t τ)) b n h
   fails_alike t σ τ i q b n h d =
       let z = all_alike f c d.0 (fails (at t σ)) τ (record { tree = i; stores = q }) b n h d.1 in
       (d.0, z.1)
 
-sign_same : (budget : ℕ) (w w' : Work Bool) (s : Sign) → ((b : Bool) (n h : ℕ) → w b n h → w' b n h) → ((b : Bool) (n h : ℕ) → w' b n h → w b n h) → IsSign budget w s → IsSign budget w' s
+sign_same : (budget : ℕ) (w w' : Work Bool) (s : Sign) → ((b : Bool) (n h : ℕ) → w b n h → w' b n h)
+    → ((b : Bool) (n h : ℕ) → w' b n h → w b n h) → IsSign budget w s → IsSign budget w' s
 sign_same budget w w' signs.No p q h = (h.0, h.1, p true h.0 h.1 h.2, h.3)
 sign_same budget w w' signs.Yes p q h = (h.0, h.1, p false h.0 h.1 h.2, h.3)
 sign_same budget w w' signs.Over p q h = λ b n g d i. h b n g (q b n g d) i
 
 -- ---- offers and widgets, one way
 -- the way from σ to τ and the way back have the same places inside
-module _ (c : CheckedTerm) (budget : ℕ) (inside : ℕ → Bool) (σ τ : List ValueTerm) (early : (n : ℕ) → inside n ≡ false → n < length σ) (early' : (n : ℕ) → inside n ≡ false → n < length τ) where
+module _ (c : CheckedTerm) (budget : ℕ) (inside : ℕ → Bool) (σ τ : List ValueTerm) (early : (n : ℕ) → inside n ≡ false → n < length σ)
+    (early' : (n : ℕ) → inside n ≡ false → n < length τ) where
   abbrev onward : Frame
   onward = record { inside = inside; left = σ; right = τ; early = early }
 
@@ -57,16 +61,20 @@ module _ (c : CheckedTerm) (budget : ℕ) (inside : ℕ → Bool) (σ τ : List 
   backward = record { inside = inside; left = τ; right = σ; early = early' }
 
   module _ (there : Twins onward σ τ) (back : Twins backward τ σ) where
-    test_sign : (i : ℕ) (ss : List SlotTerm) (s : Sign) → SlotsIn inside ss → IsSign budget (Test c budget (test_of c i ss σ)) s → IsSign budget (Test c budget (test_of c i ss τ)) s
+    test_sign : (i : ℕ) (ss : List SlotTerm) (s : Sign) → SlotsIn inside ss → IsSign budget (Test c (test_of c i ss σ)) s
+        → IsSign budget (Test c (test_of c i ss τ)) s
     test_sign i ss s q h =
-        sign_same budget (Test c budget (test_of c i ss σ)) (Test c budget (test_of c i ss τ)) s (test_alike c onward i ss σ τ q there) (test_alike c backward i ss τ σ q back) h
+        sign_same budget (Test c (test_of c i ss σ)) (Test c (test_of c i ss τ)) s (test_alike c onward i ss σ τ q there)
+        (test_alike c backward i ss τ σ q back) h
 
-    step_sign : (o : Option ValueTerm) (k : LaterTerm) (s : Sign) → SlotsIn inside k.slots → IsStepSign c budget o k σ s → IsStepSign c budget o k τ s
+    step_sign : (o : Option ValueTerm) (k : LaterTerm) (s : Sign) → SlotsIn inside k.slots → IsStepSign c budget o k σ s
+        → IsStepSign c budget o k τ s
     step_sign None k s q h = h
     step_sign (Some v) k s q h = test_sign k.body (k.slots ++ plain_slot v ∷ []) s (slots_in_push inside k.slots (plain_slot v) q tt) h
 
     -- a user step's sign, at the value of its left part
-    next_sign : (t : TreeTerm) (k : LaterTerm) (s : Sign) → TreeIn inside t → SlotsIn inside k.slots → IsStepSign c budget (value_of t σ) k σ s → IsStepSign c budget (value_of t τ) k τ s
+    next_sign : (t : TreeTerm) (k : LaterTerm) (s : Sign) → TreeIn inside t → SlotsIn inside k.slots
+        → IsStepSign c budget (value_of t σ) k σ s → IsStepSign c budget (value_of t τ) k τ s
     next_sign t k s i q h = subst (λ z. IsStepSign c budget z k τ s) (value_alike onward t σ τ i there) (step_sign (value_of t σ) k s q h)
 
     pub offers_alike : (t : TreeTerm) (os : List OfferTerm) → TreeIn inside t → AreOffers c budget t σ os → AreOffers c budget t τ os
@@ -108,18 +116,37 @@ among_head n ns = ap (λ b. cond b true (among ns n)) (eq-eqb n n refl)
 slots_within : (inside : ℕ → Bool) (ss : List SlotTerm) → ((n : ℕ) → among (slot_places ss) n ≡ true → inside n ≡ true) → SlotsIn inside ss
 slots_within inside [] h = tt
 slots_within inside (plain_slot v ∷ ss) h = (tt, slots_within inside ss h)
-slots_within inside (place_slot n ∷ ss) h = (h n (among_head n (slot_places ss)), slots_within inside ss (λ m e. h m (among_right (n ∷ []) (slot_places ss) m e)))
+slots_within inside (place_slot n ∷ ss) h = (
+  h n (among_head n (slot_places ss)),
+  slots_within inside ss (λ m e. h m (among_right (n ∷ []) (slot_places ss) m e)),
+)
 
 tree_within : (inside : ℕ → Bool) (t : TreeTerm) → ((n : ℕ) → among (places_in t) n ≡ true → inside n ≡ true) → TreeIn inside t
 tree_within inside (edit_tree b v) h = tt
 tree_within inside (enter_tree b) h = tt
 tree_within inside (share_tree b n) h = h n (among_head n [])
-tree_within inside (then_tree t k) h = (tree_within inside t (λ n e. h n (among_left (places_in t) (slot_places k.slots) n e)), slots_within inside k.slots (λ n e. h n (among_right (places_in t) (slot_places k.slots) n e)))
-tree_within inside (next_tree t k) h = (tree_within inside t (λ n e. h n (among_left (places_in t) (slot_places k.slots) n e)), slots_within inside k.slots (λ n e. h n (among_right (places_in t) (slot_places k.slots) n e)))
+tree_within inside (then_tree t k) h = (
+  tree_within inside t (λ n e. h n (among_left (places_in t) (slot_places k.slots) n e)),
+  slots_within inside k.slots (λ n e. h n (among_right (places_in t) (slot_places k.slots) n e)),
+)
+tree_within inside (next_tree t k) h = (
+  tree_within inside t (λ n e. h n (among_left (places_in t) (slot_places k.slots) n e)),
+  slots_within inside k.slots (λ n e. h n (among_right (places_in t) (slot_places k.slots) n e)),
+)
 tree_within inside fail_tree h = tt
-tree_within inside (and_tree t u) h = (tree_within inside t (λ n e. h n (among_left (places_in t) (places_in u) n e)), tree_within inside u (λ n e. h n (among_right (places_in t) (places_in u) n e)))
-tree_within inside (or_tree t u) h = (tree_within inside t (λ n e. h n (among_left (places_in t) (places_in u) n e)), tree_within inside u (λ n e. h n (among_right (places_in t) (places_in u) n e)))
-tree_within inside (xor_tree j k) h = (slots_within inside j.slots (λ n e. h n (among_left (slot_places j.slots) (slot_places k.slots) n e)), slots_within inside k.slots (λ n e. h n (among_right (slot_places j.slots) (slot_places k.slots) n e)))
+tree_within inside (and_tree t u) h = (
+  tree_within inside t (λ n e. h n (among_left (places_in t) (places_in u) n e)),
+  tree_within inside u (λ n e. h n (among_right (places_in t) (places_in u) n e)),
+)
+tree_within inside (or_tree t u) h = (
+  tree_within inside t (λ n e. h n (among_left (places_in t) (places_in u) n e)),
+  tree_within inside u (λ n e. h n (among_right (places_in t) (places_in u) n e)),
+)
+tree_within inside
+    (xor_tree j k) h = (
+      slots_within inside j.slots (λ n e. h n (among_left (slot_places j.slots) (slot_places k.slots) n e)),
+      slots_within inside k.slots (λ n e. h n (among_right (slot_places j.slots) (slot_places k.slots) n e)),
+    )
 
 -- these places, and all that are new
 abbrev reached : List ℕ → ℕ → ℕ → Bool
@@ -135,7 +162,8 @@ reached-early ns k n e = by_test (among ns n) e
     by_test true q = absurd (cc)
     by_test false q = leb-false k n q
 
-reached-agree : (ns : List ℕ) (σ τ : List ValueTerm) → AgreeOn ns σ τ → (n : ℕ) → reached ns (length σ) n ≡ true → slice_get σ n ≡ slice_get τ n
+reached-agree : (ns : List ℕ) (σ τ : List ValueTerm) → AgreeOn ns σ τ → (n : ℕ) → reached ns (length σ) n ≡ true
+    → slice_get σ n ≡ slice_get τ n
 reached-agree ns σ τ a n e = by_test (among ns n) refl e
   where
     by_test : (b : Bool) → among ns n ≡ b → cond b true (nat_le (length σ) n) ≡ true → slice_get σ n ≡ slice_get τ n
@@ -164,12 +192,25 @@ module _ (ns : List ℕ) (σ τ : List ValueTerm) (a : AgreeOn ns σ τ) where
   home = record { inside = near; left = τ; right = σ; early = early' }
 
   there : Twins forth σ τ
-  there = record { lengths = a.lengths; grown = le_refl (length σ); within = reached-agree ns σ τ a; left = λ n e. refl; right = λ n e. refl }
+  there = record {
+    lengths = a.lengths;
+    grown = le_refl (length σ);
+    within = reached-agree ns σ τ a;
+    left = λ n e. refl;
+    right = λ n e. refl;
+  }
 
   back : Twins home τ σ
-  back = record { lengths = sym a.lengths; grown = le_refl (length τ); within = λ n e. sym (reached-agree ns σ τ a n e); left = λ n e. refl; right = λ n e. refl }
+  back = record {
+    lengths = sym a.lengths;
+    grown = le_refl (length τ);
+    within = λ n e. sym (reached-agree ns σ τ a n e);
+    left = λ n e. refl;
+    right = λ n e. refl;
+  }
 
-  pub test_frame : (c : CheckedTerm) (budget i : ℕ) (ss : List SlotTerm) → ((n : ℕ) → among (slot_places ss) n ≡ true → among ns n ≡ true) → (b : Bool) (n h : ℕ) → Test c budget (test_of c i ss σ) b n h ↔ Test c budget (test_of c i ss τ) b n h
+  pub test_frame : (c : CheckedTerm) (budget i : ℕ) (ss : List SlotTerm) → ((n : ℕ) → among (slot_places ss) n ≡ true → among ns n ≡ true)
+      → (b : Bool) (n h : ℕ) → Test c (test_of c i ss σ) b n h ↔ Test c (test_of c i ss τ) b n h
   test_frame c budget i ss e b n h =
       let q = slots_within near ss (λ m r. reached-among ns (length σ) m (e m r)) in
       (test_alike c forth i ss σ τ q there b n h, test_alike c home i ss τ σ q back b n h)
@@ -185,10 +226,16 @@ module _ (ns : List ℕ) (σ τ : List ValueTerm) (a : AgreeOn ns σ τ) where
     fails_frame c b n h = (fails_alike c forth t σ τ held there b n h, fails_alike c home t τ σ held back b n h)
 
     offers_frame : (c : CheckedTerm) (budget : ℕ) (os : List OfferTerm) → AreOffers c budget t σ os ↔ AreOffers c budget t τ os
-    offers_frame c budget os = (offers_alike c budget near σ τ early early' there back t os held, offers_alike c budget near τ σ early' early back there t os held)
+    offers_frame c budget os = (
+      offers_alike c budget near σ τ early early' there back t os held,
+      offers_alike c budget near τ σ early' early back there t os held,
+    )
 
     widgets_frame : (c : CheckedTerm) (budget : ℕ) (ws : List WidgetTerm) → AreWidgets c budget t σ ws ↔ AreWidgets c budget t τ ws
-    widgets_frame c budget ws = (widgets_alike c budget near σ τ early early' there back t ws held, widgets_alike c budget near τ σ early' early back there t ws held)
+    widgets_frame c budget ws = (
+      widgets_alike c budget near σ τ early early' there back t ws held,
+      widgets_alike c budget near τ σ early' early back there t ws held,
+    )
 
 -- ---- from a foot, and from the places of slots
 module _ (t : TreeTerm) (σ τ : List ValueTerm) (a : AgreeOn (foot t) σ τ) where
@@ -214,12 +261,13 @@ places-value (plain_slot w ∷ ss) v = places-value ss v
 places-value (place_slot n ∷ ss) v = ap (λ z. n ∷ z) (places-value ss v)
 
 module _ (c : CheckedTerm) (budget : ℕ) (k : LaterTerm) (σ τ : List ValueTerm) (a : AgreeOn (with_places k.slots []) σ τ) where
-  pub foot_side : (b : Bool) (n h : ℕ) → Test c budget (side c k σ) b n h ↔ Test c budget (side c k τ) b n h
+  pub foot_side : (b : Bool) (n h : ℕ) → Test c (side c k σ) b n h ↔ Test c (side c k τ) b n h
   foot_side b n h = test_frame (with_places k.slots []) σ τ a c budget k.body k.slots (λ m e. among-slots k.slots m ∙ e) b n h
 
-  pub foot_trial : (v : ValueTerm) (b : Bool) (n h : ℕ) → Test c budget (trial c k v σ) b n h ↔ Test c budget (trial c k v τ) b n h
+  pub foot_trial : (v : ValueTerm) (b : Bool) (n h : ℕ) → Test c (trial c k v σ) b n h ↔ Test c (trial c k v τ) b n h
   foot_trial v b n h =
-      test_frame (with_places k.slots []) σ τ a c budget k.body (k.slots ++ plain_slot v ∷ []) (λ m e. among-slots k.slots m ∙ subst (λ z. among z m ≡ true) (places-value k.slots v) e) b n h
+      test_frame (with_places k.slots []) σ τ a c budget k.body (k.slots ++ plain_slot v ∷ [])
+      (λ m e. among-slots k.slots m ∙ subst (λ z. among z m ≡ true) (places-value k.slots v) e) b n h
 
 -- ---- what it is to agree on a foot
 module _ (t : TreeTerm) (σ τ : List ValueTerm) where
@@ -229,13 +277,17 @@ module _ (t : TreeTerm) (σ τ : List ValueTerm) where
   pub agree_places : AgreeOn (foot t) σ τ ↔ ((length σ ≡ length τ) × All AgreeAt (places_in t))
   agree_places = (
     (λ a. (a.lengths, λ k d lt. at_place a k d lt)),
-    (λ a. record { lengths = a.0; values = λ n e. All-contains AgreeAt (places_in t) n a.1 (among-contains (places_in t) n (sym (among-foot t n) ∙ e)) }),
+    (λ a. record {
+      lengths = a.0;
+      values = λ n e. All-contains AgreeAt (places_in t) n a.1 (among-contains (places_in t) n (sym (among-foot t n) ∙ e));
+    }),
   )
     where
       at_place : AgreeOn (foot t) σ τ → All AgreeAt (places_in t)
       at_place a k d lt =
           let c : Contains (places_in t) (slice_index_or (places_in t) k d) = All-contains_itself (places_in t) k d lt in
-          a.values (slice_index_or (places_in t) k d) (among-foot t (slice_index_or (places_in t) k d) ∙ contains-among (places_in t) (slice_index_or (places_in t) k d) c)
+          a.values (slice_index_or (places_in t) k d)
+          (among-foot t (slice_index_or (places_in t) k d) ∙ contains-among (places_in t) (slice_index_or (places_in t) k d) c)
 
 pub foot_contains : (t : TreeTerm) (n : ℕ) → Contains (foot t) n ↔ Contains (places_in t) n
 foot_contains t n = (

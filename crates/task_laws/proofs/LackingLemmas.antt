@@ -10,9 +10,9 @@ use Rattle.task_model.specs.Tree.{TreeTerm, State}
 use Rattle.task_model.specs.Input.{ActTerm, set_act, next_act, left_act, right_act}
 use Rattle.task_model.specs.Checked.{CheckedTerm}
 use Rattle.task_model.specs.Work.{gives}
-use Rattle.task_model.specs.Plan.{fails, normal, Plan, give, ask, known, work, Derives}
+use Rattle.task_model.specs.Plan.{fails, normal, Plan, give, ask, known, plan_work, Derives}
 use Rattle.task_model.specs.Rules.{branch, opened_env, rule_of}
-use Rattle.task_model.specs.Judgements.{Within}
+use Rattle.task_model.specs.Judgements.{IsWithinBudget}
 use Rattle.task_model.specs.Handling.{if_typed, at_editor, rebuilt, rebuilds, unless_failing}
 use Rattle.task_model.specs.Sign.{IsSign, Test}
 use Rattle.task_model.specs.Offer.{OfferKindTerm, set_offer, offered, IsFor}
@@ -26,11 +26,11 @@ use Rattle.task_laws.proofs.OfferListLemmas.{Matches, offered_some}
 
 module _ (c : CheckedTerm) (budget : ℕ) where
   abbrev W : Plan (Option State) → Option State → ℕ → ℕ → Type 0
-  W q r n h = work (Derives (rule_of c)) q r n h
+  W q r n h = plan_work (Derives (rule_of c)) q r n h
 
   -- a plan that comes to none within the budget
   abbrev pub Lacking : Plan (Option State) → Type 0
-  Lacking q = (n : ℕ) × (h : ℕ) × W q None n h × Within budget n h
+  Lacking q = (n : ℕ) × (h : ℕ) × W q None n h × IsWithinBudget budget n h
 
   pub lacks_now : Lacking (give None)
   lacks_now = (0, 0, record { value = refl; units = refl; height = refl }, record { units = omega arith; height = omega arith })
@@ -61,36 +61,103 @@ module _ (c : CheckedTerm) (budget : ℕ) where
     d.0,
     d.1,
     after_work (Derives (rule_of c)) (λ r. give (rebuilt f r)) q None d.0 d.1
-        (record { middle = None; n1 = d.0; h1 = d.1; n2 = 0; h2 = 0; one = d.2; two = record { value = refl; units = refl; height = refl }; units = omega arith; height = omega arith }),
+        (record {
+          middle = None;
+          n1 = d.0;
+          h1 = d.1;
+          n2 = 0;
+          h2 = 0;
+          one = d.2;
+          two = record {
+            value = refl;
+            units = refl;
+            height = refl;
+          };
+          units = omega arith;
+          height = omega arith;
+        }),
     d.3,
   )
 
   -- a body that is failing
   abbrev TestFails : ℕ → List SlotTerm → List ValueTerm → Type 0
-  TestFails i ss σ = (n : ℕ) × (h : ℕ) × Test c budget (test_of c i ss σ) true n h × Within budget n h
+  TestFails i ss σ = (n : ℕ) × (h : ℕ) × Test c (test_of c i ss σ) true n h × IsWithinBudget budget n h
 
   abbrev tries : Option BodyTerm → ℕ → List SlotTerm → List ValueTerm → Plan Bool
   tries o i ss σ = known o (λ b. ask (normal b.task (opened_env c i b ss) σ) (λ s. ask (fails s) (λ no. give no)))
 
   abbrev keeps : Option BodyTerm → ℕ → List SlotTerm → List ValueTerm → Plan (Option State)
-  keeps o i ss σ = known o (λ b. ask (normal b.task (opened_env c i b ss) σ) (λ s. ask (fails s) (λ no. branch no (give None) (give (Some s)))))
+  keeps o i ss σ = known o
+      (λ b. ask (normal b.task (opened_env c i b ss) σ) (λ s. ask (fails s) (λ no. branch no (give None) (give (Some s)))))
 
-  none_failing : (o : Option BodyTerm) (i : ℕ) (ss : List SlotTerm) (σ : List ValueTerm) (n h : ℕ) → W (keeps o i ss σ) None n h → Test c budget (tries o i ss σ) true n h
+  none_failing : (o : Option BodyTerm) (i : ℕ) (ss : List SlotTerm) (σ : List ValueTerm) (n h : ℕ) → W (keeps o i ss σ) None n h
+      → Test c (tries o i ss σ) true n h
   none_failing None i ss σ n h d = absurd d
   none_failing (Some b) i ss σ n h d =
-      record { middle = d.middle; n1 = d.n1; h1 = d.h1; n2 = d.n2; h2 = d.h2; one = d.one; two = by_answer d.middle d.n2 d.h2 d.two.middle d.two.n1 d.two.h1 d.two.n2 d.two.h2 d.two.one d.two.two d.two.units d.two.height; units = d.units; height = d.height }
+      record {
+        middle = d.middle;
+        n1 = d.n1;
+        h1 = d.h1;
+        n2 = d.n2;
+        h2 = d.h2;
+        one = d.one;
+        two = by_answer d.middle d.n2 d.h2 d.two.middle d.two.n1 d.two.h1 d.two.n2 d.two.h2 d.two.one d.two.two d.two.units d.two.height;
+        units = d.units;
+        height = d.height;
+      }
     where
-      by_answer : (s : State) (n h : ℕ) (m : Bool) (n1 h1 n2 h2 : ℕ) → Derives (rule_of c) (fails s) m n1 h1 → W (branch m (give None) (give (Some s))) None n2 h2 → n ≡ n1 + n2 → h ≡ max h1 h2 → Test c budget (ask (fails s) give) true n h
-      by_answer s n h true n1 h1 n2 h2 one two u g = record { middle = true; n1 = n1; h1 = h1; n2 = n2; h2 = h2; one = one; two = record { value = refl; units = two.units; height = two.height }; units = u; height = g }
+      by_answer : (s : State) (n h : ℕ) (m : Bool) (n1 h1 n2 h2 : ℕ) → Derives (rule_of c) (fails s) m n1 h1
+          → W (branch m (give None) (give (Some s))) None n2 h2 → n ≡ n1 + n2 → h ≡ max h1 h2 → Test c (ask (fails s) give) true n h
+      by_answer s n h true n1 h1 n2 h2 one two u g = record {
+        middle = true;
+        n1 = n1;
+        h1 = h1;
+        n2 = n2;
+        h2 = h2;
+        one = one;
+        two = record {
+          value = refl;
+          units = two.units;
+          height = two.height;
+        };
+        units = u;
+        height = g;
+      }
       by_answer s n h false n1 h1 n2 h2 one two u g = let e = two.value in absurd (cc)
 
-  failing_none : (o : Option BodyTerm) (i : ℕ) (ss : List SlotTerm) (σ : List ValueTerm) (n h : ℕ) → Test c budget (tries o i ss σ) true n h → W (keeps o i ss σ) None n h
+  failing_none : (o : Option BodyTerm) (i : ℕ) (ss : List SlotTerm) (σ : List ValueTerm) (n h : ℕ) → Test c (tries o i ss σ) true n h
+      → W (keeps o i ss σ) None n h
   failing_none None i ss σ n h d = absurd d
   failing_none (Some b) i ss σ n h d =
-      record { middle = d.middle; n1 = d.n1; h1 = d.h1; n2 = d.n2; h2 = d.h2; one = d.one; two = by_answer d.middle d.n2 d.h2 d.two.middle d.two.n1 d.two.h1 d.two.n2 d.two.h2 d.two.one d.two.two d.two.units d.two.height; units = d.units; height = d.height }
+      record {
+        middle = d.middle;
+        n1 = d.n1;
+        h1 = d.h1;
+        n2 = d.n2;
+        h2 = d.h2;
+        one = d.one;
+        two = by_answer d.middle d.n2 d.h2 d.two.middle d.two.n1 d.two.h1 d.two.n2 d.two.h2 d.two.one d.two.two d.two.units d.two.height;
+        units = d.units;
+        height = d.height;
+      }
     where
-      by_answer : (s : State) (n h : ℕ) (m : Bool) (n1 h1 n2 h2 : ℕ) → Derives (rule_of c) (fails s) m n1 h1 → gives m true n2 h2 → n ≡ n1 + n2 → h ≡ max h1 h2 → W (ask (fails s) (λ no. branch no (give None) (give (Some s)))) None n h
-      by_answer s n h true n1 h1 n2 h2 one two u g = record { middle = true; n1 = n1; h1 = h1; n2 = n2; h2 = h2; one = one; two = record { value = refl; units = two.units; height = two.height }; units = u; height = g }
+      by_answer : (s : State) (n h : ℕ) (m : Bool) (n1 h1 n2 h2 : ℕ) → Derives (rule_of c) (fails s) m n1 h1 → gives m true n2 h2
+          → n ≡ n1 + n2 → h ≡ max h1 h2 → W (ask (fails s) (λ no. branch no (give None) (give (Some s)))) None n h
+      by_answer s n h true n1 h1 n2 h2 one two u g = record {
+        middle = true;
+        n1 = n1;
+        h1 = h1;
+        n2 = n2;
+        h2 = h2;
+        one = one;
+        two = record {
+          value = refl;
+          units = two.units;
+          height = two.height;
+        };
+        units = u;
+        height = g;
+      }
       by_answer s n h false n1 h1 n2 h2 one two u g = let e = two.value in absurd (cc)
 
   lacks_fails : (i : ℕ) (ss : List SlotTerm) (σ : List ValueTerm) → Lacking (unless_failing c i ss σ) → TestFails i ss σ
@@ -100,21 +167,24 @@ module _ (c : CheckedTerm) (budget : ℕ) where
   fails_lacks i ss σ d = (d.0, d.1, failing_none (slice_get c.program.bodies i) i ss σ d.0 d.1 d.2, d.3)
 
   -- ---- an editor's offer
-  if_total : (b : BasicTerm) (v : ValueTerm) (f : ValueTerm → State) → Matches (offered (set_offer b) signs.Yes) [] (set_act v) ⊎ Lacking (if_typed (value_has v b) (f v))
+  if_total : (b : BasicTerm) (v : ValueTerm) (f : ValueTerm → State) → Matches (offered (set_offer b) signs.Yes) [] (set_act v)
+      ⊎ Lacking (if_typed (value_has v b) (f v))
   if_total b v f = by_test (value_has v b) refl
     where
       by_test : (c : Bool) → value_has v b ≡ c → Matches (offered (set_offer b) signs.Yes) [] (set_act v) ⊎ Lacking (if_typed c (f v))
       by_test true e = inl (inl (refl, e))
       by_test false e = inr lacks_now
 
-  pub editor_total : (b : BasicTerm) (f : ValueTerm → State) (path : List Turn) (act : ActTerm) → Matches (offered (set_offer b) signs.Yes) path act ⊎ Lacking (at_editor b path act f)
+  pub editor_total : (b : BasicTerm) (f : ValueTerm → State) (path : List Turn) (act : ActTerm)
+      → Matches (offered (set_offer b) signs.Yes) path act ⊎ Lacking (at_editor b path act f)
   editor_total b f [] (set_act v) = if_total b v f
   editor_total b f [] next_act = inr lacks_now
   editor_total b f [] left_act = inr lacks_now
   editor_total b f [] right_act = inr lacks_now
   editor_total b f (t ∷ path) act = inr lacks_now
 
-  pub editor_once : (b : BasicTerm) (f : ValueTerm → State) (path : List Turn) (act : ActTerm) → Matches (offered (set_offer b) signs.Yes) path act → Lacking (at_editor b path act f) → ⊥
+  pub editor_once : (b : BasicTerm) (f : ValueTerm → State) (path : List Turn) (act : ActTerm)
+      → Matches (offered (set_offer b) signs.Yes) path act → Lacking (at_editor b path act f) → ⊥
   editor_once b f [] (set_act v) (inl h) d = some_lacks (f v) (subst (λ c. Lacking (if_typed c (f v))) h.1 d)
   editor_once b f [] (set_act v) (inr h) d = h
   editor_once b f [] next_act (inl h) d = h.1
@@ -127,14 +197,16 @@ module _ (c : CheckedTerm) (budget : ℕ) where
   editor_once b f (t ∷ path) act (inr h) d = h
 
   -- ---- a tested offer
-  pub tested_total : (i : ℕ) (ss : List SlotTerm) (σ : List ValueTerm) (k : OfferKindTerm) (s : Sign) (act : ActTerm) → IsSign budget (Test c budget (test_of c i ss σ)) s → IsFor k act → Matches (offered k s) [] act ⊎ Lacking (unless_failing c i ss σ)
+  pub tested_total : (i : ℕ) (ss : List SlotTerm) (σ : List ValueTerm) (k : OfferKindTerm) (s : Sign) (act : ActTerm)
+      → IsSign budget (Test c (test_of c i ss σ)) s → IsFor k act → Matches (offered k s) [] act ⊎ Lacking (unless_failing c i ss σ)
   tested_total i ss σ k s act d m = by_sign (offered_some k s act m)
     where
       by_sign : (s ≡ signs.No) ⊎ Matches (offered k s) [] act → Matches (offered k s) [] act ⊎ Lacking (unless_failing c i ss σ)
-      by_sign (inl e) = inr (fails_lacks i ss σ (subst (IsSign budget (Test c budget (test_of c i ss σ))) e d))
+      by_sign (inl e) = inr (fails_lacks i ss σ (subst (IsSign budget (Test c (test_of c i ss σ))) e d))
       by_sign (inr h) = inl h
 
-  pub tested_once : (i : ℕ) (ss : List SlotTerm) (σ : List ValueTerm) (k : OfferKindTerm) (s : Sign) (path : List Turn) (act : ActTerm) → IsSign budget (Test c budget (test_of c i ss σ)) s → Matches (offered k s) path act → Lacking (unless_failing c i ss σ) → ⊥
+  pub tested_once : (i : ℕ) (ss : List SlotTerm) (σ : List ValueTerm) (k : OfferKindTerm) (s : Sign) (path : List Turn) (act : ActTerm)
+      → IsSign budget (Test c (test_of c i ss σ)) s → Matches (offered k s) path act → Lacking (unless_failing c i ss σ) → ⊥
   tested_once i ss σ k s path act d h l =
       let f = lacks_fails i ss σ l in
       let e = sign_failing c budget (test_of c i ss σ) f.0 f.1 s f.2 f.3 d in

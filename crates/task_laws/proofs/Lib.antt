@@ -11,3 +11,5 @@ mod PlainFaceLemmas
 mod OfferListLemmas
 mod LackingLemmas
 mod MatchLemmas
+pub mod HistoryLemmas
+pub mod AddressLemmas

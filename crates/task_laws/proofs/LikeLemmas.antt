@@ -3,7 +3,7 @@
 use Rattle.std.proofs.Common.{◌≡◌, ◌↔◌, ℕ, zero, suc, List, refl, sym, subst}
 use Rattle.task_model.specs.Value.{ValueTerm}
 use Rattle.task_model.specs.Tree.{State, at}
-use Rattle.task_model.specs.Plan.{Judgement, gives_value, evaluates, fails, strides, settles, normal, Derived, Plan, give, stuck, ask, unit, stride_on, after, Strides, last_stride, more_strides, Parts, work, derives_at}
+use Rattle.task_model.specs.Plan.{Judgement, gives_value, evaluates, fails, strides, settles, normal, Derived, Plan, give, stuck, ask, unit, stride_on, after, StrideList, last_stride, more_strides, Parts, plan_work, derives_at}
 
 -- the same judgement over another store
 abbrev pub over : Judgement → List ValueTerm → Judgement
@@ -29,17 +29,22 @@ module _ (Pre : Judgement → List ValueTerm → Type 0) (Post : (q : Judgement)
     like_give : (x : A) (y : B) → Rel x y → Like Rel (give x) (give y)
     like_stuck : Like Rel stuck stuck
     like_ask : (q : Judgement) (τ : List ValueTerm) (f : Derived q → Plan A) (g : Derived (over q τ) → Plan B) → Pre q τ →
-        ((r : Derived q) (τ' : List ValueTerm) → Post q r τ' → Like Rel (f r) (g (result_over q τ r τ'))) → Like Rel (ask q f) (ask (over q τ) g)
+        ((r : Derived q) (τ' : List ValueTerm) → Post q r τ' → Like Rel (f r) (g (result_over q τ r τ')))
+        → Like Rel (ask q f) (ask (over q τ) g)
     like_unit : (p : Plan A) (p' : Plan B) → Like Rel p p' → Like Rel (unit p) (unit p')
     like_strides : (s : State) (τ : List ValueTerm) (f : State → Plan A) (g : State → Plan B) → Pre (strides s) τ →
-        ((t : State) (τ' : List ValueTerm) → Post (strides s) t τ' → Like Rel (f t) (g (at t.tree τ'))) → Like Rel (stride_on s f) (stride_on (at s.tree τ) g)
+        ((t : State) (τ' : List ValueTerm) → Post (strides s) t τ' → Like Rel (f t) (g (at t.tree τ')))
+        → Like Rel (stride_on s f) (stride_on (at s.tree τ) g)
 
-  pub like_after : {A B C D : Type 0} (R : A → B → Type 0) (S : C → D → Type 0) (p : Plan A) (p' : Plan B) (f : A → Plan C) (g : B → Plan D) → Like R p p' → ((x : A) (y : B) → R x y → Like S (f x) (g y)) → Like S (after p f) (after p' g)
+  pub like_after : {A B C D : Type 0} (R : A → B → Type 0) (S : C → D → Type 0) (p : Plan A) (p' : Plan B) (f : A → Plan C) (g : B → Plan D)
+      → Like R p p' → ((x : A) (y : B) → R x y → Like S (f x) (g y)) → Like S (after p f) (after p' g)
   like_after R S p p' f g (like_give x y r) k = k x y r
   like_after R S p p' f g like_stuck k = like_stuck
-  like_after R S p p' f g (like_ask q τ f1 g1 a r) k = like_ask q τ _ _ a (λ v τ' h. like_after R S (f1 v) (g1 (result_over q τ v τ')) f g (r v τ' h) k)
+  like_after R S p p' f g (like_ask q τ f1 g1 a r) k = like_ask q τ _ _ a
+      (λ v τ' h. like_after R S (f1 v) (g1 (result_over q τ v τ')) f g (r v τ' h) k)
   like_after R S p p' f g (like_unit p1 p1' r) k = like_unit _ _ (like_after R S p1 p1' f g r k)
-  like_after R S p p' f g (like_strides s τ f1 g1 a r) k = like_strides s τ _ _ a (λ t τ' h. like_after R S (f1 t) (g1 (at t.tree τ')) f g (r t τ' h) k)
+  like_after R S p p' f g (like_strides s τ f1 g1 a r) k = like_strides s τ _ _ a
+      (λ t τ' h. like_after R S (f1 t) (g1 (at t.tree τ')) f g (r t τ' h) k)
 
   -- strides over both: what changes the one changes the other, and each may be followed by more
   pub record Steady : Type 0 where
@@ -48,38 +53,90 @@ module _ (Pre : Judgement → List ValueTerm → Type 0) (Post : (q : Judgement)
     pub whole : (s t u : State) (τ : List ValueTerm) → Post (strides t) u τ → Post (strides s) u τ
 
   module _ (steady : Steady) where
-    module _ (part : Parts) (alike : (q : Judgement) (τ : List ValueTerm) → Pre q τ → (r : Derived q) (n h : ℕ) → part q r n h → (τ' : List ValueTerm) × part (over q τ) (result_over q τ r τ') n h × Post q r τ') where
-      strides_alike : (s : State) (τ : List ValueTerm) → Pre (strides s) τ → (t : State) (n h : ℕ) → Strides (λ u. part (strides u)) s t n h → (τ' : List ValueTerm) × Strides (λ u. part (strides u)) (at s.tree τ) (at t.tree τ') n h × Post (strides s) t τ'
+    module _ (part : Parts) (alike : (q : Judgement) (τ : List ValueTerm) → Pre q τ → (r : Derived q) (n h : ℕ) → part q r n h
+        → (τ' : List ValueTerm) × part (over q τ) (result_over q τ r τ') n h × Post q r τ') where
+      strides_alike : (s : State) (τ : List ValueTerm) → Pre (strides s) τ → (t : State) (n h : ℕ)
+          → StrideList (λ u. part (strides u)) s t n h → (τ' : List ValueTerm)
+          × StrideList (λ u. part (strides u)) (at s.tree τ) (at t.tree τ') n h × Post (strides s) t τ'
       strides_alike s τ a t n h (last_stride _ _ n1 _ _ d same e) =
           let r = alike (strides s) τ a t n1 h d in
           (r.0, last_stride (at s.tree τ) (at t.tree r.0) n1 n h r.1 ((steady.still s t τ r.0 a r.2).0 same) e, r.2)
       strides_alike s τ a t n h (more_strides _ s1 _ n1 m1 _ h1 g1 _ d other rest e e') =
           let r = alike (strides s) τ a s1 n1 h1 d in
-          let w = strides_alike s1 r.0 (steady.next s s1 τ r.0 a r.2) t m1 g1 rest in
-          (w.0, more_strides (at s.tree τ) (at s1.tree r.0) (at t.tree w.0) n1 m1 n h1 g1 h r.1 (λ same. other ((steady.still s s1 τ r.0 a r.2).1 same)) w.1 e e', steady.whole s s1 t w.0 w.2)
+          let w = strides_alike s1 r.0 (steady.next s s1 τ r.0 a r.2) t m1 g1 rest in (
+            w.0,
+            more_strides (at s.tree τ) (at s1.tree r.0) (at t.tree w.0) n1 m1 n h1 g1 h r.1
+                (λ same. other ((steady.still s s1 τ r.0 a r.2).1 same)) w.1 e e',
+            steady.whole s s1 t w.0 w.2,
+          )
 
-      pub work_alike : {A B : Type 0} (R : A → B → Type 0) (p : Plan A) (p' : Plan B) → Like R p p' → (v : A) (n h : ℕ) → work part p v n h → (w : B) × work part p' w n h × R v w
-      work_alike R p p' (like_give x y r) v n h d = (y, record { value = refl; units = d.units; height = d.height }, subst (λ z. R z y) (sym d.value) r)
+      pub work_alike : {A B : Type 0} (R : A → B → Type 0) (p : Plan A) (p' : Plan B) → Like R p p' → (v : A) (n h : ℕ)
+          → plan_work part p v n h → (w : B) × plan_work part p' w n h × R v w
+      work_alike R p p' (like_give x y r) v n h d = (
+        y,
+        record {
+          value = refl;
+          units = d.units;
+          height = d.height;
+        },
+        subst (λ z. R z y) (sym d.value) r,
+      )
       work_alike R p p' like_stuck v n h d = absurd d
       work_alike R p p' (like_ask q τ f g a r) v n h d =
           let one = alike q τ a d.middle d.n1 d.h1 d.one in
-          let two = work_alike R (f d.middle) (g (result_over q τ d.middle one.0)) (r d.middle one.0 one.2) v d.n2 d.h2 d.two in
-          (two.0, record { middle = result_over q τ d.middle one.0; n1 = d.n1; h1 = d.h1; n2 = d.n2; h2 = d.h2; one = one.1; two = two.1; units = d.units; height = d.height }, two.2)
+          let two = work_alike R (f d.middle) (g (result_over q τ d.middle one.0)) (r d.middle one.0 one.2) v d.n2 d.h2 d.two in (
+            two.0,
+            record {
+              middle = result_over q τ d.middle one.0;
+              n1 = d.n1;
+              h1 = d.h1;
+              n2 = d.n2;
+              h2 = d.h2;
+              one = one.1;
+              two = two.1;
+              units = d.units;
+              height = d.height;
+            },
+            two.2,
+          )
       work_alike R p p' (like_unit p1 p1' r) v n h d =
           let one = work_alike R p1 p1' r v d.less h d.part in
           (one.0, record { less = d.less; part = one.1; units = d.units }, one.2)
       work_alike R p p' (like_strides s τ f g a r) v n h d =
           let one = strides_alike s τ a d.middle d.n1 d.h1 d.one in
-          let two = work_alike R (f d.middle) (g (at d.middle.tree one.0)) (r d.middle one.0 one.2) v d.n2 d.h2 d.two in
-          (two.0, record { middle = at d.middle.tree one.0; n1 = d.n1; h1 = d.h1; n2 = d.n2; h2 = d.h2; one = one.1; two = two.1; units = d.units; height = d.height }, two.2)
+          let two = work_alike R (f d.middle) (g (at d.middle.tree one.0)) (r d.middle one.0 one.2) v d.n2 d.h2 d.two in (
+            two.0,
+            record {
+              middle = at d.middle.tree one.0;
+              n1 = d.n1;
+              h1 = d.h1;
+              n2 = d.n2;
+              h2 = d.h2;
+              one = one.1;
+              two = two.1;
+              units = d.units;
+              height = d.height;
+            },
+            two.2,
+          )
 
     -- the results of q over both stores
     abbrev pub Results : (q : Judgement) (τ : List ValueTerm) → Derived q → Derived (over q τ) → Type 0
     Results q τ r r' = (τ' : List ValueTerm) × (r' ≡ result_over q τ r τ') × Post q r τ'
 
-    module _ (step : (q : Judgement) → Plan (Derived q)) (like : (q : Judgement) (τ : List ValueTerm) → Pre q τ → Like (Results q τ) (step q) (step (over q τ))) where
-      pub derives_alike : (k : ℕ) (q : Judgement) (τ : List ValueTerm) → Pre q τ → (r : Derived q) (n h : ℕ) → derives_at step k q r n h → (τ' : List ValueTerm) × derives_at step k (over q τ) (result_over q τ r τ') n h × Post q r τ'
+    module _ (step : (q : Judgement) → Plan (Derived q)) (like : (q : Judgement) (τ : List ValueTerm) → Pre q τ
+        → Like (Results q τ) (step q) (step (over q τ))) where
+      pub derives_alike : (k : ℕ) (q : Judgement) (τ : List ValueTerm) → Pre q τ → (r : Derived q) (n h : ℕ) → derives_at step k q r n h
+          → (τ' : List ValueTerm) × derives_at step k (over q τ) (result_over q τ r τ') n h × Post q r τ'
       derives_alike zero q τ a r n h d = absurd d
       derives_alike (suc k) q τ a r n h d =
-          let w = work_alike (derives_at step k) (derives_alike k) (Results q τ) (step q) (step (over q τ)) (like q τ a) r n d.below d.part in
-          (w.2.0, record { below = d.below; part = subst (λ z. work (derives_at step k) (step (over q τ)) z n d.below) w.2.1 w.1; height = d.height }, w.2.2)
+          let w = work_alike (derives_at step k) (derives_alike k) (Results q τ) (step q) (step (over q τ)) (like q τ a) r n d.below d.part
+          in (
+            w.2.0,
+            record {
+              below = d.below;
+              part = subst (λ z. plan_work (derives_at step k) (step (over q τ)) z n d.below) w.2.1 w.1;
+              height = d.height;
+            },
+            w.2.2,
+          )

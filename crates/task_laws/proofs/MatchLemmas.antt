@@ -24,12 +24,16 @@ use Rattle.task_laws.proofs.LackingLemmas.{Lacking, lacks_now, part_lacks, whole
 module _ (c : CheckedTerm) (budget : ℕ) where
   -- ---- at a user step
   -- the step's own Next matches, or what its left part offers, or the input lacks
-  next_total : (o : Option ValueTerm) (k : LaterTerm) (σ : List ValueTerm) (s : Sign) (us : List OfferTerm) (path : List Turn) (act : ActTerm) (q : Plan (Option State)) → IsStepSign c budget o k σ s → Matches us path act ⊎ Lacking c budget q → Matches (offered next_offer s ++ us) path act ⊎ Lacking c budget (at_step c (stopped path act o) k σ q)
+  next_total : (o : Option ValueTerm) (k : LaterTerm) (σ : List ValueTerm) (s : Sign) (us : List OfferTerm) (path : List Turn)
+      (act : ActTerm) (q : Plan (Option State)) → IsStepSign c budget o k σ s → Matches us path act ⊎ Lacking c budget q
+      → Matches (offered next_offer s ++ us) path act ⊎ Lacking c budget (at_step c (stopped path act o) k σ q)
   next_total o k σ s us path act q d (inl h) = inl (match_right (offered next_offer s) us path act h)
   next_total None k σ s us [] next_act q d (inr h) = inr h
-  next_total (Some v) k σ s us [] next_act q d (inr h) = by_test (tested_total c budget k.body (k.slots ++ plain_slot v ∷ []) σ next_offer s next_act d tt)
+  next_total (Some v) k σ s us [] next_act q d (inr h) = by_test
+      (tested_total c budget k.body (k.slots ++ plain_slot v ∷ []) σ next_offer s next_act d tt)
     where
-      by_test : Matches (offered next_offer s) [] next_act ⊎ Lacking c budget (unless_failing c k.body (k.slots ++ plain_slot v ∷ []) σ) → Matches (offered next_offer s ++ us) [] next_act ⊎ Lacking c budget (unless_failing c k.body (k.slots ++ plain_slot v ∷ []) σ)
+      by_test : Matches (offered next_offer s) [] next_act ⊎ Lacking c budget (unless_failing c k.body (k.slots ++ plain_slot v ∷ []) σ)
+          → Matches (offered next_offer s ++ us) [] next_act ⊎ Lacking c budget (unless_failing c k.body (k.slots ++ plain_slot v ∷ []) σ)
       by_test (inl m) = inl (match_left (offered next_offer s) us [] next_act m)
       by_test (inr l) = inr l
   next_total o k σ s us [] (set_act w) q d (inr h) = inr h
@@ -38,16 +42,22 @@ module _ (c : CheckedTerm) (budget : ℕ) where
   next_total o k σ s us (t ∷ path) act q d (inr h) = inr h
 
   -- never both
-  next_once : (o : Option ValueTerm) (k : LaterTerm) (σ : List ValueTerm) (s : Sign) (us : List OfferTerm) (path : List Turn) (act : ActTerm) (q : Plan (Option State)) → IsStepSign c budget o k σ s → ((v : ValueTerm) → o ≡ Some v → NoNexts us) → (Matches us path act → Lacking c budget q → ⊥) → Matches (offered next_offer s ++ us) path act → Lacking c budget (at_step c (stopped path act o) k σ q) → ⊥
+  next_once : (o : Option ValueTerm) (k : LaterTerm) (σ : List ValueTerm) (s : Sign) (us : List OfferTerm) (path : List Turn)
+      (act : ActTerm) (q : Plan (Option State)) → IsStepSign c budget o k σ s → ((v : ValueTerm) → o ≡ Some v → NoNexts us)
+      → (Matches us path act → Lacking c budget q → ⊥) → Matches (offered next_offer s ++ us) path act
+      → Lacking c budget (at_step c (stopped path act o) k σ q) → ⊥
   next_once o k σ s us path act q d alone r m = by_part o path act d alone r (match_split (offered next_offer s) us path act m)
     where
       none_next : (z : Sign) (path : List Turn) (act : ActTerm) → z ≡ signs.No → Matches (offered next_offer z) path act → ⊥
       none_next z path act e m = subst (λ y. Matches (offered next_offer y) path act) e m
 
-      by_part : (o : Option ValueTerm) (path : List Turn) (act : ActTerm) → IsStepSign c budget o k σ s → ((v : ValueTerm) → o ≡ Some v → NoNexts us) → (Matches us path act → Lacking c budget q → ⊥) → Matches (offered next_offer s) path act ⊎ Matches us path act → Lacking c budget (at_step c (stopped path act o) k σ q) → ⊥
+      by_part : (o : Option ValueTerm) (path : List Turn) (act : ActTerm) → IsStepSign c budget o k σ s
+          → ((v : ValueTerm) → o ≡ Some v → NoNexts us) → (Matches us path act → Lacking c budget q → ⊥)
+          → Matches (offered next_offer s) path act ⊎ Matches us path act → Lacking c budget (at_step c (stopped path act o) k σ q) → ⊥
       by_part None [] next_act d alone r (inl m) l = none_next s [] next_act d m
       by_part None [] next_act d alone r (inr m) l = r m l
-      by_part (Some v) [] next_act d alone r (inl m) l = tested_once c budget k.body (k.slots ++ plain_slot v ∷ []) σ next_offer s [] next_act d m l
+      by_part (Some v) [] next_act d alone r (inl m) l = tested_once c budget k.body (k.slots ++ plain_slot v ∷ []) σ next_offer s []
+          next_act d m l
       by_part (Some v) [] next_act d alone r (inr m) l = no_next-matches us (alone v refl) m
       by_part o [] (set_act w) d alone r (inl m) l = (offered_only next_offer s [] (set_act w) m).1
       by_part o [] (set_act w) d alone r (inr m) l = r m l
@@ -59,45 +69,67 @@ module _ (c : CheckedTerm) (budget : ℕ) where
       by_part o (t ∷ path) act d alone r (inr m) l = r m l
 
   -- ---- parts
-  side_total : (f : TreeTerm → TreeTerm) (q : Plan (Option State)) (os : List OfferTerm) (path : List Turn) (act : ActTerm) → Matches os path act ⊎ Lacking c budget q → Matches os path act ⊎ Lacking c budget (rebuilds q f)
+  side_total : (f : TreeTerm → TreeTerm) (q : Plan (Option State)) (os : List OfferTerm) (path : List Turn) (act : ActTerm)
+      → Matches os path act ⊎ Lacking c budget q → Matches os path act ⊎ Lacking c budget (rebuilds q f)
   side_total f q os path act (inl m) = inl m
   side_total f q os path act (inr l) = inr (whole_lacks c budget f q l)
 
-  first_total : (t u : TreeTerm) (σ : List ValueTerm) (os : List OfferTerm) (path : List Turn) (act : ActTerm) (xs ys : List OfferTerm) → os ≡ both_offers xs ys → (join : TreeTerm → TreeTerm → TreeTerm) → Matches xs path act ⊎ Lacking c budget (handled c t σ path act) → Matches os (turns.First ∷ path) act ⊎ Lacking c budget (after (handled c t σ path act) (λ r. give (rebuilt (λ t'. join t' u) r)))
-  first_total t u σ os path act xs ys e join (inl m) = inl (subst (λ z. Matches z (turns.First ∷ path) act) (sym e) (to_first xs ys path act m))
+  first_total : (t u : TreeTerm) (σ : List ValueTerm) (os : List OfferTerm) (path : List Turn) (act : ActTerm) (xs ys : List OfferTerm)
+      → os ≡ both_offers xs ys → (join : TreeTerm → TreeTerm → TreeTerm) → Matches xs path act ⊎ Lacking c budget (handled c t σ path act)
+      → Matches os (turns.First ∷ path) act ⊎ Lacking c budget (after (handled c t σ path act) (λ r. give (rebuilt (λ t'. join t' u) r)))
+  first_total t u σ os path act xs ys e join (inl m) = inl
+      (subst (λ z. Matches z (turns.First ∷ path) act) (sym e) (to_first xs ys path act m))
   first_total t u σ os path act xs ys e join (inr l) = inr (whole_lacks c budget (λ t'. join t' u) (handled c t σ path act) l)
 
-  second_total : (t u : TreeTerm) (σ : List ValueTerm) (os : List OfferTerm) (path : List Turn) (act : ActTerm) (xs ys : List OfferTerm) → os ≡ both_offers xs ys → (join : TreeTerm → TreeTerm → TreeTerm) → Matches ys path act ⊎ Lacking c budget (handled c u σ path act) → Matches os (turns.Second ∷ path) act ⊎ Lacking c budget (after (handled c u σ path act) (λ r. give (rebuilt (λ u'. join t u') r)))
-  second_total t u σ os path act xs ys e join (inl m) = inl (subst (λ z. Matches z (turns.Second ∷ path) act) (sym e) (to_second xs ys path act m))
+  second_total : (t u : TreeTerm) (σ : List ValueTerm) (os : List OfferTerm) (path : List Turn) (act : ActTerm) (xs ys : List OfferTerm)
+      → os ≡ both_offers xs ys → (join : TreeTerm → TreeTerm → TreeTerm) → Matches ys path act ⊎ Lacking c budget (handled c u σ path act)
+      → Matches os (turns.Second ∷ path) act ⊎ Lacking c budget (after (handled c u σ path act) (λ r. give (rebuilt (λ u'. join t u') r)))
+  second_total t u σ os path act xs ys e join (inl m) = inl
+      (subst (λ z. Matches z (turns.Second ∷ path) act) (sym e) (to_second xs ys path act m))
   second_total t u σ os path act xs ys e join (inr l) = inr (whole_lacks c budget (λ u'. join t u') (handled c u σ path act) l)
 
   -- ---- every tree
-  matched_or_lacking : (t : TreeTerm) (σ : List ValueTerm) (os : List OfferTerm) (path : List Turn) (act : ActTerm) → AreOffers c budget t σ os → Matches os path act ⊎ Lacking c budget (handled c t σ path act)
-  matched_or_lacking (edit_tree b v) σ os path act h = subst (λ z. Matches z path act ⊎ Lacking c budget (at_editor b path act (λ w. at (edit_tree b w) σ))) (sym h) (editor_total c budget b _ path act)
-  matched_or_lacking (enter_tree b) σ os path act h = subst (λ z. Matches z path act ⊎ Lacking c budget (at_editor b path act (λ w. at (edit_tree b w) σ))) (sym h) (editor_total c budget b _ path act)
-  matched_or_lacking (share_tree b n) σ os path act h = subst (λ z. Matches z path act ⊎ Lacking c budget (handled c (share_tree b n) σ path act)) (sym h) (editor_total c budget b _ path act)
+  matched_or_lacking : (t : TreeTerm) (σ : List ValueTerm) (os : List OfferTerm) (path : List Turn) (act : ActTerm)
+      → AreOffers c budget t σ os → Matches os path act ⊎ Lacking c budget (handled c t σ path act)
+  matched_or_lacking (edit_tree b v) σ os path act h = subst
+      (λ z. Matches z path act ⊎ Lacking c budget (at_editor b path act (λ w. at (edit_tree b w) σ))) (sym h)
+      (editor_total c budget b _ path act)
+  matched_or_lacking (enter_tree b) σ os path act h = subst
+      (λ z. Matches z path act ⊎ Lacking c budget (at_editor b path act (λ w. at (edit_tree b w) σ))) (sym h)
+      (editor_total c budget b _ path act)
+  matched_or_lacking (share_tree b n) σ os path act h = subst
+      (λ z. Matches z path act ⊎ Lacking c budget (handled c (share_tree b n) σ path act)) (sym h) (editor_total c budget b _ path act)
   matched_or_lacking fail_tree σ os path act h = inr (lacks_now c budget)
   matched_or_lacking (then_tree t k) σ os path act h =
       side_total (λ t'. then_tree t' k) (handled c t σ path act) os path act (matched_or_lacking t σ os path act h)
   matched_or_lacking (next_tree t k) σ os path act h =
       subst (λ z. Matches z path act ⊎ Lacking c budget (handled c (next_tree t k) σ path act)) (sym h.4)
-      (next_total (value_of t σ) k σ h.0 h.1 path act _ h.2 (side_total (λ t'. next_tree t' k) (handled c t σ path act) h.1 path act (matched_or_lacking t σ h.1 path act h.3)))
+      (next_total (value_of t σ) k σ h.0 h.1 path act _ h.2
+      (side_total (λ t'. next_tree t' k) (handled c t σ path act) h.1 path act (matched_or_lacking t σ h.1 path act h.3)))
   matched_or_lacking (and_tree t u) σ os [] act h = inr (lacks_now c budget)
-  matched_or_lacking (and_tree t u) σ os (turns.First ∷ path) act h = first_total t u σ os path act h.0 h.1 h.4 and_tree (matched_or_lacking t σ h.0 path act h.2)
-  matched_or_lacking (and_tree t u) σ os (turns.Second ∷ path) act h = second_total t u σ os path act h.0 h.1 h.4 and_tree (matched_or_lacking u σ h.1 path act h.3)
+  matched_or_lacking (and_tree t u) σ os (turns.First ∷ path) act h = first_total t u σ os path act h.0 h.1 h.4 and_tree
+      (matched_or_lacking t σ h.0 path act h.2)
+  matched_or_lacking (and_tree t u) σ os (turns.Second ∷ path) act h = second_total t u σ os path act h.0 h.1 h.4 and_tree
+      (matched_or_lacking u σ h.1 path act h.3)
   matched_or_lacking (or_tree t u) σ os [] act h = inr (lacks_now c budget)
-  matched_or_lacking (or_tree t u) σ os (turns.First ∷ path) act h = first_total t u σ os path act h.0 h.1 h.4 or_tree (matched_or_lacking t σ h.0 path act h.2)
-  matched_or_lacking (or_tree t u) σ os (turns.Second ∷ path) act h = second_total t u σ os path act h.0 h.1 h.4 or_tree (matched_or_lacking u σ h.1 path act h.3)
+  matched_or_lacking (or_tree t u) σ os (turns.First ∷ path) act h = first_total t u σ os path act h.0 h.1 h.4 or_tree
+      (matched_or_lacking t σ h.0 path act h.2)
+  matched_or_lacking (or_tree t u) σ os (turns.Second ∷ path) act h = second_total t u σ os path act h.0 h.1 h.4 or_tree
+      (matched_or_lacking u σ h.1 path act h.3)
   matched_or_lacking (xor_tree j k) σ os [] left_act h =
-      subst (λ z. Matches z [] left_act ⊎ Lacking c budget (unless_failing c j.body j.slots σ)) (sym h.4) (by_side (tested_total c budget j.body j.slots σ left_offer h.0 left_act h.2 tt))
+      subst (λ z. Matches z [] left_act ⊎ Lacking c budget (unless_failing c j.body j.slots σ)) (sym h.4)
+      (by_side (tested_total c budget j.body j.slots σ left_offer h.0 left_act h.2 tt))
     where
-      by_side : Matches (offered left_offer h.0) [] left_act ⊎ Lacking c budget (unless_failing c j.body j.slots σ) → Matches (offered left_offer h.0 ++ offered right_offer h.1) [] left_act ⊎ Lacking c budget (unless_failing c j.body j.slots σ)
+      by_side : Matches (offered left_offer h.0) [] left_act ⊎ Lacking c budget (unless_failing c j.body j.slots σ)
+          → Matches (offered left_offer h.0 ++ offered right_offer h.1) [] left_act ⊎ Lacking c budget (unless_failing c j.body j.slots σ)
       by_side (inl m) = inl (match_left (offered left_offer h.0) (offered right_offer h.1) [] left_act m)
       by_side (inr l) = inr l
   matched_or_lacking (xor_tree j k) σ os [] right_act h =
-      subst (λ z. Matches z [] right_act ⊎ Lacking c budget (unless_failing c k.body k.slots σ)) (sym h.4) (by_side (tested_total c budget k.body k.slots σ right_offer h.1 right_act h.3 tt))
+      subst (λ z. Matches z [] right_act ⊎ Lacking c budget (unless_failing c k.body k.slots σ)) (sym h.4)
+      (by_side (tested_total c budget k.body k.slots σ right_offer h.1 right_act h.3 tt))
     where
-      by_side : Matches (offered right_offer h.1) [] right_act ⊎ Lacking c budget (unless_failing c k.body k.slots σ) → Matches (offered left_offer h.0 ++ offered right_offer h.1) [] right_act ⊎ Lacking c budget (unless_failing c k.body k.slots σ)
+      by_side : Matches (offered right_offer h.1) [] right_act ⊎ Lacking c budget (unless_failing c k.body k.slots σ)
+          → Matches (offered left_offer h.0 ++ offered right_offer h.1) [] right_act ⊎ Lacking c budget (unless_failing c k.body k.slots σ)
       by_side (inl m) = inl (match_right (offered left_offer h.0) (offered right_offer h.1) [] right_act m)
       by_side (inr l) = inr l
   matched_or_lacking (xor_tree j k) σ os [] next_act h = inr (lacks_now c budget)
@@ -105,28 +137,37 @@ module _ (c : CheckedTerm) (budget : ℕ) where
   matched_or_lacking (xor_tree j k) σ os (r ∷ path) act h = inr (lacks_now c budget)
 
   -- never both
-  matched_not_lacking : (t : TreeTerm) (σ : List ValueTerm) (os : List OfferTerm) (path : List Turn) (act : ActTerm) → AreOffers c budget t σ os → Matches os path act → Lacking c budget (handled c t σ path act) → ⊥
+  matched_not_lacking : (t : TreeTerm) (σ : List ValueTerm) (os : List OfferTerm) (path : List Turn) (act : ActTerm)
+      → AreOffers c budget t σ os → Matches os path act → Lacking c budget (handled c t σ path act) → ⊥
   matched_not_lacking (edit_tree b v) σ os path act h m l = editor_once c budget b _ path act (subst (λ z. Matches z path act) h m) l
   matched_not_lacking (enter_tree b) σ os path act h m l = editor_once c budget b _ path act (subst (λ z. Matches z path act) h m) l
   matched_not_lacking (share_tree b n) σ os path act h m l = editor_once c budget b _ path act (subst (λ z. Matches z path act) h m) l
   matched_not_lacking fail_tree σ os path act h m l = subst (λ z. Matches z path act) h m
-  matched_not_lacking (then_tree t k) σ os path act h m l = matched_not_lacking t σ os path act h m (part_lacks c budget (λ t'. then_tree t' k) (handled c t σ path act) l)
+  matched_not_lacking (then_tree t k) σ os path act h m l = matched_not_lacking t σ os path act h m
+      (part_lacks c budget (λ t'. then_tree t' k) (handled c t σ path act) l)
   matched_not_lacking (next_tree t k) σ os path act h m l =
       next_once (value_of t σ) k σ h.0 h.1 path act _ h.2 (λ v e. valued_no_next c budget t σ v h.1 e h.3)
-      (λ m' l'. matched_not_lacking t σ h.1 path act h.3 m' (part_lacks c budget (λ t'. next_tree t' k) (handled c t σ path act) l')) (subst (λ z. Matches z path act) h.4 m) l
+      (λ m' l'. matched_not_lacking t σ h.1 path act h.3 m' (part_lacks c budget (λ t'. next_tree t' k) (handled c t σ path act) l'))
+      (subst (λ z. Matches z path act) h.4 m) l
   matched_not_lacking (and_tree t u) σ os [] act h m l = sides_here h.0 h.1 act (subst (λ z. Matches z [] act) h.4 m)
   matched_not_lacking (and_tree t u) σ os (turns.First ∷ path) act h m l =
-      matched_not_lacking t σ h.0 path act h.2 (sides_first h.0 h.1 path act (subst (λ z. Matches z (turns.First ∷ path) act) h.4 m)) (part_lacks c budget (λ t'. and_tree t' u) (handled c t σ path act) l)
+      matched_not_lacking t σ h.0 path act h.2 (sides_first h.0 h.1 path act (subst (λ z. Matches z (turns.First ∷ path) act) h.4 m))
+      (part_lacks c budget (λ t'. and_tree t' u) (handled c t σ path act) l)
   matched_not_lacking (and_tree t u) σ os (turns.Second ∷ path) act h m l =
-      matched_not_lacking u σ h.1 path act h.3 (sides_second h.0 h.1 path act (subst (λ z. Matches z (turns.Second ∷ path) act) h.4 m)) (part_lacks c budget (λ u'. and_tree t u') (handled c u σ path act) l)
+      matched_not_lacking u σ h.1 path act h.3 (sides_second h.0 h.1 path act (subst (λ z. Matches z (turns.Second ∷ path) act) h.4 m))
+      (part_lacks c budget (λ u'. and_tree t u') (handled c u σ path act) l)
   matched_not_lacking (or_tree t u) σ os [] act h m l = sides_here h.0 h.1 act (subst (λ z. Matches z [] act) h.4 m)
   matched_not_lacking (or_tree t u) σ os (turns.First ∷ path) act h m l =
-      matched_not_lacking t σ h.0 path act h.2 (sides_first h.0 h.1 path act (subst (λ z. Matches z (turns.First ∷ path) act) h.4 m)) (part_lacks c budget (λ t'. or_tree t' u) (handled c t σ path act) l)
+      matched_not_lacking t σ h.0 path act h.2 (sides_first h.0 h.1 path act (subst (λ z. Matches z (turns.First ∷ path) act) h.4 m))
+      (part_lacks c budget (λ t'. or_tree t' u) (handled c t σ path act) l)
   matched_not_lacking (or_tree t u) σ os (turns.Second ∷ path) act h m l =
-      matched_not_lacking u σ h.1 path act h.3 (sides_second h.0 h.1 path act (subst (λ z. Matches z (turns.Second ∷ path) act) h.4 m)) (part_lacks c budget (λ u'. or_tree t u') (handled c u σ path act) l)
-  matched_not_lacking (xor_tree j k) σ os path act h m l = by_part path act (match_split (offered left_offer h.0) (offered right_offer h.1) path act (subst (λ z. Matches z path act) h.4 m)) l
+      matched_not_lacking u σ h.1 path act h.3 (sides_second h.0 h.1 path act (subst (λ z. Matches z (turns.Second ∷ path) act) h.4 m))
+      (part_lacks c budget (λ u'. or_tree t u') (handled c u σ path act) l)
+  matched_not_lacking (xor_tree j k) σ os path act h m l = by_part path act
+      (match_split (offered left_offer h.0) (offered right_offer h.1) path act (subst (λ z. Matches z path act) h.4 m)) l
     where
-      by_part : (path : List Turn) (act : ActTerm) → Matches (offered left_offer h.0) path act ⊎ Matches (offered right_offer h.1) path act → Lacking c budget (handled c (xor_tree j k) σ path act) → ⊥
+      by_part : (path : List Turn) (act : ActTerm) → Matches (offered left_offer h.0) path act ⊎ Matches (offered right_offer h.1) path act
+          → Lacking c budget (handled c (xor_tree j k) σ path act) → ⊥
       by_part [] left_act (inl m) l = tested_once c budget j.body j.slots σ left_offer h.0 [] left_act h.2 m l
       by_part [] left_act (inr m) l = (offered_only right_offer h.1 [] left_act m).1
       by_part [] right_act (inl m) l = (offered_only left_offer h.0 [] right_act m).1
@@ -139,18 +180,28 @@ module _ (c : CheckedTerm) (budget : ℕ) where
       by_part (r ∷ path) act (inr m) l = let e = (offered_only right_offer h.1 (r ∷ path) act m).0 in absurd (cc)
 
   -- a match exactly where the input isn't lacking within the budget, and lacking exactly where there is no match
-  pub matched_exactly : (t : TreeTerm) (σ : List ValueTerm) (os : List OfferTerm) (path : List Turn) (act : ActTerm) → AreOffers c budget t σ os
+  pub matched_exactly : (t : TreeTerm) (σ : List ValueTerm) (os : List OfferTerm) (path : List Turn) (act : ActTerm)
+      → AreOffers c budget t σ os
       → Matches os path act ↔ (IsNotOffered c budget (at t σ) (record { path = path; act = act }) → ⊥)
-  matched_exactly t σ os path act h = ((λ m. matched_not_lacking t σ os path act h m), (λ r. by_total r (matched_or_lacking t σ os path act h)))
+  matched_exactly t σ os path act h = (
+    (λ m. matched_not_lacking t σ os path act h m),
+    (λ r. by_total r (matched_or_lacking t σ os path act h)),
+  )
     where
-      by_total : (Lacking c budget (handled c t σ path act) → ⊥) → Matches os path act ⊎ Lacking c budget (handled c t σ path act) → Matches os path act
+      by_total : (Lacking c budget (handled c t σ path act) → ⊥) → Matches os path act ⊎ Lacking c budget (handled c t σ path act)
+          → Matches os path act
       by_total r (inl m) = m
       by_total r (inr l) = absurd (r l)
 
-  pub lacking_exactly : (t : TreeTerm) (σ : List ValueTerm) (os : List OfferTerm) (path : List Turn) (act : ActTerm) → AreOffers c budget t σ os
+  pub lacking_exactly : (t : TreeTerm) (σ : List ValueTerm) (os : List OfferTerm) (path : List Turn) (act : ActTerm)
+      → AreOffers c budget t σ os
       → IsNotOffered c budget (at t σ) (record { path = path; act = act }) ↔ (Matches os path act → ⊥)
-  lacking_exactly t σ os path act h = ((λ l m. matched_not_lacking t σ os path act h m l), (λ r. by_total r (matched_or_lacking t σ os path act h)))
+  lacking_exactly t σ os path act h = (
+    (λ l m. matched_not_lacking t σ os path act h m l),
+    (λ r. by_total r (matched_or_lacking t σ os path act h)),
+  )
     where
-      by_total : (Matches os path act → ⊥) → Matches os path act ⊎ Lacking c budget (handled c t σ path act) → Lacking c budget (handled c t σ path act)
+      by_total : (Matches os path act → ⊥) → Matches os path act ⊎ Lacking c budget (handled c t σ path act)
+          → Lacking c budget (handled c t σ path act)
       by_total r (inl m) = absurd (r m)
       by_total r (inr l) = l

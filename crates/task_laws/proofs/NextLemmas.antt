@@ -27,10 +27,12 @@ no_next_turned t [] us h = h
 no_next_turned t (o ∷ os) us h = ((λ p k. absurd (cc)), no_next_turned t os us h)
 
 no_next_both : (os us : List OfferTerm) → NoNexts (both_offers os us)
-no_next_both os us = no_next_turned turns.First os (map (turned turns.Second) us) (subst NoNexts (append-nil (map (turned turns.Second) us)) (no_next_turned turns.Second us [] tt))
+no_next_both os us = no_next_turned turns.First os (map (turned turns.Second) us)
+    (subst NoNexts (append-nil (map (turned turns.Second) us)) (no_next_turned turns.Second us [] tt))
 
 module _ (c : CheckedTerm) (budget : ℕ) where
-  pub valued_no_next : (t : TreeTerm) (σ : List ValueTerm) (v : ValueTerm) (os : List OfferTerm) → value_of t σ ≡ Some v → AreOffers c budget t σ os → NoNexts os
+  pub valued_no_next : (t : TreeTerm) (σ : List ValueTerm) (v : ValueTerm) (os : List OfferTerm) → value_of t σ ≡ Some v
+      → AreOffers c budget t σ os → NoNexts os
   valued_no_next (edit_tree b w) σ v os e h = no_next_set b os h
   valued_no_next (enter_tree b) σ v os e h = absurd (cc)
   valued_no_next (share_tree b n) σ v os e h = no_next_set b os h
@@ -41,5 +43,6 @@ module _ (c : CheckedTerm) (budget : ℕ) where
   valued_no_next (or_tree t u) σ v os e h = subst NoNexts (sym h.4) (no_next_both h.0 h.1)
   valued_no_next (xor_tree j k) σ v os e h = absurd (cc)
 
-  pub next_alone : (t : TreeTerm) (σ : List ValueTerm) (v : ValueTerm) (os : List OfferTerm) → value_of t σ ≡ Some v → AreOffers c budget t σ os → All IsNoNext os
+  pub next_alone : (t : TreeTerm) (σ : List ValueTerm) (v : ValueTerm) (os : List OfferTerm) → value_of t σ ≡ Some v
+      → AreOffers c budget t σ os → All IsNoNext os
   next_alone t σ v os e h = All-from_recursion IsNoNext os (valued_no_next t σ v os e h)

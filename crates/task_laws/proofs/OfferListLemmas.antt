@@ -15,7 +15,8 @@ abbrev pub Matches : List OfferTerm → List Turn → ActTerm → Type 0
 Matches os path act = SomeMatches os (record { path = path; act = act })
 
 -- ---- lists of offers
-pub match_split : (os us : List OfferTerm) (path : List Turn) (act : ActTerm) → Matches (os ++ us) path act → Matches os path act ⊎ Matches us path act
+pub match_split : (os us : List OfferTerm) (path : List Turn) (act : ActTerm) → Matches (os ++ us) path act → Matches os path act
+    ⊎ Matches us path act
 match_split [] us path act h = inr h
 match_split (o ∷ os) us path act (inl h) = inl (inl h)
 match_split (o ∷ os) us path act (inr h) = by_rest (match_split os us path act h)
@@ -33,12 +34,14 @@ pub match_right : (os us : List OfferTerm) (path : List Turn) (act : ActTerm) �
 match_right [] us path act h = h
 match_right (o ∷ os) us path act h = inr (match_right os us path act h)
 
-match_turned : (t : Turn) (os : List OfferTerm) (path : List Turn) (act : ActTerm) → Matches os path act → Matches (map (turned t) os) (t ∷ path) act
+match_turned : (t : Turn) (os : List OfferTerm) (path : List Turn) (act : ActTerm) → Matches os path act
+    → Matches (map (turned t) os) (t ∷ path) act
 match_turned t [] path act h = absurd h
 match_turned t (o ∷ os) path act (inl h) = inl (ap (λ z. t ∷ z) h.0, h.1)
 match_turned t (o ∷ os) path act (inr h) = inr (match_turned t os path act h)
 
-match_back : (t r : Turn) (os : List OfferTerm) (path : List Turn) (act : ActTerm) → Matches (map (turned t) os) (r ∷ path) act → (r ≡ t) × Matches os path act
+match_back : (t r : Turn) (os : List OfferTerm) (path : List Turn) (act : ActTerm) → Matches (map (turned t) os) (r ∷ path) act → (r ≡ t)
+    × Matches os path act
 match_back t r [] path act h = absurd h
 match_back t r (o ∷ os) path act (inl h) = let e = h.0 in let e1 : r ≡ t = cc in let e2 : o.path ≡ path = cc in (e1, inl (e2, h.1))
 match_back t r (o ∷ os) path act (inr h) = let q = match_back t r os path act h in (q.0, inr q.1)
@@ -54,7 +57,8 @@ offered_some k signs.No act h = inl refl
 offered_some k signs.Yes act h = inr (inl (refl, h))
 offered_some k signs.Over act h = inr (inl (refl, h))
 
-pub offered_only : (k : OfferKindTerm) (s : Sign) (path : List Turn) (act : ActTerm) → Matches (offered k s) path act → ([] ≡ path) × IsFor k act
+pub offered_only : (k : OfferKindTerm) (s : Sign) (path : List Turn) (act : ActTerm) → Matches (offered k s) path act → ([] ≡ path)
+    × IsFor k act
 offered_only k signs.No path act h = absurd h
 offered_only k signs.Yes path act (inl h) = h
 offered_only k signs.Yes path act (inr h) = absurd h
@@ -80,22 +84,31 @@ sides_here xs ys act m = by_part (match_split (map (turned turns.First) xs) (map
     by_part (inl h) = match_here turns.First xs act h
     by_part (inr h) = match_here turns.Second ys act h
 
-pub sides_first : (xs ys : List OfferTerm) (path : List Turn) (act : ActTerm) → Matches (both_offers xs ys) (turns.First ∷ path) act → Matches xs path act
+pub sides_first : (xs ys : List OfferTerm) (path : List Turn) (act : ActTerm) → Matches (both_offers xs ys) (turns.First ∷ path) act
+    → Matches xs path act
 sides_first xs ys path act m = by_part (match_split (map (turned turns.First) xs) (map (turned turns.Second) ys) (turns.First ∷ path) act m)
   where
-    by_part : Matches (map (turned turns.First) xs) (turns.First ∷ path) act ⊎ Matches (map (turned turns.Second) ys) (turns.First ∷ path) act → Matches xs path act
+    by_part : Matches (map (turned turns.First) xs) (turns.First ∷ path) act
+        ⊎ Matches (map (turned turns.Second) ys) (turns.First ∷ path) act → Matches xs path act
     by_part (inl h) = (match_back turns.First turns.First xs path act h).1
     by_part (inr h) = let e = (match_back turns.Second turns.First ys path act h).0 in absurd (cc)
 
-pub sides_second : (xs ys : List OfferTerm) (path : List Turn) (act : ActTerm) → Matches (both_offers xs ys) (turns.Second ∷ path) act → Matches ys path act
-sides_second xs ys path act m = by_part (match_split (map (turned turns.First) xs) (map (turned turns.Second) ys) (turns.Second ∷ path) act m)
+pub sides_second : (xs ys : List OfferTerm) (path : List Turn) (act : ActTerm) → Matches (both_offers xs ys) (turns.Second ∷ path) act
+    → Matches ys path act
+sides_second xs ys path act m = by_part
+    (match_split (map (turned turns.First) xs) (map (turned turns.Second) ys) (turns.Second ∷ path) act m)
   where
-    by_part : Matches (map (turned turns.First) xs) (turns.Second ∷ path) act ⊎ Matches (map (turned turns.Second) ys) (turns.Second ∷ path) act → Matches ys path act
+    by_part : Matches (map (turned turns.First) xs) (turns.Second ∷ path) act
+        ⊎ Matches (map (turned turns.Second) ys) (turns.Second ∷ path) act → Matches ys path act
     by_part (inl h) = let e = (match_back turns.First turns.Second xs path act h).0 in absurd (cc)
     by_part (inr h) = (match_back turns.Second turns.Second ys path act h).1
 
-pub to_first : (xs ys : List OfferTerm) (path : List Turn) (act : ActTerm) → Matches xs path act → Matches (both_offers xs ys) (turns.First ∷ path) act
-to_first xs ys path act m = match_left (map (turned turns.First) xs) (map (turned turns.Second) ys) (turns.First ∷ path) act (match_turned turns.First xs path act m)
+pub to_first : (xs ys : List OfferTerm) (path : List Turn) (act : ActTerm) → Matches xs path act
+    → Matches (both_offers xs ys) (turns.First ∷ path) act
+to_first xs ys path act m = match_left (map (turned turns.First) xs) (map (turned turns.Second) ys) (turns.First ∷ path) act
+    (match_turned turns.First xs path act m)
 
-pub to_second : (xs ys : List OfferTerm) (path : List Turn) (act : ActTerm) → Matches ys path act → Matches (both_offers xs ys) (turns.Second ∷ path) act
-to_second xs ys path act m = match_right (map (turned turns.First) xs) (map (turned turns.Second) ys) (turns.Second ∷ path) act (match_turned turns.Second ys path act m)
+pub to_second : (xs ys : List OfferTerm) (path : List Turn) (act : ActTerm) → Matches ys path act
+    → Matches (both_offers xs ys) (turns.Second ∷ path) act
+to_second xs ys path act m = match_right (map (turned turns.First) xs) (map (turned turns.Second) ys) (turns.Second ∷ path) act
+    (match_turned turns.Second ys path act m)

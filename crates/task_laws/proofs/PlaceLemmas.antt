@@ -7,7 +7,7 @@ use Rattle.std.proofs.lemmas.Bool.{eq-eqb, eqb-true, eqb-false, ltb-true, ltb-fa
 use Rattle.task_model.specs.Env.{SlotTerm, plain_slot, place_slot}
 use Rattle.task_model.specs.Tree.{TreeTerm, edit_tree, enter_tree, share_tree, then_tree, next_tree, fail_tree, and_tree, or_tree, xor_tree}
 use Rattle.task_model.specs.Foot.{with_place, with_places, with_foot, foot, among}
-use Rattle.task_laws.specs.Places.{slot_places, places_in}
+use Rattle.task_laws.specs.TreePlaces.{slot_places, places_in}
 
 -- ---- membership
 same_itself : (b c : Bool) → cond b true (cond b true c) ≡ cond b true c
@@ -32,34 +32,45 @@ among-with_place : (n : ℕ) (ms : List ℕ) (k : ℕ) → among (with_place n m
 among-with_place n [] k = refl
 among-with_place n (m ∷ ms) k = by_same (n == m) refl (among-with_place n ms k)
   where
-    by_less : (b : Bool) → among (with_place n ms) k ≡ among (n ∷ ms) k → among (if b then n ∷ (m ∷ ms) else m ∷ with_place n ms) k ≡ among (n ∷ (m ∷ ms)) k
+    by_less : (b : Bool) → among (with_place n ms) k ≡ among (n ∷ ms) k → among (if b then n ∷ (m ∷ ms) else m ∷ with_place n ms) k
+        ≡ among (n ∷ (m ∷ ms)) k
     by_less true r = refl
     by_less false r = ap (cond (m == k) true) r ∙ swapped (m == k) (n == k) (among ms k)
 
-    by_same : (b : Bool) → (n == m) ≡ b → among (with_place n ms) k ≡ among (n ∷ ms) k → among (if b then m ∷ ms else if nat_lt n m then n ∷ (m ∷ ms) else m ∷ with_place n ms) k ≡ among (n ∷ (m ∷ ms)) k
-    by_same true e r = subst (λ z. among (m ∷ ms) k ≡ among (z ∷ (m ∷ ms)) k) (sym (eqb-true n m e)) (sym (same_itself (m == k) (among ms k)))
+    by_same : (b : Bool) → (n == m) ≡ b → among (with_place n ms) k ≡ among (n ∷ ms) k
+        → among (if b then m ∷ ms else if nat_lt n m then n ∷ (m ∷ ms) else m ∷ with_place n ms) k ≡ among (n ∷ (m ∷ ms)) k
+    by_same true e r = subst (λ z. among (m ∷ ms) k ≡ among (z ∷ (m ∷ ms)) k) (sym (eqb-true n m e))
+        (sym (same_itself (m == k) (among ms k)))
     by_same false e r = by_less (nat_lt n m) r
 
-pub among-with_places : (ss : List SlotTerm) (ns : List ℕ) (k : ℕ) → among (with_places ss ns) k ≡ cond (among (slot_places ss) k) true (among ns k)
+pub among-with_places : (ss : List SlotTerm) (ns : List ℕ) (k : ℕ) → among (with_places ss ns) k ≡ cond (among (slot_places ss) k) true
+    (among ns k)
 among-with_places [] ns k = refl
 among-with_places (plain_slot v ∷ ss) ns k = among-with_places ss ns k
 among-with_places (place_slot n ∷ ss) ns k =
-    among-with_place n (with_places ss ns) k ∙ ap (cond (n == k) true) (among-with_places ss ns k) ∙ sym (joined (n == k) (among (slot_places ss) k) (among ns k))
+    among-with_place n (with_places ss ns) k ∙ ap (cond (n == k) true) (among-with_places ss ns k)
+    ∙ sym (joined (n == k) (among (slot_places ss) k) (among ns k))
 
 -- two parts, one after the other
 parted : (xs ys : List ℕ) (k : ℕ) (b c : Bool) → b ≡ cond (among ys k) true c → cond (among xs k) true b ≡ cond (among (xs ++ ys) k) true c
-parted xs ys k b c e = ap (cond (among xs k) true) e ∙ sym (joined (among xs k) (among ys k) c) ∙ ap (λ z. cond z true c) (sym (among-append xs ys k))
+parted xs ys k b c e = ap (cond (among xs k) true) e ∙ sym (joined (among xs k) (among ys k) c)
+    ∙ ap (λ z. cond z true c) (sym (among-append xs ys k))
 
 among-with_foot : (t : TreeTerm) (ns : List ℕ) (k : ℕ) → among (with_foot t ns) k ≡ cond (among (places_in t) k) true (among ns k)
 among-with_foot (edit_tree b v) ns k = refl
 among-with_foot (enter_tree b) ns k = refl
 among-with_foot (share_tree b n) ns k = among-with_place n ns k ∙ sym (joined (n == k) false (among ns k))
-among-with_foot (then_tree t j) ns k = among-with_foot t (with_places j.slots ns) k ∙ parted (places_in t) (slot_places j.slots) k _ (among ns k) (among-with_places j.slots ns k)
-among-with_foot (next_tree t j) ns k = among-with_foot t (with_places j.slots ns) k ∙ parted (places_in t) (slot_places j.slots) k _ (among ns k) (among-with_places j.slots ns k)
+among-with_foot (then_tree t j) ns k = among-with_foot t (with_places j.slots ns) k ∙ parted (places_in t) (slot_places j.slots) k _
+    (among ns k) (among-with_places j.slots ns k)
+among-with_foot (next_tree t j) ns k = among-with_foot t (with_places j.slots ns) k ∙ parted (places_in t) (slot_places j.slots) k _
+    (among ns k) (among-with_places j.slots ns k)
 among-with_foot fail_tree ns k = refl
-among-with_foot (and_tree t u) ns k = among-with_foot t (with_foot u ns) k ∙ parted (places_in t) (places_in u) k _ (among ns k) (among-with_foot u ns k)
-among-with_foot (or_tree t u) ns k = among-with_foot t (with_foot u ns) k ∙ parted (places_in t) (places_in u) k _ (among ns k) (among-with_foot u ns k)
-among-with_foot (xor_tree i j) ns k = among-with_places i.slots (with_places j.slots ns) k ∙ parted (slot_places i.slots) (slot_places j.slots) k _ (among ns k) (among-with_places j.slots ns k)
+among-with_foot (and_tree t u) ns k = among-with_foot t (with_foot u ns) k ∙ parted (places_in t) (places_in u) k _ (among ns k)
+    (among-with_foot u ns k)
+among-with_foot (or_tree t u) ns k = among-with_foot t (with_foot u ns) k ∙ parted (places_in t) (places_in u) k _ (among ns k)
+    (among-with_foot u ns k)
+among-with_foot (xor_tree i j) ns k = among-with_places i.slots (with_places j.slots ns) k ∙ parted (slot_places i.slots)
+    (slot_places j.slots) k _ (among ns k) (among-with_places j.slots ns k)
 
 or_false : (b : Bool) → cond b true false ≡ b
 or_false true = refl
@@ -120,11 +131,13 @@ rises_with n (m ∷ ms) h = by_same (n == m) refl (rises_with n ms h.1)
     other : (n == m) ≡ false → nat_lt n m ≡ false → m < n
     other e q = let d = eqb-false n m e in let le = ltb-false n m q in omega arith
 
-    by_less : (b : Bool) → nat_lt n m ≡ b → (n == m) ≡ false → Rises (with_place n ms) → Rises (if b then n ∷ (m ∷ ms) else m ∷ with_place n ms)
+    by_less : (b : Bool) → nat_lt n m ≡ b → (n == m) ≡ false → Rises (with_place n ms)
+        → Rises (if b then n ∷ (m ∷ ms) else m ∷ with_place n ms)
     by_less true q e r = (ltb-true n m q, h)
     by_less false q e r = (above_with m n ms h.0 (other e q), r)
 
-    by_same : (b : Bool) → (n == m) ≡ b → Rises (with_place n ms) → Rises (if b then m ∷ ms else if nat_lt n m then n ∷ (m ∷ ms) else m ∷ with_place n ms)
+    by_same : (b : Bool) → (n == m) ≡ b → Rises (with_place n ms)
+        → Rises (if b then m ∷ ms else if nat_lt n m then n ∷ (m ∷ ms) else m ∷ with_place n ms)
     by_same true e r = h
     by_same false e r = by_less (nat_lt n m) refl e r
 

@@ -21,7 +21,8 @@ list_by_places (x ∷ xs) (y ∷ ys) e =
     cc
 
 -- after the same write, lists agree where they agreed
-set_same : {A : Type 0} (xs ys : List A) (n m : ℕ) (v : A) → slice_get xs m ≡ slice_get ys m → slice_get (slice_set xs n v) m ≡ slice_get (slice_set ys n v) m
+set_same : {A : Type 0} (xs ys : List A) (n m : ℕ) (v : A) → slice_get xs m ≡ slice_get ys m → slice_get (slice_set xs n v) m
+    ≡ slice_get (slice_set ys n v) m
 set_same [] [] n m v e = refl
 set_same [] (y ∷ ys) n zero v e = absurd (cc)
 set_same [] (y ∷ ys) zero (suc m) v e = e
@@ -41,7 +42,8 @@ set_other (x ∷ xs) zero (suc m) v d = refl
 set_other (x ∷ xs) (suc n) zero v d = refl
 set_other (x ∷ xs) (suc n) (suc m) v d = set_other xs n m v (λ e. d (ap suc e))
 
-push_same : {A : Type 0} (xs ys : List A) (v : A) (n : ℕ) → length xs ≡ length ys → slice_get xs n ≡ slice_get ys n → slice_get (xs ++ v ∷ []) n ≡ slice_get (ys ++ v ∷ []) n
+push_same : {A : Type 0} (xs ys : List A) (v : A) (n : ℕ) → length xs ≡ length ys → slice_get xs n ≡ slice_get ys n
+    → slice_get (xs ++ v ∷ []) n ≡ slice_get (ys ++ v ∷ []) n
 push_same [] [] v n l e = refl
 push_same [] (y ∷ ys) v n l e = absurd (omega arith)
 push_same (x ∷ xs) [] v n l e = absurd (omega arith)
@@ -97,7 +99,8 @@ module _ (inside : ℕ → Bool) where
   pub found_in : (xs : List Text) (ss : List SlotTerm) (y : Text) → SlotsIn ss → IfIn (found xs ss y)
   found_in [] ss y h = tt
   found_in (x ∷ xs) [] y h = tt
-  found_in (x ∷ xs) (s ∷ ss) y h = in_or (found xs ss y) (cond (same_text x y) (Some s) None) (found_in xs ss y h.1) (in_if (same_text x y) s h.0)
+  found_in (x ∷ xs) (s ∷ ss) y h = in_or (found xs ss y) (cond (same_text x y) (Some s) None) (found_in xs ss y h.1)
+      (in_if (same_text x y) s h.0)
 
 -- ---- twins
 -- the places that are inside, and two stores at the start: every place that is outside was there
@@ -134,7 +137,8 @@ module _ (f : Frame) where
   apart : (n m : ℕ) → f.inside n ≡ true → f.inside m ≡ false → n ≡ m → ⊥
   apart n m e q s = let same = ap f.inside s in cc
 
-  pub twins_set : (σ τ : List ValueTerm) (n : ℕ) (v : ValueTerm) → f.inside n ≡ true → Twins f σ τ → Twins f (slice_set σ n v) (slice_set τ n v)
+  pub twins_set : (σ τ : List ValueTerm) (n : ℕ) (v : ValueTerm) → f.inside n ≡ true → Twins f σ τ
+      → Twins f (slice_set σ n v) (slice_set τ n v)
   twins_set σ τ n v e h =
       record {
         lengths = length-set σ n v ∙ h.lengths ∙ sym (length-set τ n v);
@@ -167,6 +171,8 @@ module _ (f : Frame) where
   value_alike (then_tree t k) σ τ h q = refl
   value_alike (next_tree t k) σ τ h q = refl
   value_alike fail_tree σ τ h q = refl
-  value_alike (and_tree t u) σ τ h q = ap (λ z. paired z (value_of u σ)) (value_alike t σ τ h.0 q) ∙ ap (paired (value_of t τ)) (value_alike u σ τ h.1 q)
-  value_alike (or_tree t u) σ τ h q = ap (λ z. option_or z (value_of u σ)) (value_alike t σ τ h.0 q) ∙ ap (option_or (value_of t τ)) (value_alike u σ τ h.1 q)
+  value_alike (and_tree t u) σ τ h q = ap (λ z. paired z (value_of u σ)) (value_alike t σ τ h.0 q) ∙ ap (paired (value_of t τ))
+      (value_alike u σ τ h.1 q)
+  value_alike (or_tree t u) σ τ h q = ap (λ z. option_or z (value_of u σ)) (value_alike t σ τ h.0 q) ∙ ap (option_or (value_of t τ))
+      (value_alike u σ τ h.1 q)
   value_alike (xor_tree j k) σ τ h q = refl

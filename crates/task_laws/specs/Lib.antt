@@ -1,2 +1,3 @@
-pub mod Places
+pub mod TreePlaces
 pub mod PlainStates
+pub mod ActsAt

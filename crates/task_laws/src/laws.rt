@@ -1,4 +1,4 @@
-ghost use Rattle.std.specs.Prelude.{◌≡◌, ◌↔◌, ℕ, Bool, true, List, [], length, Some, None, slice_get};
+ghost use Rattle.std.specs.Prelude.{◌≡◌, ◌↔◌, ℕ, min, Bool, true, List, [], length, Option, Some, None, slice_get};
 ghost use Rattle.std.specs.List.{All, Contains};
 ghost use Rattle.std.specs.List.Sorted.{IsStrictlyIncreasing};
 ghost use Rattle.task_model.specs.Value.{ValueTerm};
@@ -6,17 +6,24 @@ ghost use Rattle.task_model.specs.Tree.{LaterTerm, TreeTerm, State, at};
 ghost use Rattle.task_model.specs.Foot.{with_places, foot, AgreeOn};
 ghost use Rattle.task_model.specs.Checked.{CheckedTerm};
 ghost use Rattle.task_model.specs.Rules.{value_of, side, trial};
-ghost use Rattle.task_model.specs.Judgements.{Fails, Within};
-ghost use Rattle.task_model.specs.Input.{InputTerm};
+ghost use Rattle.task_model.specs.Judgements.{Fails, IsWithinBudget};
+ghost use Rattle.task_model.specs.Input.{ActTerm, InputTerm};
+ghost use Rattle.task_model.specs.Work.{gives};
+ghost use Rattle.task_model.specs.Handling.{Handled};
+ghost use Rattle.task_model.specs.Address.{Address, address_of};
+ghost use Rattle.task_model.specs.declared.input.Turn.{Turn};
+ghost use Rattle.task_laws.specs.ActsAt.{ActsAt};
 ghost use Rattle.task_model.specs.Item.{ItemTerm};
 ghost use Rattle.task_model.specs.Accepted.{IsAccepted};
 ghost use Rattle.task_model.specs.PlainTree.{IsSmallTree};
 ghost use Rattle.task_model.specs.Outcome.{taken, not_offered, over_budget, IsOutcome};
-ghost use Rattle.task_model.specs.State.{IsReached};
+ghost use Rattle.task_model.specs.Text.{Text};
+ghost use Rattle.task_model.specs.State.{IsReached, IsLegal, IsPage, history_prefix, version_of};
+ghost use Rattle.task_model.specs.declared.widget.Face.{Face};
 ghost use Rattle.task_model.specs.Sign.{Test};
 ghost use Rattle.task_model.specs.Offer.{next_offer, OfferTerm, AreOffers, SomeMatches};
 ghost use Rattle.task_model.specs.Widget.{WidgetTerm, AreWidgets};
-ghost use Rattle.task_laws.specs.Places.{places_in};
+ghost use Rattle.task_laws.specs.TreePlaces.{places_in};
 ghost use Rattle.task_laws.specs.PlainStates.{IsPlainState, SetsInt, OffersInt, IsPlainShape};
 
 /// A tree's foot has exactly the places that are in the tree, in increasing order and each once. Two stores agree on it
@@ -39,12 +46,12 @@ pub fn foot_frames_values_and_failing()
 /// Over stores that agree on the places of its slots a cont's trial at a value, and the test of a side, have the same end
 /// in the same number of units and at the same height.
 pub fn foot_frames_tests()
-    ensures trial { (c : CheckedTerm) (budget : ℕ) (k : LaterTerm) (v : ValueTerm) (σ τ : List ValueTerm) →
+    ensures trial { (c : CheckedTerm) (k : LaterTerm) (v : ValueTerm) (σ τ : List ValueTerm) →
         AgreeOn (with_places k.slots []) σ τ →
-        (failing : Bool) (n h : ℕ) → Test c budget (trial c k v σ) failing n h ↔ Test c budget (trial c k v τ) failing n h }
-    ensures side { (c : CheckedTerm) (budget : ℕ) (k : LaterTerm) (σ τ : List ValueTerm) →
+        (failing : Bool) (n h : ℕ) → Test c (trial c k v σ) failing n h ↔ Test c (trial c k v τ) failing n h }
+    ensures side { (c : CheckedTerm) (k : LaterTerm) (σ τ : List ValueTerm) →
         AgreeOn (with_places k.slots []) σ τ →
-        (failing : Bool) (n h : ℕ) → Test c budget (side c k σ) failing n h ↔ Test c budget (side c k τ) failing n h }
+        (failing : Bool) (n h : ℕ) → Test c (side c k σ) failing n h ↔ Test c (side c k τ) failing n h }
 {}
 
 /// Over stores that agree on a tree's foot the tree has the same offers and the same widgets.
@@ -68,13 +75,37 @@ pub fn offered_or_not()
 pub fn failing_offers_nothing()
     ensures value { (c : CheckedTerm) (t : TreeTerm) (σ : List ValueTerm) (n h : ℕ) → Fails c (at t σ) true n h → value_of t σ ≡ None }
     ensures offers { (c : CheckedTerm) (budget : ℕ) (t : TreeTerm) (σ : List ValueTerm) (n h : ℕ) →
-        Fails c (at t σ) true n h → Within budget n h → (os : List OfferTerm) → AreOffers c budget t σ os → os ≡ [] }
+        Fails c (at t σ) true n h → IsWithinBudget budget n h → (os : List OfferTerm) → AreOffers c budget t σ os → os ≡ [] }
 {}
 
 /// Where the left part of a user step has a value, none of its offers is Next with an empty path: that path is the step's.
 pub fn next_stands_alone()
     ensures { (c : CheckedTerm) (budget : ℕ) (left : TreeTerm) (σ : List ValueTerm) (v : ValueTerm) (os : List OfferTerm) →
         value_of left σ ≡ Some v → AreOffers c budget left σ os → All (λ o. o.path ≡ [] → o.kind ≡ next_offer → ⊥) os }
+{}
+
+/// A legal history has exactly one page in each face for each seat.
+pub fn one_page()
+    ensures some { (face : Face) (H : List ItemTerm) (seat : ℕ) → IsLegal H → (text : Text) × IsPage face H seat text }
+    ensures one { (face : Face) (H : List ItemTerm) (seat : ℕ) (text other : Text) → IsLegal H →
+        IsPage face H seat text → IsPage face H seat other → text ≡ other }
+{}
+
+/// A history is its own prefix of its version. A prefix of a legal history is legal, and has the version that it is taken up to,
+/// or the history's where that is less.
+pub fn prefixes_are_legal()
+    ensures whole { (H : List ItemTerm) → history_prefix H (version_of H) ≡ H }
+    ensures legal { (H : List ItemTerm) (m : ℕ) → IsLegal H → IsLegal (history_prefix H m) }
+    ensures versions { (H : List ItemTerm) (m : ℕ) → version_of (history_prefix H m) ≡ min m (version_of H) }
+{}
+
+/// An input acts at the address that its path leads to and changes nothing else of the tree; where its path leads to none it is lacking,
+/// in no units.
+pub fn inputs_act_at_their_address()
+    ensures acts { (c : CheckedTerm) (t : TreeTerm) (σ : List ValueTerm) (path : List Turn) (act : ActTerm) (a : Address) →
+        address_of t σ path act ≡ Some a → ActsAt c t σ path act a }
+    ensures lacking { (c : CheckedTerm) (t : TreeTerm) (σ : List ValueTerm) (path : List Turn) (act : ActTerm) →
+        address_of t σ path act ≡ None → (r : Option State) (n h : ℕ) → Handled c (at t σ) (record { path = path; act = act }) r n h ↔ gives None r n h }
 {}
 
 /// A plain program meets none of the other cases: at all its states the tree is plain and small and the store empty; the

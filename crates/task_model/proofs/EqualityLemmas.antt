@@ -20,7 +20,8 @@ by_one : {A C : Type 0} (a a' : A) (x y : C) → Same a a' → (a ≡ a' → x �
 by_one a a' x y (inl e) f g = inl (f e)
 by_one a a' x y (inr d) f g = inr (λ e. d (g e))
 
-by_two : {A B C : Type 0} (a a' : A) (b b' : B) (x y : C) → Same a a' → Same b b' → (a ≡ a' → b ≡ b' → x ≡ y) → (x ≡ y → a ≡ a') → (x ≡ y → b ≡ b') → Same x y
+by_two : {A B C : Type 0} (a a' : A) (b b' : B) (x y : C) → Same a a' → Same b b' → (a ≡ a' → b ≡ b' → x ≡ y) → (x ≡ y → a ≡ a')
+    → (x ≡ y → b ≡ b') → Same x y
 by_two a a' b b' x y (inl e) (inl q) f g h = inl (f e q)
 by_two a a' b b' x y (inl e) (inr d) f g h = inr (λ z. d (h z))
 by_two a a' b b' x y (inr d) q f g h = inr (λ z. d (g z))
@@ -75,7 +76,8 @@ later_term i ss = record { body = i; slots = ss }
 same_later : (j k : LaterTerm) → Same j k
 same_later j k =
     by_two j.body k.body j.slots k.slots j k (same_nat j.body k.body) (same_list same_slot j.slots k.slots)
-    (λ e q. ap (λ z. later_term z j.slots) e ∙ ap (later_term k.body) q) (λ e. ap (λ (z : LaterTerm). z.body) e) (λ e. ap (λ (z : LaterTerm). z.slots) e)
+    (λ e q. ap (λ z. later_term z j.slots) e ∙ ap (later_term k.body) q) (λ e. ap (λ (z : LaterTerm). z.body) e)
+    (λ e. ap (λ (z : LaterTerm). z.slots) e)
 
 same_tree : (t u : TreeTerm) → Same t u
 same_tree (edit_tree a v) (edit_tree b w) = by_two a b v w _ _ (same_basic a b) (same_term v w) (λ e q. cc) (λ e. cc) (λ e. cc)

@@ -2,15 +2,16 @@
 use Rattle.std.specs.Prelude.{Result}
 use Rattle.task_model.specs.Left.{Left}
 use Rattle.task_model.specs.Checked.{CheckedTerm}
-use Rattle.task_model.specs.Plan.{Judgement, Derived, Plan, work, derives_at}
+use Rattle.task_model.specs.Plan.{Judgement, Derived, Plan, plan_work, derives_at}
 use Rattle.task_model.specs.Rules.{rule_of}
-use Rattle.task_model.specs.Spends.{Runs}
+use Rattle.task_model.specs.Spends.{RunsAtHeight}
 use Rattle.task_model.specs.declared.purse.Stop.{Stop}
 
 -- a judgement was derived
-pub record Asked {X : Type 0} (c : CheckedTerm) (q : Judgement) (view : X → Derived q) (old new : Left) (r : Result X Stop) : Type 0 where
-  pub runs : Runs (derives_at (rule_of c) old.height q) view old new r
+pub record RunsJudgement {X : Type 0} (c : CheckedTerm) (q : Judgement) (view : X → Derived q) (old new : Left) (r : Result X Stop) : Type 0
+  where
+    pub runs : RunsAtHeight (derives_at (rule_of c) old.height q) view old new r
 
 -- a rule's plan was carried out
-pub record Ran {A X : Type 0} (c : CheckedTerm) (p : Plan A) (view : X → A) (old new : Left) (r : Result X Stop) : Type 0 where
-  pub runs : Runs (work (derives_at (rule_of c) old.height) p) view old new r
+pub record RunsPlan {A X : Type 0} (c : CheckedTerm) (p : Plan A) (view : X → A) (old new : Left) (r : Result X Stop) : Type 0 where
+  pub runs : RunsAtHeight (plan_work (derives_at (rule_of c) old.height) p) view old new r

@@ -8,7 +8,7 @@ use Rattle.task_model.specs.Tree.{LaterTerm, TreeTerm, edit_tree, enter_tree, sh
 use Rattle.task_model.specs.Input.{ActTerm, set_act, next_act, left_act, right_act, InputTerm}
 use Rattle.task_model.specs.Checked.{CheckedTerm}
 use Rattle.task_model.specs.Work.{Work}
-use Rattle.task_model.specs.Plan.{Plan, give, ask, after, settles, work, Derives}
+use Rattle.task_model.specs.Plan.{Plan, give, ask, after, settles, plan_work, Derives}
 use Rattle.task_model.specs.Rules.{branch, value_of, tested, rule_of}
 use Rattle.task_model.specs.declared.input.Turn.{Turn}
 use Rattle.task_model.specs.declared.input.Turn.TheVariants as turns
@@ -51,7 +51,8 @@ module _ (c : CheckedTerm) where
   handled (enter_tree b) σ path act = at_editor b path act (λ w. at (edit_tree b w) σ)
   handled (share_tree b n) σ path act = at_editor b path act (λ w. at (share_tree b n) (slice_set σ n w))
   handled (then_tree t k) σ path act = rebuilds (handled t σ path act) (λ t'. then_tree t' k)
-  handled (next_tree t k) σ path act = at_step (stopped path act (value_of t σ)) k σ (rebuilds (handled t σ path act) (λ t'. next_tree t' k))
+  handled (next_tree t k) σ path act = at_step (stopped path act (value_of t σ)) k σ
+      (rebuilds (handled t σ path act) (λ t'. next_tree t' k))
   handled fail_tree σ path act = give None
   handled (and_tree t u) σ [] act = give None
   handled (and_tree t u) σ (turns.First ∷ path) act = rebuilds (handled t σ path act) (λ t'. and_tree t' u)
@@ -78,7 +79,7 @@ module _ (c : CheckedTerm) where
 
   -- an input is handled, or it is lacking
   abbrev pub Handled : State → InputTerm → Work (Option State)
-  Handled s i = work (Derives (rule_of c)) (handles c s i)
+  Handled s i = plan_work (Derives (rule_of c)) (handles c s i)
 
   -- an input leads to a state
   abbrev pub Handles : State → InputTerm → Work State
@@ -90,4 +91,4 @@ module _ (c : CheckedTerm) where
 
   -- an input is handled and the state that it leads to settles, or it is lacking
   abbrev pub Interacts : State → InputTerm → Work (Option State)
-  Interacts s i = work (Derives (rule_of c)) (interacts s i)
+  Interacts s i = plan_work (Derives (rule_of c)) (interacts s i)

@@ -40,8 +40,10 @@ shown_value v = html_escaped (value_text v)
 
 -- the fields of an editor's form: a text is edited raw, in an area, and any other type as a literal
 abbrev pub editor_fields : BasicTerm → Text → Text
-editor_fields text_type shown = codes "<input type=\"hidden\" name=\"as\" value=\"raw\"><textarea name=\"value\">\n" ++ shown ++ codes "</textarea>"
-editor_fields b shown = codes "<input type=\"hidden\" name=\"as\" value=\"" ++ basic_text b ++ codes "\"><input name=\"value\" value=\"" ++ shown ++ codes "\">"
+editor_fields text_type shown = codes "<input type=\"hidden\" name=\"as\" value=\"raw\"><textarea name=\"value\">\n" ++ shown
+    ++ codes "</textarea>"
+editor_fields b shown = codes "<input type=\"hidden\" name=\"as\" value=\"" ++ basic_text b ++ codes "\"><input name=\"value\" value=\""
+    ++ shown ++ codes "\">"
 
 -- an editor: a line, and a form that sets it
 abbrev pub editor_text : Text → Text → BasicTerm → Text → Text
@@ -64,7 +66,8 @@ shape_fragment path (step_shape s) = paragraph (path ++ codes " step") ++ sign_f
 shape_fragment path fail_shape = paragraph (path ++ codes " fail")
 shape_fragment path and_shape = paragraph (path ++ codes " and")
 shape_fragment path or_shape = paragraph (path ++ codes " or")
-shape_fragment path (pick_shape s z) = paragraph (path ++ codes " pick") ++ sign_form path (codes "left") s ++ sign_form path (codes "right") z
+shape_fragment path (pick_shape s z) = paragraph (path ++ codes " pick") ++ sign_form path (codes "left") s
+    ++ sign_form path (codes "right") z
 
 -- the fragment of a widget
 abbrev pub widget_fragment : WidgetTerm → Text

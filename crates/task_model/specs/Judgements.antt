@@ -1,14 +1,14 @@
 -- The judgements by name: each has a result, units and a height (docs/RULES.md).
-use Rattle.std.specs.Prelude.{ℕ, ◌≤◌, Bool, List}
+use Rattle.std.specs.Prelude.{ℕ, ◌≤◌, Bool, List, [], ◌∷◌, ◌++◌}
 use Rattle.task_model.specs.Value.{ValueTerm}
-use Rattle.task_model.specs.Env.{EnvTerm}
+use Rattle.task_model.specs.Env.{EnvTerm, plain_slot}
 use Rattle.task_model.specs.Host.{HostTerm}
 use Rattle.task_model.specs.Task.{TaskTerm}
 use Rattle.task_model.specs.Tree.{LaterTerm, State}
 use Rattle.task_model.specs.Checked.{CheckedTerm}
 use Rattle.task_model.specs.Work.{Work}
-use Rattle.task_model.specs.Plan.{gives_value, evaluates, fails, strides, settles, normal, give, work, Derives}
-use Rattle.task_model.specs.Rules.{applied, rule_of}
+use Rattle.task_model.specs.Plan.{gives_value, evaluates, fails, strides, settles, normal, give, plan_work, Derives}
+use Rattle.task_model.specs.Rules.{applied, tested, rule_of}
 
 module _ (c : CheckedTerm) where
   -- an expression gives a value
@@ -21,7 +21,15 @@ module _ (c : CheckedTerm) where
 
   -- a cont at a value evaluates to a tree and a store, by no further rule
   abbrev pub Applies : LaterTerm → ValueTerm → List ValueTerm → Work State
-  Applies k v σ = work (Derives (rule_of c)) (applied c k v σ give)
+  Applies k v σ = plan_work (Derives (rule_of c)) (applied c k v σ give)
+
+  -- a side of an external choice is normalised: the state that it leads to, and whether that is failing
+  abbrev pub Side : LaterTerm → List ValueTerm → Work (State × Bool)
+  Side k σ = plan_work (Derives (rule_of c)) (tested c k.body k.slots σ (λ s failing. give (s, failing)))
+
+  -- a cont is normalised at a value: the state that it leads to, and whether that is failing
+  abbrev pub Trial : LaterTerm → ValueTerm → List ValueTerm → Work (State × Bool)
+  Trial k v σ = plan_work (Derives (rule_of c)) (tested c k.body (k.slots ++ plain_slot v ∷ []) σ (λ s failing. give (s, failing)))
 
   -- a state is failing, or not
   abbrev pub Fails : State → Work Bool
@@ -40,6 +48,6 @@ module _ (c : CheckedTerm) where
   Normal t env σ = Derives (rule_of c) (normal t env σ)
 
 -- at most so many units, and a height of at most 1,000
-pub record Within (budget n h : ℕ) : Type 0 where
+pub record IsWithinBudget (budget n h : ℕ) : Type 0 where
   pub units : n ≤ budget
   pub height : h ≤ 1000

@@ -1,4 +1,5 @@
 pub mod Rowed
+pub mod Loans
 pub mod formers
 pub mod Left
 pub mod Text
@@ -6,6 +7,7 @@ pub mod Basic
 pub mod Value
 pub mod Env
 pub mod Host
+pub mod Scope
 pub mod Task
 pub mod Program
 pub mod Tree
@@ -21,6 +23,7 @@ pub mod Plan
 pub mod Rules
 pub mod Judgements
 pub mod Handling
+pub mod Address
 pub mod Outcome
 pub mod Sign
 pub mod Offer
@@ -33,3 +36,11 @@ pub mod State
 pub mod Spends
 pub mod Token
 pub mod Calls
+pub mod Spelling
+pub mod Lexemes
+pub mod Grammar
+pub mod Meaning
+pub mod Nodes
+pub mod ProgramText
+pub mod Printed
+pub mod Written

@@ -64,8 +64,10 @@ module _ (c : CheckedTerm) (budget : ℕ) where
   AreOffers (next_tree t k) σ os =
       (s : Sign) × (us : List OfferTerm) × IsStepSign c budget (value_of t σ) k σ s × AreOffers t σ us × (os ≡ offered next_offer s ++ us)
   AreOffers fail_tree σ os = os ≡ []
-  AreOffers (and_tree t u) σ os = (xs : List OfferTerm) × (ys : List OfferTerm) × AreOffers t σ xs × AreOffers u σ ys × (os ≡ both_offers xs ys)
-  AreOffers (or_tree t u) σ os = (xs : List OfferTerm) × (ys : List OfferTerm) × AreOffers t σ xs × AreOffers u σ ys × (os ≡ both_offers xs ys)
+  AreOffers (and_tree t u) σ os = (xs : List OfferTerm) × (ys : List OfferTerm) × AreOffers t σ xs × AreOffers u σ ys
+      × (os ≡ both_offers xs ys)
+  AreOffers (or_tree t u) σ os = (xs : List OfferTerm) × (ys : List OfferTerm) × AreOffers t σ xs × AreOffers u σ ys
+      × (os ≡ both_offers xs ys)
   AreOffers (xor_tree j k) σ os =
       (s : Sign) × (z : Sign) × IsSideSign c budget j σ s × IsSideSign c budget k σ z × (os ≡ offered left_offer s ++ offered right_offer z)
 

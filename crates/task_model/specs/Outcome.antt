@@ -3,7 +3,7 @@ use Rattle.std.specs.Prelude.{ℕ, Some}
 use Rattle.task_model.specs.Tree.{State}
 use Rattle.task_model.specs.Input.{InputTerm}
 use Rattle.task_model.specs.Checked.{CheckedTerm}
-use Rattle.task_model.specs.Judgements.{Within}
+use Rattle.task_model.specs.Judgements.{IsWithinBudget}
 use Rattle.task_model.specs.Handling.{Lacks, Interacts}
 
 pub data Outcome : Type 0 where
@@ -14,11 +14,11 @@ pub data Outcome : Type 0 where
 module _ (c : CheckedTerm) (budget : ℕ) (s : State) (i : InputTerm) where
   -- handling and settling lead to this state within the budget
   abbrev pub IsTaken : State → Type 0
-  IsTaken t = (n : ℕ) × (h : ℕ) × Interacts c s i (Some t) n h × Within budget n h
+  IsTaken t = (n : ℕ) × (h : ℕ) × Interacts c s i (Some t) n h × IsWithinBudget budget n h
 
   -- the input is lacking, and that shows within the budget
   abbrev pub IsNotOffered : Type 0
-  IsNotOffered = (n : ℕ) × (h : ℕ) × Lacks c s i n h × Within budget n h
+  IsNotOffered = (n : ℕ) × (h : ℕ) × Lacks c s i n h × IsWithinBudget budget n h
 
   -- an input is taken or not offered where that shows within the budget, and else over the budget
   abbrev pub IsOutcome : Outcome → Type 0

@@ -53,25 +53,26 @@ known (Some x) f = f x
 
 -- A nonempty list of strides: the last one changes neither tree nor store, and every other one changes something. Each costs one
 -- unit besides its own.
-pub data Strides (one : State → Work State) : State → State → ℕ → ℕ → Type 0 where
-  last_stride : (s s' : State) (n m h : ℕ) → one s s' n h → s' ≡ s → m ≡ suc n → Strides one s s' m h
-  more_strides : (s s1 s' : State) (n n' m h h' g : ℕ) → one s s1 n h → s1 ≢ s → Strides one s1 s' n' h' → m ≡ suc (n + n') → g ≡ max h h' → Strides one s s' m g
+pub data StrideList (one : State → Work State) : State → State → ℕ → ℕ → Type 0 where
+  last_stride : (s s' : State) (n m h : ℕ) → one s s' n h → s' ≡ s → m ≡ suc n → StrideList one s s' m h
+  more_strides : (s s1 s' : State) (n n' m h h' g : ℕ) → one s s1 n h → s1 ≢ s → StrideList one s1 s' n' h' → m ≡ suc (n + n')
+      → g ≡ max h h' → StrideList one s s' m g
 
 abbrev pub Parts : Type 1
 Parts = (q : Judgement) → Work (Derived q)
 
--- the work of a plan over the derivations of its parts: units are summed, and the height is the greatest
-abbrev pub work : {A : Type 0} → Parts → Plan A → Work A
-work part (give x) = gives x
-work part stuck = never
-work part (ask q f) = then_on (part q) (λ r. work part (f r))
-work part (unit p) = unit_and (work part p)
-work part (stride_on s f) = then_on (Strides (λ t. part (strides t)) s) (λ t. work part (f t))
+-- the plan_work of a plan over the derivations of its parts: units are summed, and the height is the greatest
+abbrev pub plan_work : {A : Type 0} → Parts → Plan A → Work A
+plan_work part (give x) = gives x
+plan_work part stuck = never
+plan_work part (ask q f) = then_on (part q) (λ r. plan_work part (f r))
+plan_work part (unit p) = unit_and (plan_work part p)
+plan_work part (stride_on s f) = then_on (StrideList (λ t. part (strides t)) s) (λ t. plan_work part (f t))
 
 -- derivations of a height of at most k, where `step` has the rule of each judgement
 abbrev pub derives_at : ((q : Judgement) → Plan (Derived q)) → ℕ → (q : Judgement) → Work (Derived q)
 derives_at step zero q = never
-derives_at step (suc k) q = rule (work (derives_at step k) (step q))
+derives_at step (suc k) q = rule (plan_work (derives_at step k) (step q))
 
 -- q has this result, these units and this height
 abbrev pub Derives : ((q : Judgement) → Plan (Derived q)) → (q : Judgement) → Work (Derived q)

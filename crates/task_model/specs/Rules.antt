@@ -126,7 +126,8 @@ module _ (c : CheckedTerm) where
   value_rule (read_expr x) env σ = known (slot_of env x) (λ s. as_place s (λ n. known (slice_get σ n) give))
   value_rule (call_expr f es) env σ =
       known (fun_named c.program f)
-      (λ d. unit (after (slots_for env σ [] (exprs_of es) d.params) (λ vs. ask (gives_value d.expr (record { names = param_names d.params; slots = vs; first = 0 }) σ) give)))
+      (λ d. unit (after (slots_for env σ [] (exprs_of es) d.params)
+      (λ vs. ask (gives_value d.expr (record { names = param_names d.params; slots = vs; first = 0 }) σ) give)))
   value_rule (pair_expr a b) env σ = ask (gives_value a env σ) (λ v. ask (gives_value b env σ) (λ w. give (pair_value v w)))
   value_rule (list_expr es) env σ = after (values_for env σ [] es) (λ vs. give (list_of vs))
   value_rule (nil_expr b) env σ = give (list_value no_values)
@@ -137,34 +138,43 @@ module _ (c : CheckedTerm) where
   value_rule (len_expr a) env σ = ask (gives_value a env σ) (λ v. known (length_of v) give)
   value_rule (op_expr o a b) env σ = op_rule o a b env σ
   value_rule (let_expr x a b) env σ = ask (gives_value a env σ) (λ v. ask (gives_value b (bound env x (plain_slot v)) σ) give)
-  value_rule (if_expr e a b) env σ = ask (gives_value e env σ) (λ v. chosen v (ask (gives_value a env σ) give) (ask (gives_value b env σ) give))
+  value_rule (if_expr e a b) env σ = ask (gives_value e env σ)
+      (λ v. chosen v (ask (gives_value a env σ) give) (ask (gives_value b env σ) give))
   value_rule (case_expr e a x y b) env σ =
-      ask (gives_value e env σ) (λ v. matched v (ask (gives_value a env σ) give) (λ head tail. ask (gives_value b (bound (bound env x (plain_slot head)) y (plain_slot tail)) σ) give))
+      ask (gives_value e env σ)
+      (λ v. matched v (ask (gives_value a env σ) give)
+      (λ head tail. ask (gives_value b (bound (bound env x (plain_slot head)) y (plain_slot tail)) σ) give))
 
   -- ---- evaluating (docs/RULES.md, "Tasks")
   abbrev pub evaluate_rule : TaskTerm → EnvTerm → List ValueTerm → Plan State
   evaluate_rule (edit e) env σ = known (slice_get c.types env.first) (λ b. ask (gives_value e env σ) (λ v. give (at (edit_tree b v) σ)))
   evaluate_rule (enter b) env σ = give (at (enter_tree b) σ)
-  evaluate_rule (share x) env σ = known (slice_get c.types env.first) (λ b. known (slot_of env x) (λ s. as_place s (λ n. give (at (share_tree b n) σ))))
+  evaluate_rule (share x) env σ = known (slice_get c.types env.first)
+      (λ b. known (slot_of env x) (λ s. as_place s (λ n. give (at (share_tree b n) σ))))
   evaluate_rule (fail b) env σ = give (at fail_tree σ)
   evaluate_rule (call_task f es) env σ =
       known (task_named c.program f)
-      (λ d. unit (after (slots_for env σ [] es d.params) (λ vs. ask (evaluates d.task (record { names = param_names d.params; slots = vs; first = d.first }) σ) give)))
+      (λ d. unit (after (slots_for env σ [] es d.params)
+      (λ vs. ask (evaluates d.task (record { names = param_names d.params; slots = vs; first = d.first }) σ) give)))
   evaluate_rule (then_task t i) env σ = ask (evaluates t env σ) (λ s. give (at (then_tree s.tree (later i env)) s.store))
   evaluate_rule (next_task t i) env σ = ask (evaluates t env σ) (λ s. give (at (next_tree s.tree (later i env)) s.store))
   evaluate_rule (and_task t u) env σ =
-      ask (evaluates t env σ) (λ s. ask (evaluates u (later_by (nodes_of c.program t) env) s.store) (λ s'. give (at (and_tree s.tree s'.tree) s'.store)))
+      ask (evaluates t env σ)
+      (λ s. ask (evaluates u (later_by (nodes_of c.program t) env) s.store) (λ s'. give (at (and_tree s.tree s'.tree) s'.store)))
   evaluate_rule (or_task t u) env σ =
-      ask (evaluates t env σ) (λ s. ask (evaluates u (later_by (nodes_of c.program t) env) s.store) (λ s'. give (at (or_tree s.tree s'.tree) s'.store)))
+      ask (evaluates t env σ)
+      (λ s. ask (evaluates u (later_by (nodes_of c.program t) env) s.store) (λ s'. give (at (or_tree s.tree s'.tree) s'.store)))
   evaluate_rule (xor_task i j) env σ = give (at (xor_tree (later i env) (later j env)) σ)
   evaluate_rule (let_task x e t) env σ = ask (gives_value e env σ) (λ v. ask (evaluates t (bound env x (plain_slot v)) σ) give)
   evaluate_rule (if_task e t u) env σ =
-      ask (gives_value e env σ) (λ v. chosen v (ask (evaluates t env σ) give) (ask (evaluates u (later_by (nodes_of c.program t) env) σ) give))
+      ask (gives_value e env σ)
+      (λ v. chosen v (ask (evaluates t env σ) give) (ask (evaluates u (later_by (nodes_of c.program t) env) σ) give))
   evaluate_rule (case_task e t x y u) env σ =
       ask (gives_value e env σ)
       (λ v. matched v (ask (evaluates t env σ) give)
       (λ head tail. ask (evaluates u (bound (bound (later_by (nodes_of c.program t) env) x (plain_slot head)) y (plain_slot tail)) σ) give))
-  evaluate_rule (new_task x e t) env σ = ask (gives_value e env σ) (λ v. ask (evaluates t (bound env x (place_slot (length σ))) (σ ++ v ∷ [])) give)
+  evaluate_rule (new_task x e t) env σ = ask (gives_value e env σ)
+      (λ v. ask (evaluates t (bound env x (place_slot (length σ))) (σ ++ v ∷ [])) give)
   evaluate_rule (put_task x e t) env σ =
       known (slot_of env x) (λ s. as_place s (λ n. ask (gives_value e env σ) (λ v. ask (evaluates t env (slice_set σ n v)) give)))
 
@@ -175,11 +185,13 @@ module _ (c : CheckedTerm) where
 
   -- a cont at a value, by no further rule
   abbrev pub applied : {A : Type 0} → LaterTerm → ValueTerm → List ValueTerm → (State → Plan A) → Plan A
-  applied k v σ f = known (slice_get c.program.bodies k.body) (λ b. ask (evaluates b.task (opened_env k.body b (k.slots ++ plain_slot v ∷ [])) σ) f)
+  applied k v σ f = known (slice_get c.program.bodies k.body)
+      (λ b. ask (evaluates b.task (opened_env k.body b (k.slots ++ plain_slot v ∷ [])) σ) f)
 
   -- a body with these slots, normalised, and whether what that leads to is failing in the store that it leaves
   abbrev pub tested : {A : Type 0} → ℕ → List SlotTerm → List ValueTerm → (State → Bool → Plan A) → Plan A
-  tested i vs σ f = known (slice_get c.program.bodies i) (λ b. ask (normal b.task (opened_env i b vs) σ) (λ s. ask (fails s) (λ no. f s no)))
+  tested i vs σ f = known (slice_get c.program.bodies i)
+      (λ b. ask (normal b.task (opened_env i b vs) σ) (λ s. ask (fails s) (λ no. f s no)))
 
   -- whether a side of a choice is failing
   abbrev pub side : LaterTerm → List ValueTerm → Plan Bool
@@ -214,7 +226,8 @@ module _ (c : CheckedTerm) where
   stride_rule fail_tree σ = give (at fail_tree σ)
   stride_rule (xor_tree j k) σ = give (at (xor_tree j k) σ)
   stride_rule (next_tree t k) σ = ask (strides (at t σ)) (λ s. give (at (next_tree s.tree k) s.store))
-  stride_rule (and_tree t u) σ = ask (strides (at t σ)) (λ s. ask (strides (at u s.store)) (λ s'. give (at (and_tree s.tree s'.tree) s'.store)))
+  stride_rule (and_tree t u) σ = ask (strides (at t σ))
+      (λ s. ask (strides (at u s.store)) (λ s'. give (at (and_tree s.tree s'.tree) s'.store)))
   stride_rule (then_tree t k) σ = ask (strides (at t σ)) (λ s. fired (value_of s.tree s.store) k s)
   stride_rule (or_tree t u) σ =
       ask (strides (at t σ)) (λ s. with_value (value_of s.tree s.store) (give s)

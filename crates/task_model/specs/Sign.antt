@@ -4,28 +4,28 @@ use Rattle.task_model.specs.Value.{ValueTerm}
 use Rattle.task_model.specs.Tree.{LaterTerm}
 use Rattle.task_model.specs.Checked.{CheckedTerm}
 use Rattle.task_model.specs.Work.{Work}
-use Rattle.task_model.specs.Plan.{Plan, work, Derives}
+use Rattle.task_model.specs.Plan.{Plan, plan_work, Derives}
 use Rattle.task_model.specs.Rules.{side, trial, rule_of}
-use Rattle.task_model.specs.Judgements.{Within}
+use Rattle.task_model.specs.Judgements.{IsWithinBudget}
 use Rattle.task_model.specs.declared.widget.Sign.{Sign}
 use Rattle.task_model.specs.declared.widget.Sign.TheVariants as signs
 
 -- the sign of a test: what was tested is failing, or it isn't, or neither shows within the budget
 abbrev pub IsSign : ℕ → Work Bool → Sign → Type 0
-IsSign budget test signs.No = (n : ℕ) × (h : ℕ) × test true n h × Within budget n h
-IsSign budget test signs.Yes = (n : ℕ) × (h : ℕ) × test false n h × Within budget n h
-IsSign budget test signs.Over = (failing : Bool) (n h : ℕ) → test failing n h → Within budget n h → ⊥
+IsSign budget test signs.No = (n : ℕ) × (h : ℕ) × test true n h × IsWithinBudget budget n h
+IsSign budget test signs.Yes = (n : ℕ) × (h : ℕ) × test false n h × IsWithinBudget budget n h
+IsSign budget test signs.Over = (failing : Bool) (n h : ℕ) → test failing n h → IsWithinBudget budget n h → ⊥
+
+-- the derivations of a test, which is no rule itself
+abbrev pub Test : CheckedTerm → Plan Bool → Work Bool
+Test c p = plan_work (Derives (rule_of c)) p
 
 module _ (c : CheckedTerm) (budget : ℕ) where
-  -- the derivations of a test, which is no rule itself
-  abbrev pub Test : Plan Bool → Work Bool
-  Test p = work (Derives (rule_of c)) p
-
   -- the sign of a side of a choice
   abbrev pub IsSideSign : LaterTerm → List ValueTerm → Sign → Type 0
-  IsSideSign k σ s = IsSign budget (Test (side c k σ)) s
+  IsSideSign k σ s = IsSign budget (Test c (side c k σ)) s
 
   -- the sign of a user step: that of its cont at the value of its left, and No where that has none
   abbrev pub IsStepSign : Option ValueTerm → LaterTerm → List ValueTerm → Sign → Type 0
   IsStepSign None k σ s = s ≡ signs.No
-  IsStepSign (Some v) k σ s = IsSign budget (Test (trial c k v σ)) s
+  IsStepSign (Some v) k σ s = IsSign budget (Test c (trial c k v σ)) s

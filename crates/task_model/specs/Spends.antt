@@ -13,8 +13,8 @@ Spends {A} work view old new (Err Over) = (v : A) (n h : ℕ) → work v n h →
 Spends work view old new (Err Memory) = Unit {0}
 
 -- the same within an evaluation, where the height that the purse has left is in the work itself
-abbrev pub Runs : {A X : Type 0} → Work A → (X → A) → Left → Left → Result X Stop → Type 0
-Runs work view old new (Ok x) =
+abbrev pub RunsAtHeight : {A X : Type 0} → Work A → (X → A) → Left → Left → Result X Stop → Type 0
+RunsAtHeight work view old new (Ok x) =
     (n : ℕ) × (h : ℕ) × work (view x) n h × (old.units ≡ n + new.units) × (new.height ≡ old.height)
-Runs {A} work view old new (Err Over) = (v : A) (n h : ℕ) → work v n h → n ≤ old.units → ⊥
-Runs work view old new (Err Memory) = Unit {0}
+RunsAtHeight {A} work view old new (Err Over) = (v : A) (n h : ℕ) → work v n h → n ≤ old.units → ⊥
+RunsAtHeight work view old new (Err Memory) = Unit {0}

@@ -7,7 +7,7 @@ use Rattle.task_model.specs.Tree.{State}
 use Rattle.task_model.specs.Input.{EntryTerm}
 use Rattle.task_model.specs.Item.{ItemTerm, opened, took}
 use Rattle.task_model.specs.Checked.{CheckedTerm}
-use Rattle.task_model.specs.Judgements.{Normal, Within}
+use Rattle.task_model.specs.Judgements.{Normal, IsWithinBudget}
 use Rattle.task_model.specs.Outcome.{IsTaken}
 use Rattle.task_model.specs.Accepted.{main_name, IsAccepted}
 use Rattle.task_model.specs.Text.{Text}
@@ -20,7 +20,7 @@ use Rattle.task_model.specs.declared.widget.Face.TheVariants as faces
 module _ (c : CheckedTerm) (budget : ℕ) where
   -- the opening: `main()`, normalised in the empty environment and store within the budget
   abbrev pub IsOpening : State → Type 0
-  IsOpening s = (n : ℕ) × (h : ℕ) × Normal c (call_task main_name []) empty_env [] s n h × Within budget n h
+  IsOpening s = (n : ℕ) × (h : ℕ) × Normal c (call_task main_name []) empty_env [] s n h × IsWithinBudget budget n h
 
   -- these entries lead from one state to another: each input is taken at the state that it meets
   abbrev pub LeadTo : State → List ItemTerm → State → Type 0
@@ -37,7 +37,10 @@ abbrev pub IsState : List ItemTerm → State → Type 0
 IsState [] t = ⊥
 IsState (took e ∷ items) t = ⊥
 IsState (opened p budget ∷ items) t =
-    (types : List BasicTerm) × IsAccepted (record { program = p; types = types }) × IsReached (record { program = p; types = types }) budget items t
+    (types : List BasicTerm) × IsAccepted (record {
+      program = p;
+      types = types;
+    }) × IsReached (record { program = p; types = types }) budget items t
 
 -- the number of inputs taken
 abbrev pub version_of : List ItemTerm → ℕ
@@ -69,11 +72,11 @@ entries_of (opened p budget ∷ items) seat = entries_of items seat
 entries_of (took e ∷ items) seat = if nat_eq e.seat seat then e ∷ entries_of items seat else entries_of items seat
 
 -- the items of a history up to a version
-abbrev pub prefix_of : List ItemTerm → ℕ → List ItemTerm
-prefix_of [] version = []
-prefix_of (opened p budget ∷ items) version = opened p budget ∷ prefix_of items version
-prefix_of (took e ∷ items) zero = []
-prefix_of (took e ∷ items) (suc version) = took e ∷ prefix_of items version
+abbrev pub history_prefix : List ItemTerm → ℕ → List ItemTerm
+history_prefix [] version = []
+history_prefix (opened p budget ∷ items) version = opened p budget ∷ history_prefix items version
+history_prefix (took e ∷ items) zero = []
+history_prefix (took e ∷ items) (suc version) = took e ∷ history_prefix items version
 
 -- the widgets of a history's state
 abbrev pub HasWidgets : List ItemTerm → List WidgetTerm → Type 0
@@ -81,7 +84,10 @@ HasWidgets [] ws = ⊥
 HasWidgets (took e ∷ items) ws = ⊥
 HasWidgets (opened p budget ∷ items) ws =
     (types : List BasicTerm) × (t : State) × IsAccepted (record { program = p; types = types })
-    × IsReached (record { program = p; types = types }) budget items t × AreWidgets (record { program = p; types = types }) budget t.tree t.store ws
+    × IsReached (record {
+      program = p;
+      types = types;
+    }) budget items t × AreWidgets (record { program = p; types = types }) budget t.tree t.store ws
 
 -- the terminal page of a history for a seat (docs/FORMATS.md, "Pages")
 abbrev pub IsTerminal : List ItemTerm → ℕ → Text → Type 0

@@ -36,8 +36,10 @@ pub record IsWord (t : Text) : Type 0 where
 -- the words that are no names
 abbrev pub keywords : List Text
 keywords =
-    codes "fun" ∷ codes "task" ∷ codes "unit" ∷ codes "bool" ∷ codes "int" ∷ codes "text" ∷ codes "ref" ∷ codes "let" ∷ codes "in" ∷ codes "if" ∷ codes "then" ∷ codes "else"
-    ∷ codes "case" ∷ codes "of" ∷ codes "new" ∷ codes "edit" ∷ codes "enter" ∷ codes "share" ∷ codes "fail" ∷ codes "true" ∷ codes "false" ∷ codes "not" ∷ codes "fst" ∷ codes "snd"
+    codes "fun" ∷ codes "task" ∷ codes "unit" ∷ codes "bool" ∷ codes "int" ∷ codes "text" ∷ codes "ref" ∷ codes "let" ∷ codes "in"
+    ∷ codes "if" ∷ codes "then" ∷ codes "else"
+    ∷ codes "case" ∷ codes "of" ∷ codes "new" ∷ codes "edit" ∷ codes "enter" ∷ codes "share" ∷ codes "fail" ∷ codes "true" ∷ codes "false"
+    ∷ codes "not" ∷ codes "fst" ∷ codes "snd"
     ∷ codes "len" ∷ codes "quot" ∷ codes "rem" ∷ codes "nil" ∷ []
 
 abbrev pub is_keyword : Text → Bool
@@ -46,8 +48,10 @@ is_keyword t = list_any (same_text t) keywords
 -- ---- symbols
 abbrev pub symbols : List Text
 symbols =
-    codes "(" ∷ codes ")" ∷ codes "[" ∷ codes "]" ∷ codes "," ∷ codes ":" ∷ codes ":=" ∷ codes "::" ∷ codes ";" ∷ codes "." ∷ codes "=" ∷ codes "==" ∷ codes "!=" ∷ codes "!" ∷ codes "<" ∷ codes "<="
-    ∷ codes ">" ∷ codes ">=" ∷ codes "+" ∷ codes "++" ∷ codes "-" ∷ codes "->" ∷ codes "*" ∷ codes "||" ∷ codes "|" ∷ codes "&&" ∷ codes ">>=" ∷ codes ">>?" ∷ codes "<&>" ∷ codes "<|>"
+    codes "(" ∷ codes ")" ∷ codes "[" ∷ codes "]" ∷ codes "," ∷ codes ":" ∷ codes ":=" ∷ codes "::" ∷ codes ";" ∷ codes "." ∷ codes "="
+    ∷ codes "==" ∷ codes "!=" ∷ codes "!" ∷ codes "<" ∷ codes "<="
+    ∷ codes ">" ∷ codes ">=" ∷ codes "+" ∷ codes "++" ∷ codes "-" ∷ codes "->" ∷ codes "*" ∷ codes "||" ∷ codes "|" ∷ codes "&&"
+    ∷ codes ">>=" ∷ codes ">>?" ∷ codes "<&>" ∷ codes "<|>"
     ∷ codes "<?>" ∷ []
 
 abbrev pub is_symbol : Text → Bool
@@ -67,8 +71,8 @@ number_from value [] = value
 number_from value (byte ∷ bytes) = number_from (value * 10 + (byte - 48)) bytes
 
 -- a run of digits
-abbrev pub IsNumber : Text → ℕ → Type 0
-IsNumber t n = (t ≢ []) × AreDigits t × (n ≡ number_from 0 t)
+abbrev pub SpellsNumber : Text → ℕ → Type 0
+SpellsNumber t n = (t ≢ []) × AreDigits t × (n ≡ number_from 0 t)
 
 -- ---- texts
 -- a part of a text: a character as it stands, an escape by a letter, or one by two hexadecimal digits
@@ -120,15 +124,15 @@ IsText t content = (ps : List TextPart) × (t ≡ 34 ∷ spelled ps ++ 34 ∷ []
 abbrev pub Spells : Text → TokenKindTerm → Type 0
 Spells t name_token = IsWord t × (is_keyword t ≡ false)
 Spells t keyword_token = is_keyword t ≡ true
-Spells t (number_token n) = IsNumber t n
+Spells t (number_token n) = SpellsNumber t n
 Spells t (text_token content) = IsText t content
 Spells t symbol_token = is_symbol t ≡ true
 
 -- the limits: a number is at most 9,223,372,036,854,775,807, and a text's content has at most 65,536 bytes
-abbrev pub IsWithinLimits : TokenKindTerm → Type 0
-IsWithinLimits (number_token n) = n ≤ 9223372036854775807
-IsWithinLimits (text_token content) = length content ≤ 65536
-IsWithinLimits kind = Unit {0}
+abbrev pub IsWithinTokenLimits : TokenKindTerm → Type 0
+IsWithinTokenLimits (number_token n) = n ≤ 9223372036854775807
+IsWithinTokenLimits (text_token content) = length content ≤ 65536
+IsWithinTokenLimits kind = Unit {0}
 
 -- no longer token begins at its place
 abbrev pub IsLongest : Text → Text → Type 0
@@ -167,7 +171,7 @@ abbrev pub AreRight : List Piece → Type 0
 AreRight [] = Unit {0}
 AreRight (blank byte ∷ ps) = IsBlank byte × AreRight ps
 AreRight (comment t ∷ ps) = NoLf t × EndsLine (bytes_of ps) × AreRight ps
-AreRight (lexeme t kind ∷ ps) = Spells t kind × IsWithinLimits kind × IsLongest t (bytes_of ps) × AreRight ps
+AreRight (lexeme t kind ∷ ps) = Spells t kind × IsWithinTokenLimits kind × IsLongest t (bytes_of ps) × AreRight ps
 
 -- the tokens of these pieces, the first of which stands at this place
 abbrev pub tokens_from : ℕ → List Piece → List TokenTerm

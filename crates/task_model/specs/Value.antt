@@ -31,7 +31,7 @@ abbrev mutual
   value_term (value.Int i) = int_value i
   value_term (value.Text t) = text_value t
   value_term (value.Pair' p a q b) = pair_value (value_term a) (value_term b)
-  value_term (value.List' shape row) = list_value (row_values row)
+  value_term (value.List' p shape row) = list_value (row_values row)
 
   pub row_values : {m : _} → value.Row_of-Value m → ValueTerms
   row_values value.end_of-Value = no_values

@@ -4,13 +4,8 @@ ghost use Rattle.task_model.specs.Value.{value_term, as_values};
 ghost use Rattle.task_model.specs.Value as values;
 
 use crate::basic::Basic;
+use crate::limits::{LIST_ELEMENT_LIMIT, TEXT_BYTE_LIMIT};
 use crate::value::Value;
-
-/// The most bytes of a text.
-pub const TEXT_LIMIT: usize = 65_536;
-
-/// The most elements of a list.
-pub const LIST_LIMIT: usize = 1_024;
 
 /// Whether a value has a type. It takes no memory.
 #[cycle(has)]
@@ -21,13 +16,13 @@ pub fn value_has(v: &Value, b: &Basic) -> bool
         (Value::Unit, Basic::Unit) => true,
         (Value::Bool(_), Basic::Bool) => true,
         (Value::Int(_), Basic::Int) => true,
-        (Value::Text(text), Basic::Text) => text.as_str().len() <= TEXT_LIMIT,
+        (Value::Text(text), Basic::Text) => text.as_str().len() <= TEXT_BYTE_LIMIT,
         (Value::Pair(first, second), Basic::Pair(a, b)) => {
             value_has(first, a) && value_has(second, b)
         }
         (Value::List(items), Basic::List(item)) => {
             let items = items.as_slice();
-            items.len() <= LIST_LIMIT && values_have(items, item)
+            items.len() <= LIST_ELEMENT_LIMIT && values_have(items, item)
         }
         _ => false,
     }

@@ -19,11 +19,11 @@ pub fn copy_turns(alloc: Global, turns: &[Turn]) -> Result<Row<Turn>, OutOfMemor
     Ok(copies)
 }
 
-fn copy_act(alloc: Global, act: &Act) -> Result<Act, OutOfMemory>
+fn copy_act(act: &Act) -> Result<Act, OutOfMemory>
     ensures { IfOk result (λ copy. act_term copy ≡ act_term act.now) }
 {
     match act {
-        Act::Set(v) => Ok(Act::Set(copy_value(alloc, v)?)),
+        Act::Set(v) => Ok(Act::Set(copy_value(v)?)),
         Act::Next => Ok(Act::Next),
         Act::Left => Ok(Act::Left),
         Act::Right => Ok(Act::Right),
@@ -37,7 +37,7 @@ pub fn copy_input(alloc: Global, i: &Input) -> Result<Input, OutOfMemory>
     let turns = copy_turns(alloc, i.path.turns.as_slice())?;
     Ok(Input {
         path: Path { turns },
-        act: copy_act(alloc, &i.act)?,
+        act: copy_act(&i.act)?,
     })
 }
 

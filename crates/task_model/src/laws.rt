@@ -1,12 +1,13 @@
 ghost use Rattle.std.specs.Prelude.{◌≡◌, ◌↔◌, ℕ, Bool, List, Some};
 ghost use Rattle.task_model.specs.Value.{ValueTerm};
-ghost use Rattle.task_model.specs.Tree.{TreeTerm, State};
+ghost use Rattle.task_model.specs.Tree.{LaterTerm, TreeTerm, State};
 ghost use Rattle.task_model.specs.Input.{InputTerm};
 ghost use Rattle.task_model.specs.Item.{ItemTerm};
 ghost use Rattle.task_model.specs.Checked.{CheckedTerm};
 ghost use Rattle.task_model.specs.Work.{AtMostOne, rule};
-ghost use Rattle.task_model.specs.Plan.{Judgement, Derived, Plan, work, Derives};
+ghost use Rattle.task_model.specs.Plan.{Judgement, Derived, Plan, plan_work, Derives};
 ghost use Rattle.task_model.specs.Rules.{rule_of};
+ghost use Rattle.task_model.specs.Judgements.{Applies, Side, Trial};
 ghost use Rattle.task_model.specs.Handling.{Handled};
 ghost use Rattle.task_model.specs.Outcome.{Outcome, IsOutcome};
 ghost use Rattle.task_model.specs.Sign.{Test};
@@ -14,17 +15,21 @@ ghost use Rattle.task_model.specs.Offer.{OfferTerm, AreOffers};
 ghost use Rattle.task_model.specs.Widget.{WidgetTerm, AreWidgets};
 ghost use Rattle.task_model.specs.State.{IsState};
 
-/// Every judgement has at most one result, one number of units and one height, and so have tests and the handling of inputs.
+/// Every judgement has at most one result, one number of units and one height, and so have tests, a cont applied to a value, sides and trials
+/// with the state that they lead to and whether it is failing, and the handling of inputs.
 pub fn one_result()
     ensures judgements { (c : CheckedTerm) (q : Judgement) → AtMostOne (Derives (rule_of c) q) }
-    ensures tests { (c : CheckedTerm) (budget : ℕ) (test : Plan Bool) → AtMostOne (Test c budget test) }
+    ensures tests { (c : CheckedTerm) (test : Plan Bool) → AtMostOne (Test c test) }
+    ensures applying { (c : CheckedTerm) (k : LaterTerm) (v : ValueTerm) (σ : List ValueTerm) → AtMostOne (Applies c k v σ) }
+    ensures sides { (c : CheckedTerm) (k : LaterTerm) (σ : List ValueTerm) → AtMostOne (Side c k σ) }
+    ensures trials { (c : CheckedTerm) (k : LaterTerm) (v : ValueTerm) (σ : List ValueTerm) → AtMostOne (Trial c k v σ) }
     ensures handling { (c : CheckedTerm) (s : State) (i : InputTerm) → AtMostOne (Handled c s i) }
 {}
 
 /// What is derived is derived by its rule from what is derived, and the other way round: the judgements are the rules' and nothing else.
 pub fn by_the_rules()
     ensures { (c : CheckedTerm) (q : Judgement) (v : Derived q) (n h : ℕ) →
-        Derives (rule_of c) q v n h ↔ rule (work (Derives (rule_of c)) (rule_of c q)) v n h }
+        Derives (rule_of c) q v n h ↔ rule (plan_work (Derives (rule_of c)) (rule_of c q)) v n h }
 {}
 
 /// An input has exactly one outcome.

@@ -10,7 +10,9 @@ mod host;
 mod input;
 mod input_copies;
 mod item;
+mod keyword;
 mod laws;
+mod limits;
 mod memory;
 mod offer;
 mod program;
@@ -18,8 +20,10 @@ mod program_copies;
 mod purse;
 mod reads;
 mod row;
+mod scope;
 mod steps;
 mod stops;
+mod symbol;
 mod task;
 #[cfg(test)]
 mod tests;
@@ -33,25 +37,33 @@ mod widget;
 pub use basic::Basic;
 pub use checked::Checked;
 pub use env::{Env, Slot};
-pub use has::{LIST_LIMIT, TEXT_LIMIT, value_has};
+pub use has::value_has;
 pub use host::{Host, Op};
 pub use input::{Act, Entry, Input, Path, Turn};
 pub use input_copies::{copy_entry, copy_input, copy_turns};
 pub use item::Item;
+pub use keyword::Keyword;
 pub use laws::{by_the_rules, one_interface, one_outcome, one_result, one_state};
-pub use memory::{OutOfMemory, boxed};
+pub use limits::{
+    BUDGET_LIMIT, DEFAULT_BUDGET, HEIGHT_LIMIT, LINE_BYTE_LIMIT, LIST_ELEMENT_LIMIT,
+    LITERAL_LEVEL_LIMIT, PROGRAM_BYTE_LIMIT, PROGRAM_LEVEL_LIMIT, SCOPE_NAME_LIMIT,
+    SCRIPT_BYTE_LIMIT, SEAT_LIMIT, TEXT_BYTE_LIMIT, TYPE_SYMBOL_LIMIT,
+};
+pub use memory::{OutOfMemory, boxed, share, shared};
 pub use offer::{Answer, Offer, OfferKind};
 pub use program::{Def, DefBody, Kind, Param, Program};
 pub use program_copies::{copy_host, copy_program, copy_task};
 pub use purse::{Purse, Stop};
 pub use reads::Reads;
 pub use row::Row;
+pub use scope::{Scope, copy_scope};
 pub use steps::Steps;
 pub use stops::ActStop;
+pub use symbol::Symbol;
 pub use task::{Body, Task};
-pub use text::TaskText;
+pub use text::{TaskText, copy_text};
 pub use tree::{Cont, Delay, Tree};
 pub use tree_copies::copy_tree;
 pub use value::Value;
-pub use value_copies::{copy_basic, copy_slots, copy_text, copy_texts, copy_value, copy_values};
+pub use value_copies::{copy_basic, copy_slots, copy_texts, copy_value, copy_values};
 pub use widget::{Face, Shape, Sign, Widget};

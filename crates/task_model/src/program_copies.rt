@@ -7,9 +7,10 @@ use crate::host::Host;
 use crate::memory::{OutOfMemory, boxed};
 use crate::program::{Def, DefBody, Kind, Param, Program};
 use crate::row::Row;
+use crate::scope::copy_scope;
 use crate::task::{Body, Task};
-use crate::text::TaskText;
-use crate::value_copies::{copy_basic, copy_text, copy_texts};
+use crate::text::{TaskText, copy_text};
+use crate::value_copies::copy_basic;
 use std::alloc::Global;
 
 /// An equal expression.
@@ -21,11 +22,11 @@ pub fn copy_host(alloc: Global, e: &Host) -> Result<Host, OutOfMemory>
         Host::Unit => Ok(Host::Unit),
         Host::Bool(b) => Ok(Host::Bool(*b)),
         Host::Int(i) => Ok(Host::Int(*i)),
-        Host::Text(text) => Ok(Host::Text(copy_text(alloc, text)?)),
-        Host::Name(name) => Ok(Host::Name(copy_text(alloc, name)?)),
-        Host::Read(name) => Ok(Host::Read(copy_text(alloc, name)?)),
+        Host::Text(text) => Ok(Host::Text(copy_text(text)?)),
+        Host::Name(name) => Ok(Host::Name(copy_text(name)?)),
+        Host::Read(name) => Ok(Host::Read(copy_text(name)?)),
         Host::Call { name, args } => {
-            let name = copy_text(alloc, name)?;
+            let name = copy_text(name)?;
             let args = copy_hosts(alloc, args.as_slice())?;
             Ok(Host::Call { name, args })
         }
@@ -38,7 +39,7 @@ pub fn copy_host(alloc: Global, e: &Host) -> Result<Host, OutOfMemory>
             let items = copy_hosts(alloc, items.as_slice())?;
             Ok(Host::List(items))
         }
-        Host::Nil(b) => Ok(Host::Nil(copy_basic(alloc, b)?)),
+        Host::Nil(b) => Ok(Host::Nil(copy_basic(b)?)),
         Host::Neg(a) => Ok(Host::Neg(copy_part(alloc, a)?)),
         Host::Not(a) => Ok(Host::Not(copy_part(alloc, a)?)),
         Host::Fst(a) => Ok(Host::Fst(copy_part(alloc, a)?)),
@@ -54,7 +55,7 @@ pub fn copy_host(alloc: Global, e: &Host) -> Result<Host, OutOfMemory>
             })
         }
         Host::Let { name, bound, rest } => {
-            let name = copy_text(alloc, name)?;
+            let name = copy_text(name)?;
             let bound = copy_part(alloc, bound)?;
             let rest = copy_part(alloc, rest)?;
             Ok(Host::Let { name, bound, rest })
@@ -74,8 +75,8 @@ pub fn copy_host(alloc: Global, e: &Host) -> Result<Host, OutOfMemory>
         } => {
             let list = copy_part(alloc, list)?;
             let empty = copy_part(alloc, empty)?;
-            let head = copy_text(alloc, head)?;
-            let tail = copy_text(alloc, tail)?;
+            let head = copy_text(head)?;
+            let tail = copy_text(tail)?;
             let more = copy_part(alloc, more)?;
             Ok(Host::Case {
                 list,
@@ -118,11 +119,11 @@ pub fn copy_task(alloc: Global, t: &Task) -> Result<Task, OutOfMemory>
 {
     match t {
         Task::Edit(e) => Ok(Task::Edit(copy_host(alloc, e)?)),
-        Task::Enter(b) => Ok(Task::Enter(copy_basic(alloc, b)?)),
-        Task::Share(name) => Ok(Task::Share(copy_text(alloc, name)?)),
-        Task::Fail(b) => Ok(Task::Fail(copy_basic(alloc, b)?)),
+        Task::Enter(b) => Ok(Task::Enter(copy_basic(b)?)),
+        Task::Share(name) => Ok(Task::Share(copy_text(name)?)),
+        Task::Fail(b) => Ok(Task::Fail(copy_basic(b)?)),
         Task::Call { name, args } => {
-            let name = copy_text(alloc, name)?;
+            let name = copy_text(name)?;
             let args = copy_hosts(alloc, args.as_slice())?;
             Ok(Task::Call { name, args })
         }
@@ -165,7 +166,7 @@ pub fn copy_task(alloc: Global, t: &Task) -> Result<Task, OutOfMemory>
             tail,
             more,
         } => {
-            let (head, tail) = copy_names(alloc, head, tail)?;
+            let (head, tail) = copy_names(head, tail)?;
             let list = copy_host(alloc, list)?;
             let empty = copy_branch(alloc, empty)?;
             let more = copy_branch(alloc, more)?;
@@ -200,7 +201,7 @@ fn copy_binding(
     ensures bound { IfOk result (λ copies. host_term copies.1 ≡ host_term bound.now) }
     ensures rest { IfOk result (λ copies. task_term copies.2.value ≡ task_term rest.now) }
 {
-    let name = copy_text(alloc, name)?;
+    let name = copy_text(name)?;
     let bound = copy_host(alloc, bound)?;
     let rest = copy_branch(alloc, rest)?;
     Ok((name, bound, rest))
@@ -215,23 +216,19 @@ fn copy_branch(alloc: Global, t: &Task) -> Result<Box<Task>, OutOfMemory>
     boxed(alloc, copy)
 }
 
-fn copy_names(
-    alloc: Global,
-    head: &TaskText,
-    tail: &TaskText,
-) -> Result<(TaskText, TaskText), OutOfMemory>
+fn copy_names(head: &TaskText, tail: &TaskText) -> Result<(TaskText, TaskText), OutOfMemory>
     ensures { IfOk result (λ copies. (copies.0 ≡ head.now) × (copies.1 ≡ tail.now)) }
 {
-    let head = copy_text(alloc, head)?;
-    let tail = copy_text(alloc, tail)?;
+    let head = copy_text(head)?;
+    let tail = copy_text(tail)?;
     Ok((head, tail))
 }
 
-fn copy_binder(alloc: Global, binder: &Option<TaskText>) -> Result<Option<TaskText>, OutOfMemory>
+fn copy_binder(binder: &Option<TaskText>) -> Result<Option<TaskText>, OutOfMemory>
     ensures { IfOk result (λ copy. copy ≡ binder.now) }
 {
     match binder {
-        Some(name) => Ok(Some(copy_text(alloc, name)?)),
+        Some(name) => Ok(Some(copy_text(name)?)),
         None => Ok(None),
     }
 }
@@ -240,27 +237,27 @@ fn copy_body(alloc: Global, body: &Body) -> Result<Body, OutOfMemory>
     ensures { IfOk result (λ copy. body_term copy ≡ body_term body.now) }
 {
     Ok(Body {
-        scope: copy_texts(alloc, body.scope.as_slice())?,
-        binder: copy_binder(alloc, &body.binder)?,
+        scope: copy_scope(&body.scope)?,
+        binder: copy_binder(&body.binder)?,
         task: copy_task(alloc, &body.task)?,
     })
 }
 
-fn copy_param(alloc: Global, param: &Param) -> Result<Param, OutOfMemory>
+fn copy_param(param: &Param) -> Result<Param, OutOfMemory>
     ensures { IfOk result (λ copy. param_term copy ≡ param_term param.now) }
 {
     Ok(Param {
-        name: copy_text(alloc, &param.name)?,
-        kind: copy_kind(alloc, &param.kind)?,
+        name: copy_text(&param.name)?,
+        kind: copy_kind(&param.kind)?,
     })
 }
 
-fn copy_kind(alloc: Global, kind: &Kind) -> Result<Kind, OutOfMemory>
+fn copy_kind(kind: &Kind) -> Result<Kind, OutOfMemory>
     ensures { IfOk result (λ copy. kind_term copy ≡ kind_term kind.now) }
 {
     match kind {
-        Kind::Plain(b) => Ok(Kind::Plain(copy_basic(alloc, b)?)),
-        Kind::Ref(b) => Ok(Kind::Ref(copy_basic(alloc, b)?)),
+        Kind::Plain(b) => Ok(Kind::Plain(copy_basic(b)?)),
+        Kind::Ref(b) => Ok(Kind::Ref(copy_basic(b)?)),
     }
 }
 
@@ -270,7 +267,7 @@ fn copy_params(alloc: Global, params: &[Param]) -> Result<Row<Param>, OutOfMemor
     let mut copies = Row::new(alloc);
     copies.reserve(params.len())?;
     for param in params {
-        let copy = copy_param(alloc, param)?;
+        let copy = copy_param(param)?;
         copies.push(copy)?;
     }
     Ok(copies)
@@ -289,9 +286,9 @@ fn copy_def(alloc: Global, def: &Def) -> Result<Def, OutOfMemory>
     ensures { IfOk result (λ copy. def_term copy ≡ def_term def.now) }
 {
     Ok(Def {
-        name: copy_text(alloc, &def.name)?,
+        name: copy_text(&def.name)?,
         params: copy_params(alloc, def.params.as_slice())?,
-        result: copy_basic(alloc, &def.result)?,
+        result: copy_basic(&def.result)?,
         what: copy_def_body(alloc, &def.what)?,
     })
 }

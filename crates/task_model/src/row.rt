@@ -1,4 +1,6 @@
 ghost use Rattle.std.specs.Prelude.{◌≡◌, [], ◌∷◌, ◌++◌, ◌+◌, ◌-◌, ◌<◌, ◌≤◌, ℕ, length, take, IsOk, OnOk, OnErr};
+ghost use Rattle.std.specs.Borrow.{sem};
+ghost use Rattle.task_model.specs.Loans.{LendsItems};
 
 use crate::OutOfMemory;
 use std::alloc::Global;
@@ -35,10 +37,26 @@ impl<T> Row<T> {
         }
     }
 
+    /// The items of a vector, in its memory.
+    pub fn of_vec(items: Vec<T>) -> Row<T>
+        ensures list { result.list ≡ items.items }
+        ensures spare { result.spare ≡ 0 }
+    {
+        Row { items, spare: 0 }
+    }
+
     pub fn as_slice(&self) -> &[T]
         ensures { result.now ≡ self.now.list }
     {
         self.items.as_slice()
+    }
+
+    /// The items, to be changed in place.
+    pub fn as_mut_slice(&mut self) -> &mut [T]
+        ensures* writes_back { sem 𝓛 (LendsItems T.row self.entry result) }
+        ensures value { result.now ≡ self.old.list }
+    {
+        self.items.as_mut_slice()
     }
 
     pub fn reserve(&mut self, more: usize) -> Result<(), OutOfMemory>
@@ -49,13 +67,9 @@ impl<T> Row<T> {
         if more <= self.spare {
             return Ok(());
         }
-        match self.items.reserve(more) {
-            Ok(()) => {
-                self.spare = more;
-                Ok(())
-            }
-            Err(_) => Err(OutOfMemory),
-        }
+        self.items.reserve(more)?;
+        self.spare = more;
+        Ok(())
     }
 }
 
@@ -72,15 +86,11 @@ impl<T: Drop> Row<T> {
         ensures spare { OnOk result (self.new.spare ≡ self.old.spare - 1) }
         ensures err { OnErr result (self.new ≡ self.old) }
     {
-        match self.items.push(item) {
-            Ok(()) => {
-                if self.spare > 0 {
-                    self.spare -= 1;
-                }
-                Ok(())
-            }
-            Err(_) => Err(OutOfMemory),
+        self.items.push(item)?;
+        if self.spare > 0 {
+            self.spare -= 1;
         }
+        Ok(())
     }
 }
 
@@ -90,9 +100,7 @@ impl Row<u8> {
         ensures err { OnErr result (self.new.list ≡ self.old.list) }
     {
         self.spare = 0;
-        match self.items.extend_from_slice(bytes) {
-            Ok(()) => Ok(()),
-            Err(_) => Err(OutOfMemory),
-        }
+        self.items.extend_from_slice(bytes)?;
+        Ok(())
     }
 }

@@ -1,3 +1,8 @@
+ghost use Rattle.std.specs.Prelude.{◌≡◌};
+ghost use Rattle.task_model.specs.declared.stops.ActStop.TheVariants.{Memory};
+
+use crate::memory::OutOfMemory;
+
 /// Why an input wasn't taken.
 #[derive(Clone, Copy, Debug, PartialEq, Eq)]
 pub enum ActStop {
@@ -7,4 +12,12 @@ pub enum ActStop {
     Over,
     /// Memory ran out.
     Memory,
+}
+
+impl From<OutOfMemory> for ActStop {
+    ghost from_gives = { λ _ stop. stop ≡ Memory };
+
+    fn from(_: OutOfMemory) -> ActStop {
+        ActStop::Memory
+    }
 }

@@ -1,20 +1,21 @@
 //! With ample memory rows and texts hold what was put there, and copies are equal.
 
 use crate::{
-    Act, Basic, Body, Cont, Def, DefBody, Entry, Host, Input, LIST_LIMIT, OutOfMemory, Path,
-    Program, Purse, Row, Slot, Stop, TEXT_LIMIT, Task, TaskText, Tree, Turn, Value, boxed,
-    copy_basic, copy_entry, copy_program, copy_text, copy_tree, copy_value, value_has,
+    Act, Basic, Body, Cont, Def, DefBody, Entry, HEIGHT_LIMIT, Host, Input, LIST_ELEMENT_LIMIT,
+    OutOfMemory, Path, Program, Purse, Row, Scope, Slot, Stop, TEXT_BYTE_LIMIT, Task, TaskText,
+    Tree, Turn, Value, boxed, copy_basic, copy_entry, copy_program, copy_scope, copy_text,
+    copy_tree, copy_value, shared, value_has,
 };
-use std::alloc::{AllocError, Global};
+use std::alloc::Global;
 use std::process::Abort;
 use std::test::Fail;
 
-fn text_of(alloc: Global, length: usize) -> Result<Value, AllocError> {
+fn text_of(alloc: Global, length: usize) -> Result<Value, OutOfMemory> {
     let mut text = String::new(alloc);
     for _ in 0..length {
         text.push('a')?;
     }
-    Ok(Value::Text(TaskText::of_string(text)))
+    Ok(Value::Text(TaskText::of_string(text)?))
 }
 
 fn bools_and(alloc: Global, length: usize, last: Value) -> Result<Value, OutOfMemory> {
@@ -23,11 +24,11 @@ fn bools_and(alloc: Global, length: usize, last: Value) -> Result<Value, OutOfMe
         items.push(Value::Bool(true))?;
     }
     items.push(last)?;
-    Ok(Value::List(items))
+    Ok(Value::List(shared(alloc, items)?))
 }
 
 fn pair_of(alloc: Global, first: Value, second: Value) -> Result<Value, OutOfMemory> {
-    Ok(Value::Pair(boxed(alloc, first)?, boxed(alloc, second)?))
+    Ok(Value::Pair(shared(alloc, first)?, shared(alloc, second)?))
 }
 
 // Whether the value has the type, and a copy of the value a copy of the type.
@@ -38,8 +39,8 @@ fn assert_has(
     want: bool,
 ) -> Result<(), OutOfMemory> {
     assert_eq!(rt; value_has(v, b), want);
-    let v = copy_value(rt.alloc(), v)?;
-    let b = copy_basic(rt.alloc(), b)?;
+    let v = copy_value(v)?;
+    let b = copy_basic(b)?;
     assert_eq!(rt; value_has(&v, &b), want);
     Ok(())
 }
@@ -47,10 +48,14 @@ fn assert_has(
 #[test]
 fn texts_and_lists_have_limits(rt: HostRuntime) -> Result<(), Fail> {
     for (beyond, want) in [(0, true), (1, false)] {
-        let text = text_of(rt.alloc(), TEXT_LIMIT + beyond)?;
+        let text = text_of(rt.alloc(), TEXT_BYTE_LIMIT + beyond)?;
         assert_has(&rt, &text, &Basic::Text, want)?;
-        let bools = Basic::List(boxed(rt.alloc(), Basic::Bool)?);
-        let list = bools_and(rt.alloc(), LIST_LIMIT - 1 + beyond, Value::Bool(false))?;
+        let bools = Basic::List(shared(rt.alloc(), Basic::Bool)?);
+        let list = bools_and(
+            rt.alloc(),
+            LIST_ELEMENT_LIMIT - 1 + beyond,
+            Value::Bool(false),
+        )?;
         assert_has(&rt, &list, &bools, want)?;
     }
     Ok(())
@@ -59,9 +64,9 @@ fn texts_and_lists_have_limits(rt: HostRuntime) -> Result<(), Fail> {
 #[test]
 fn parts_have_their_types(rt: HostRuntime) -> Result<(), Fail> {
     let alloc = rt.alloc();
-    let bools = Basic::List(boxed(alloc, Basic::Bool)?);
+    let bools = Basic::List(shared(alloc, Basic::Bool)?);
     assert_has(&rt, &bools_and(alloc, 1, Value::Unit)?, &bools, false)?;
-    let both = Basic::Pair(boxed(alloc, Basic::Int)?, boxed(alloc, Basic::Bool)?);
+    let both = Basic::Pair(shared(alloc, Basic::Int)?, shared(alloc, Basic::Bool)?);
     let pair = pair_of(alloc, Value::Int(1), Value::Bool(true))?;
     assert_has(&rt, &pair, &both, true)?;
     let turned = pair_of(alloc, Value::Bool(true), Value::Int(1))?;
@@ -79,11 +84,15 @@ fn rows_and_texts(rt: HostRuntime) -> Result<(), Fail> {
     row.push(5)?;
     row.truncate(4);
     assert_eq!(rt; row.as_slice(), [1, 2, 3, 4].as_slice());
+    row.as_mut_slice().reverse();
+    assert_eq!(rt; row.as_slice(), [4, 3, 2, 1].as_slice());
+    let row = Row::of_vec(vec![in alloc; 7, 8]?);
+    assert_eq!(rt; row.as_slice(), [7, 8].as_slice());
     let text = TaskText::of(alloc, "tea")?;
     for (other, same) in [("tea", true), ("tee", false), ("te", false), ("", false)] {
         assert_eq!(rt; text.is(&TaskText::of(alloc, other)?), same, "{other}");
     }
-    assert_eq!(rt; copy_text(alloc, &text)?.as_str(), "tea");
+    assert_eq!(rt; copy_text(&text)?.as_str(), "tea");
     Ok(())
 }
 
@@ -118,7 +127,7 @@ fn a_copy_of_a_program(rt: HostRuntime) -> Result<(), Fail> {
     })?;
     let mut bodies = Row::new(alloc);
     bodies.push(Body {
-        scope: Row::new(alloc),
+        scope: Scope::empty(alloc)?,
         binder: Some(TaskText::of(alloc, "x")?),
         task: Task::Edit(Host::Int(2)),
     })?;
@@ -155,6 +164,25 @@ fn a_copy_of_an_entry(rt: HostRuntime) -> Result<(), Fail> {
 }
 
 #[test]
+fn scopes(rt: HostRuntime) -> Result<(), Fail> {
+    let alloc = rt.alloc();
+    let mut parameters = Row::new(alloc);
+    parameters.push(TaskText::of(alloc, "a")?)?;
+    let outer = Scope::of(alloc, parameters)?;
+    let inner = outer.inside(alloc, TaskText::of(alloc, "b")?)?;
+    let innermost = copy_scope(&inner)?.inside(alloc, TaskText::of(alloc, "a")?)?;
+    for (scope, want) in [(&outer, "a "), (&inner, "a b "), (&innermost, "a b a ")] {
+        let mut text = String::new(alloc);
+        for name in scope.names(alloc)?.as_slice() {
+            text.push_str(name.as_str())?;
+            text.push(' ')?;
+        }
+        assert_eq!(rt; text.as_str(), want);
+    }
+    Ok(())
+}
+
+#[test]
 fn a_purse(rt: HostRuntime) {
     let mut purse = Purse::new(2);
     for units in [1, 0] {
@@ -162,7 +190,7 @@ fn a_purse(rt: HostRuntime) {
         assert_eq!(rt; purse.units_left(), units);
     }
     assert!(rt; matches!(purse.spend(), Err(Stop::Over)));
-    for _ in 0..1000 {
+    for _ in 0..HEIGHT_LIMIT {
         assert!(rt; purse.enter().is_ok());
     }
     assert!(rt; matches!(purse.enter(), Err(Stop::Over)));

@@ -33,11 +33,11 @@ pub fn copy_tree(alloc: Global, t: &Tree) -> Result<Tree, OutOfMemory>
 {
     match t {
         Tree::Edit(b, v) => {
-            let b = copy_basic(alloc, b)?;
-            Ok(Tree::Edit(b, copy_value(alloc, v)?))
+            let b = copy_basic(b)?;
+            Ok(Tree::Edit(b, copy_value(v)?))
         }
-        Tree::Enter(b) => Ok(Tree::Enter(copy_basic(alloc, b)?)),
-        Tree::Share(b, place) => Ok(Tree::Share(copy_basic(alloc, b)?, *place)),
+        Tree::Enter(b) => Ok(Tree::Enter(copy_basic(b)?)),
+        Tree::Share(b, place) => Ok(Tree::Share(copy_basic(b)?, *place)),
         Tree::Then(left, k) => {
             let left = copy_part(alloc, left)?;
             Ok(Tree::Then(left, copy_cont(alloc, k)?))

@@ -1,13 +1,14 @@
 use crate::row::Row;
 use crate::text::TaskText;
+use std::sync::Arc;
 
-/// A value that a task gives or that a person enters.
+/// A value that a task gives or that a person enters. Its copies share their parts.
 #[derive(Drop)]
 pub enum Value {
     Unit,
     Bool(bool),
     Int(i64),
     Text(TaskText),
-    Pair(Box<Value>, Box<Value>),
-    List(Row<Value>),
+    Pair(Arc<Value>, Arc<Value>),
+    List(Arc<Row<Value>>),
 }

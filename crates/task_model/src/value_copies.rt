@@ -5,14 +5,14 @@ ghost use Rattle.task_model.specs.Env.{slot_term};
 
 use crate::basic::Basic;
 use crate::env::Slot;
-use crate::memory::{OutOfMemory, boxed};
+use crate::memory::{OutOfMemory, share};
 use crate::row::Row;
-use crate::text::TaskText;
+use crate::text::{TaskText, copy_text};
 use crate::value::Value;
 use std::alloc::Global;
 
-/// An equal type.
-pub fn copy_basic(alloc: Global, b: &Basic) -> Result<Basic, OutOfMemory>
+/// An equal type, in the same memory.
+pub fn copy_basic(b: &Basic) -> Result<Basic, OutOfMemory>
     ensures { IfOk result (λ copy. basic_term copy ≡ basic_term b.now) }
 {
     match b {
@@ -21,56 +21,38 @@ pub fn copy_basic(alloc: Global, b: &Basic) -> Result<Basic, OutOfMemory>
         Basic::Int => Ok(Basic::Int),
         Basic::Text => Ok(Basic::Text),
         Basic::Pair(first, second) => {
-            let first = copy_basic(alloc, first)?;
-            let second = copy_basic(alloc, second)?;
-            Ok(Basic::Pair(boxed(alloc, first)?, boxed(alloc, second)?))
+            let first = share(first)?;
+            Ok(Basic::Pair(first, share(second)?))
         }
-        Basic::List(item) => {
-            let item = copy_basic(alloc, item)?;
-            Ok(Basic::List(boxed(alloc, item)?))
-        }
+        Basic::List(item) => Ok(Basic::List(share(item)?)),
     }
 }
 
-/// An equal text.
-pub fn copy_text(alloc: Global, text: &TaskText) -> Result<TaskText, OutOfMemory>
-    ensures { IfOk result (λ copy. copy ≡ text.now) }
-{
-    TaskText::of(alloc, text.as_str())
-}
-
-/// An equal value.
-#[cycle(copy_value)]
-pub fn copy_value(alloc: Global, v: &Value) -> Result<Value, OutOfMemory>
+/// An equal value, in the same memory.
+pub fn copy_value(v: &Value) -> Result<Value, OutOfMemory>
     ensures { IfOk result (λ copy. value_term copy ≡ value_term v.now) }
 {
     match v {
         Value::Unit => Ok(Value::Unit),
         Value::Bool(b) => Ok(Value::Bool(*b)),
         Value::Int(i) => Ok(Value::Int(*i)),
-        Value::Text(text) => Ok(Value::Text(copy_text(alloc, text)?)),
+        Value::Text(text) => Ok(Value::Text(copy_text(text)?)),
         Value::Pair(first, second) => {
-            let first = copy_value(alloc, first)?;
-            let second = copy_value(alloc, second)?;
-            Ok(Value::Pair(boxed(alloc, first)?, boxed(alloc, second)?))
+            let first = share(first)?;
+            Ok(Value::Pair(first, share(second)?))
         }
-        Value::List(items) => {
-            let items = copy_values(alloc, items.as_slice())?;
-            Ok(Value::List(items))
-        }
+        Value::List(items) => Ok(Value::List(share(items)?)),
     }
 }
 
 /// Equal values, in order.
-#[cycle(copy_value)]
 pub fn copy_values(alloc: Global, values: &[Value]) -> Result<Row<Value>, OutOfMemory>
     ensures { IfOk result (λ copies. map value_term copies.list ≡ map value_term values.now) }
 {
     let mut copies = Row::new(alloc);
     copies.reserve(values.len())?;
     for v in values {
-        let copy = copy_value(alloc, v)?;
-        copies.push(copy)?;
+        copies.push(copy_value(v)?)?;
     }
     Ok(copies)
 }
@@ -82,17 +64,16 @@ pub fn copy_texts(alloc: Global, texts: &[TaskText]) -> Result<Row<TaskText>, Ou
     let mut copies = Row::new(alloc);
     copies.reserve(texts.len())?;
     for text in texts {
-        let copy = copy_text(alloc, text)?;
-        copies.push(copy)?;
+        copies.push(copy_text(text)?)?;
     }
     Ok(copies)
 }
 
-fn copy_slot(alloc: Global, slot: &Slot) -> Result<Slot, OutOfMemory>
+fn copy_slot(slot: &Slot) -> Result<Slot, OutOfMemory>
     ensures { IfOk result (λ copy. slot_term copy ≡ slot_term slot.now) }
 {
     match slot {
-        Slot::Plain(v) => Ok(Slot::Plain(copy_value(alloc, v)?)),
+        Slot::Plain(v) => Ok(Slot::Plain(copy_value(v)?)),
         Slot::Place(place) => Ok(Slot::Place(*place)),
     }
 }
@@ -104,8 +85,7 @@ pub fn copy_slots(alloc: Global, slots: &[Slot]) -> Result<Row<Slot>, OutOfMemor
     let mut copies = Row::new(alloc);
     copies.reserve(slots.len())?;
     for slot in slots {
-        let copy = copy_slot(alloc, slot)?;
-        copies.push(copy)?;
+        copies.push(copy_slot(slot)?)?;
     }
     Ok(copies)
 }

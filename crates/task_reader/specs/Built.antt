@@ -66,5 +66,5 @@ abbrev pub PassesTo : List Bool → List ℕ → List ℕ → Type 0
 PassesTo bs places rest = (first_other bs ≡ None) × (rest ≡ drop (length bs) places)
 
 -- the place of the first of these nodes that isn't of these forms
-abbrev pub StopsAt : List Bool → List ℕ → ℕ → Type 0
-StopsAt bs places place = (n : ℕ) × (first_other bs ≡ Some n) × (place ≡ get_or places n 0)
+abbrev pub IsFirstUnbuilt : List Bool → List ℕ → ℕ → Type 0
+IsFirstUnbuilt bs places place = (n : ℕ) × (first_other bs ≡ Some n) × (place ≡ get_or places n 0)

@@ -9,7 +9,7 @@ mod tests;
 mod unbuilt;
 
 pub use print::print_program;
-pub use program_grammar::{ReadKind, ReadStop};
 pub use program_reader::Read;
 pub use read::read_program;
+pub use task_syntax::{ReadKind, ReadStop};
 pub use unbuilt::built;

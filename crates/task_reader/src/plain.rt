@@ -5,10 +5,7 @@ ghost use Rattle.task_model.specs.Task.{task_term};
 ghost use Rattle.task_model.specs.Program.{def_term, program_term};
 ghost use Rattle.task_reader.specs.Built.{IsPlainDefinition};
 
-use task_model::{Basic, Def, DefBody, Host, Program, Task};
-
-/// The most symbols of a type.
-const MOST_SYMBOLS: u8 = 64;
+use task_model::{Basic, Def, DefBody, Host, Program, TYPE_SYMBOL_LIMIT, Task};
 
 fn is_int(basic: &Basic) -> bool
     ensures { IsTrue result ↔ (basic_term basic.now ≡ int_type) }
@@ -32,7 +29,7 @@ fn has_type(task: &Task, basic: &Basic) -> bool
 }
 
 /// How many of so many symbols a type leaves, if it has no more.
-fn spare_symbols(basic: &Basic, most: u8) -> Option<u8>
+fn spare_symbols(basic: &Basic, most: usize) -> Option<usize>
     ensures { MatchOption result (most < symbols_of (basic_term basic.now)) (λ spare. most ≡ symbols_of (basic_term basic.now) + spare) }
 {
     if most == 0 {
@@ -56,7 +53,7 @@ fn is_plain_definition(def: &Def) -> bool
     def.name.as_str() == "main"
         && def.params.as_slice().is_empty()
         && has_type(task, &def.result)
-        && spare_symbols(&def.result, MOST_SYMBOLS).is_some()
+        && spare_symbols(&def.result, TYPE_SYMBOL_LIMIT).is_some()
 }
 
 /// Whether a program is plain.

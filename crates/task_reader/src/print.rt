@@ -1,8 +1,8 @@
 ghost use Rattle.std.specs.Prelude.{◌≡◌, ◌≤◌, ℕ, List, length, IfOk};
 ghost use Rattle.task_model.specs.Program.{program_term};
-ghost use Rattle.program_grammar.specs.ProgramText.{IsProgramText};
-ghost use Rattle.program_printer.specs.Printed.{program_text};
-ghost use Rattle.program_printer.specs.Written.{IsWritten};
+ghost use Rattle.task_model.specs.ProgramText.{IsProgramText};
+ghost use Rattle.task_model.specs.Printed.{program_text};
+ghost use Rattle.task_model.specs.Written.{IsWritten};
 
 use std::alloc::Global;
 use task_model::{OutOfMemory, Program, TaskText};

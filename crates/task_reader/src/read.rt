@@ -1,12 +1,12 @@
 ghost use Rattle.std.specs.Prelude.{◌≡◌, ℕ, List, IfOk, IfErr, MatchResult};
 ghost use Rattle.task_model.specs.Program.{ProgramTerm, program_term};
-ghost use Rattle.program_grammar.specs.ProgramText.{IsProgramText};
-ghost use Rattle.program_grammar.specs.Faults.{IsStop};
-ghost use Rattle.program_printer.specs.Written.{IsWritten};
+ghost use Rattle.task_model.specs.ProgramText.{IsProgramText};
+ghost use Rattle.program_grammar.specs.Faults.{IsReadStop};
+ghost use Rattle.task_model.specs.Written.{IsWritten};
 
-use program_grammar::ReadStop;
 use program_reader::Read;
 use std::alloc::Global;
+use task_syntax::ReadStop;
 
 /// The one program that these bytes are, with the byte places of its nodes, or their first fault. The printed text of a program that was
 /// read reads to it again.
@@ -15,7 +15,7 @@ pub fn read_program(alloc: Global, bytes: &[u8]) -> Result<Read, ReadStop>
     ensures only { (p : ProgramTerm) (places : List ℕ) → IsProgramText bytes.now p places
         → MatchResult result (λ r. (p ≡ program_term r.program) × (places ≡ r.places.list)) (λ e. e ≡ ReadStop.Memory) }
     ensures written { IfOk result (λ r. IsWritten (program_term r.program)) }
-    ensures fault { IfErr result (IsStop bytes.now) }
+    ensures fault { IfErr result (IsReadStop bytes.now) }
 {
     program_reader::read_program(alloc, bytes)
 }

@@ -1,11 +1,9 @@
 //! Texts and their programs, first faults, levels, and texts that are printed again.
 
 use crate::read_program;
-use program_grammar::{ReadKind, ReadStop};
-use std::alloc::Global;
 use std::process::Abort;
 use std::test::Fail;
-use task_syntax::{LexStop, Tokens, lex};
+use task_syntax::{ReadKind, ReadStop, lex};
 
 mod bodies;
 mod deep;
@@ -20,10 +18,6 @@ const FUNCTION: &str = "fun f() : int = ";
 /// The head of a task, in front of its body: seven tokens.
 const TASK: &str = "task main() : int = ";
 
-fn tokens(alloc: Global, source: &str) -> Result<Tokens, LexStop> {
-    lex(alloc, source)
-}
-
 /// Expects that the first fault of a source is this token, and why.
 fn assert_fault(
     rt: &(impl Abort + AllocGlobal),
@@ -31,7 +25,7 @@ fn assert_fault(
     token: usize,
     kind: ReadKind,
 ) -> Result<(), Fail> {
-    let tokens = tokens(rt.alloc(), source)?;
+    let tokens = lex(rt.alloc(), source)?;
     let place = match tokens.list.as_slice().get(token) {
         Some(found) => found.from,
         None => source.len() as u64,

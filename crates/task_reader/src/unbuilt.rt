@@ -3,7 +3,7 @@ ghost use Rattle.task_model.specs.Task.{task_term};
 ghost use Rattle.task_model.specs.Basic.{basic_term};
 ghost use Rattle.task_model.specs.Program.{def_term, def_body_term, param_term, program_term};
 ghost use Rattle.std.specs.Option.{option_map};
-ghost use Rattle.task_reader.specs.Built.{other_place, first_other, is_plain_type, task_forms, head_form, body_forms, definition_forms, forms, IsBuilt, PassesTo, StopsAt};
+ghost use Rattle.task_reader.specs.Built.{other_place, first_other, is_plain_type, task_forms, head_form, body_forms, definition_forms, forms, IsBuilt, PassesTo, IsFirstUnbuilt};
 
 use crate::plain::is_plain;
 use program_reader::Read;
@@ -34,7 +34,7 @@ fn is_ints(basic: &Basic) -> bool
 fn past_task<'p>(task: &Task, places: &'p [u64]) -> Result<&'p [u64], u64>
     ensures { MatchResult result
         (λ rest. PassesTo (task_forms (task_term task.now)) places.now rest.now)
-        (λ place. StopsAt (task_forms (task_term task.now)) places.now place) }
+        (λ place. IsFirstUnbuilt (task_forms (task_term task.now)) places.now place) }
 {
     match task {
         Task::Edit(Host::Int(_)) => Ok(next(next(places).1).1),
@@ -54,7 +54,7 @@ fn is_head(def: &Def) -> bool
 fn past_definition<'p>(def: &Def, places: &'p [u64]) -> Result<&'p [u64], u64>
     ensures { MatchResult result
         (λ rest. PassesTo (definition_forms (def_term def.now)) places.now rest.now)
-        (λ place. StopsAt (definition_forms (def_term def.now)) places.now place) }
+        (λ place. IsFirstUnbuilt (definition_forms (def_term def.now)) places.now place) }
 {
     match &def.what {
         DefBody::Task(task) if is_head(def) => past_task(task, next(places).1),

@@ -10,7 +10,7 @@ use Rattle.std.proofs.lemmas.Bool.Decides.{nat_tests}
 use Rattle.std.proofs.lemmas.Str.{encode_ascii, encode_same, cons_from_encodes, encodes-append}
 use Rattle.task_model.specs.Text.{Text}
 use Rattle.task_model.specs.Token.{AreDigits, IsDigit, number_from}
-use Rattle.task_syntax.specs.Runs.{Begins, IsRun}
+use Rattle.task_syntax.specs.Runs.{BeginsWithCharacter, IsRun}
 
 -- ---- one character
 pub same_head : (a b : ℕ) (s t : Text) → a ∷ s ≡ b ∷ t → a ≡ b
@@ -19,30 +19,32 @@ same_head a b s t e = cc
 pub same_tail : (a b : ℕ) (s t : Text) → a ∷ s ≡ b ∷ t → s ≡ t
 same_tail a b s t e = cc
 
-pub no_char : (c : ℕ) (rest : Text) → Begins [] c rest → ⊥
+pub no_char : (c : ℕ) (rest : Text) → BeginsWithCharacter [] c rest → ⊥
 no_char c rest e = let k = cons_from_encodes [] rest c e in let no = k.1 in absurd cc
 
-pub begins_same : (t : Text) (c d : ℕ) (r s : Text) → Begins t c r → Begins t d s → (c ≡ d) × (r ≡ s)
+pub begins_same : (t : Text) (c d : ℕ) (r s : Text) → BeginsWithCharacter t c r → BeginsWithCharacter t d s → (c ≡ d) × (r ≡ s)
 begins_same t c d r s e f = encode_same c d r s (sym e ∙ f)
 
-pub low_begins : (b : ℕ) (bs : Text) → b < 128 → Begins (b ∷ bs) b bs
+pub low_begins : (b : ℕ) (bs : Text) → b < 128 → BeginsWithCharacter (b ∷ bs) b bs
 low_begins b bs lt = ap (λ x. x ++ bs) (sym (encode_ascii b lt))
 
-pub begins_low : (t : Text) (c : ℕ) (r : Text) → c < 128 → Begins t c r → t ≡ c ∷ r
+pub begins_low : (t : Text) (c : ℕ) (r : Text) → c < 128 → BeginsWithCharacter t c r → t ≡ c ∷ r
 begins_low t c r lt e = e ∙ ap (λ x. x ++ r) (encode_ascii c lt)
 
 -- what begins with an ASCII byte begins with that character
-pub begins_byte : (b : ℕ) (bs : Text) (c : ℕ) (r : Text) → b < 128 → Begins (b ∷ bs) c r → (c ≡ b) × (r ≡ bs)
+pub begins_byte : (b : ℕ) (bs : Text) (c : ℕ) (r : Text) → b < 128 → BeginsWithCharacter (b ∷ bs) c r → (c ≡ b) × (r ≡ bs)
 begins_byte b bs c r lt e = begins_same (b ∷ bs) c b r bs e (low_begins b bs lt)
 
-pub begins_more : (t : Text) (c : ℕ) (v back : Text) → Begins t c v → Begins (t ++ back) c (v ++ back)
+pub begins_more : (t : Text) (c : ℕ) (v back : Text) → BeginsWithCharacter t c v → BeginsWithCharacter (t ++ back) c (v ++ back)
 begins_more t c v back e = ap (λ x. x ++ back) e ∙ append_assoc (encode_utf8 c) v back
 
 -- ---- several characters
-pub encodes_prefix : (cs ds : List ℕ) (more : Text) → encode_utf8_all ds ≡ encode_utf8_all cs ++ more → (es : List ℕ) × (ds ≡ cs ++ es) × (encode_utf8_all es ≡ more)
+pub encodes_prefix : (cs ds : List ℕ) (more : Text) → encode_utf8_all ds ≡ encode_utf8_all cs ++ more → (es : List ℕ) × (ds ≡ cs ++ es)
+    × (encode_utf8_all es ≡ more)
 encodes_prefix [] ds more e = (ds, refl, e)
 encodes_prefix (c ∷ cs) ds more e =
-    let (ds', is, later) = cons_from_encodes ds (encode_utf8_all cs ++ more) c (e ∙ append_assoc (encode_utf8 c) (encode_utf8_all cs) more) in
+    let (ds', is, later) = cons_from_encodes ds (encode_utf8_all cs ++ more) c (e ∙ append_assoc (encode_utf8 c) (encode_utf8_all cs) more)
+    in
     let (es, is', e') = encodes_prefix cs ds' more later in
     (es, is ∙ ap (λ x. c ∷ x) is', e')
 
@@ -54,7 +56,7 @@ list_all-inside p (c ∷ cs) e es all = list_all-inside p cs e es (grind (arith,
 pub run_longest :
     (p : ℕ → Bool) (cs ds : List ℕ) (more back rest : Text)
     → rest ≡ more ++ back
-    → ((c : ℕ) (after : Text) → Begins rest c after → p c ≡ false)
+    → ((c : ℕ) (after : Text) → BeginsWithCharacter rest c after → p c ≡ false)
     → encode_utf8_all ds ≡ encode_utf8_all cs ++ more
     → list_all p ds ≡ true
     → more ≡ []
@@ -64,7 +66,8 @@ run_longest p cs ds more back rest is ends e all = let (es, ds_is, more_is) = en
     go [] ds_is more_is = sym more_is
     go (c ∷ es) ds_is more_is =
         let yes : p c ≡ true = list_all-inside p cs c es (subst (λ x. list_all p x ≡ true) ds_is all) in
-        let no : p c ≡ false = ends c (encode_utf8_all es ++ back) (is ∙ ap (λ x. x ++ back) (sym more_is) ∙ append_assoc (encode_utf8 c) (encode_utf8_all es) back) in
+        let no : p c ≡ false = ends c (encode_utf8_all es ++ back)
+        (is ∙ ap (λ x. x ++ back) (sym more_is) ∙ append_assoc (encode_utf8 c) (encode_utf8_all es) back) in
         absurd cc
 
 -- ---- ASCII
@@ -105,7 +108,8 @@ pub number_from-le : (t : List ℕ) (n : ℕ) → n ≤ number_from n t
 number_from-le [] n = omega arith
 number_from-le (b ∷ t) n = let more = number_from-le t (n * 10 + (b - 48)) in omega arith
 
-pub number_from-drop : (s : List ℕ) (i n : ℕ) → i < length s → number_from n (drop i s) ≡ number_from (n * 10 + (get_or s i 0 - 48)) (drop (i + 1) s)
+pub number_from-drop : (s : List ℕ) (i n : ℕ) → i < length s → number_from n (drop i s) ≡ number_from (n * 10 + (get_or s i 0 - 48))
+    (drop (i + 1) s)
 number_from-drop s i n lt = grind (arith, drop-cons s i 0 lt)
 
 -- ---- one character more of a run
@@ -114,22 +118,25 @@ RunSoFar p text rest = (cs : List ℕ) × (text ≡ encode_utf8_all cs ++ rest) 
 
 list_all-push : (p : ℕ → Bool) (cs : List ℕ) (c : ℕ) → list_all p cs ≡ true → p c ≡ true → list_all p (cs ++ c ∷ []) ≡ true
 list_all-push p [] c all here = rw here refl
-list_all-push p (d ∷ cs) c all here = let first : p d ≡ true = grind (arith, all) in rw first (list_all-push p cs c (grind (arith, all)) here)
+list_all-push p (d ∷ cs) c all here = let first : p d ≡ true = grind (arith, all) in
+    rw first (list_all-push p cs c (grind (arith, all)) here)
 
 all_scalars-push : (cs : List ℕ) (c : ℕ) → all_scalars cs ≡ true → all_scalars (c ∷ []) ≡ true → all_scalars (cs ++ c ∷ []) ≡ true
 all_scalars-push [] c all here = here
-all_scalars-push (d ∷ cs) c all here = let first : scalar d ≡ true = grind (arith, all) in rw first (all_scalars-push cs c (grind (arith, all)) here)
+all_scalars-push (d ∷ cs) c all here = let first : scalar d ≡ true = grind (arith, all) in
+    rw first (all_scalars-push cs c (grind (arith, all)) here)
 
 pub run_push :
     (p : ℕ → Bool) (text rest more : Text) (c : ℕ)
     → RunSoFar p text rest
-    → Begins rest c more
+    → BeginsWithCharacter rest c more
     → all_scalars (c ∷ []) ≡ true
     → p c ≡ true
     → RunSoFar p text more
 run_push p text rest more c (cs, split, scalars, passes) b one here = (
   cs ++ c ∷ [],
-  split ∙ ap (λ x. encode_utf8_all cs ++ x) (b ∙ ap (λ x. x ++ more) (sym (append-nil (encode_utf8 c)))) ∙ sym (append_assoc (encode_utf8_all cs) (encode_utf8_all (c ∷ [])) more) ∙ ap (λ x. x ++ more) (sym (encodes-append cs (c ∷ []))),
+  split ∙ ap (λ x. encode_utf8_all cs ++ x) (b ∙ ap (λ x. x ++ more) (sym (append-nil (encode_utf8 c))))
+      ∙ sym (append_assoc (encode_utf8_all cs) (encode_utf8_all (c ∷ [])) more) ∙ ap (λ x. x ++ more) (sym (encodes-append cs (c ∷ []))),
   all_scalars-push cs c scalars one,
   list_all-push p cs c passes here,
 )

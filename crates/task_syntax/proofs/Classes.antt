@@ -9,7 +9,7 @@ use Rattle.unicode_ident.specs.Ident.{is_xid_start}
 use Rattle.unicode_ident.proofs.IdentLemmas.{is_xid_start-ascii}
 use Rattle.task_model.specs.Text.{Text}
 use Rattle.task_model.specs.Token.{TokenKindTerm, name_token, keyword_token, number_token, text_token, symbol_token, keywords, symbols, IsBlank, Spells}
-use Rattle.task_syntax.specs.Runs.{Begins}
+use Rattle.task_syntax.specs.Runs.{BeginsWithCharacter}
 use Rattle.task_syntax.proofs.Bytes.{low_begins, begins_same, begins_more, digit-is, no_char}
 use Rattle.task_syntax.proofs.Words.{any_same}
 
@@ -24,7 +24,8 @@ abbrev is_sign : ℕ → Bool
 is_sign c = list_any (λ b. b == c) (codes "()[],:;.=!<>+-*|&")
 
 abbrev class_by : Bool → ℕ → Class
-class_by starts c = if starts then letter else if is_ascii_digit c then digit else if c == 34 then quote else if is_sign c then sign else none
+class_by starts c = if starts then letter else if is_ascii_digit c then digit else if c == 34 then quote else if is_sign c then sign
+    else none
 
 abbrev pub class : ℕ → Class
 class c = class_by (is_xid_start c) c
@@ -79,7 +80,7 @@ class-blank c (inr (inr (inr e))) = rw e (class_low 13 (omega arith))
 
 -- ---- the first character of a token
 abbrev Starts : Text → TokenKindTerm → Type 0
-Starts t kind = (c : ℕ) × (v : Text) × Begins t c v × (class c ≡ class_of kind)
+Starts t kind = (c : ℕ) × (v : Text) × BeginsWithCharacter t c v × (class c ≡ class_of kind)
 
 abbrev is_letter : Class → Bool
 is_letter letter = true
@@ -119,7 +120,8 @@ starts t keyword_token s = go t (any_same (first_is is_letter) t keywords refl s
         (c, v, low_begins c v lt, class_low c lt ∙ letter_is (low_class c) (grind (arith, e)))
 starts [] (number_token n) s = absurd (s.0 refl)
 starts (c ∷ v) (number_token n) s = (c, v, low_begins c v (omega (arith, s.1.0)), class-digit c (digit-is c s.1.0))
-starts t (text_token content) (ps, e, _) = subst (λ x. Starts x (text_token content)) (sym e) (34, _, low_begins 34 _ (omega arith), class-quote)
+starts t (text_token content) (ps, e, _) = subst (λ x. Starts x (text_token content)) (sym e)
+    (34, _, low_begins 34 _ (omega arith), class-quote)
 starts t symbol_token s = go t (any_same (first_is is_sign_class) t symbols refl s)
   where
     go : (t : Text) → first_is is_sign_class t ≡ true → Starts t symbol_token
@@ -129,7 +131,8 @@ starts t symbol_token s = go t (any_same (first_is is_sign_class) t symbols refl
         (c, v, low_begins c v lt, class_low c lt ∙ sign_is (low_class c) (grind (arith, e)))
 
 -- the first character of a text says the kind of the token in front
-pub front_class : (text t back : Text) (kind : TokenKindTerm) (c : ℕ) (r : Text) → text ≡ t ++ back → Spells t kind → Begins text c r → class c ≡ class_of kind
+pub front_class : (text t back : Text) (kind : TokenKindTerm) (c : ℕ) (r : Text) → text ≡ t ++ back → Spells t kind
+    → BeginsWithCharacter text c r → class c ≡ class_of kind
 front_class text t back kind c r e s b =
     let (d, v, b', is) = starts t kind s in
     let same = begins_same text c d r (v ++ back) b (e ∙ begins_more t d v back b') in

@@ -10,10 +10,10 @@ use Rattle.task_model.specs.Token.{TextPart, raw, hex, spelled, PartIs, PartsAre
 use Rattle.task_syntax.specs.declared.stop.LexKind.{LexKind}
 use Rattle.task_syntax.specs.declared.stop.LexKind.TheVariants.{BadChar, OpenText, BadEscape, LongText}
 use Rattle.task_syntax.specs.declared.token.TokenKind.{TokenKind}
-use Rattle.task_syntax.specs.Runs.{Begins, IsRun}
+use Rattle.task_syntax.specs.Runs.{BeginsWithCharacter, IsRun}
 use Rattle.task_syntax.specs.Fault.{IsNotRaw, IsNoEscape, IsFaultAt}
 use Rattle.task_syntax.specs.Front.{Leads}
-use Rattle.task_syntax.specs.Parts.{PartStands, PartFails}
+use Rattle.task_syntax.specs.TextParts.{PartStands, PartFails}
 use Rattle.task_syntax.proofs.Bytes.{no_char, same_head, same_tail, begins_same, begins_low}
 use Rattle.task_syntax.proofs.EscapeLemmas.{no_escape_end, no_escape_other, no_escape_digits, digits_stand, letter_stands, hex_first, hex_stands, part_stop, stand_shorter, text_push}
 use Rattle.task_syntax.proofs.Leading.{scalars_cons, text_leads}
@@ -60,7 +60,8 @@ begins_or_not text [] = inl (text, refl)
 begins_or_not [] (b ∷ t) = inr (λ rest e. cc)
 begins_or_not (a ∷ text) (b ∷ t) = go (same_or_not a b) (begins_or_not text t)
   where
-    go : (a ≡ b) ⊎ (a ≢ b) → ((rest : Text) × (text ≡ t ++ rest)) ⊎ ((rest : Text) → text ≡ t ++ rest → ⊥) → ((rest : Text) × (a ∷ text ≡ b ∷ (t ++ rest))) ⊎ ((rest : Text) → a ∷ text ≡ b ∷ (t ++ rest) → ⊥)
+    go : (a ≡ b) ⊎ (a ≢ b) → ((rest : Text) × (text ≡ t ++ rest)) ⊎ ((rest : Text) → text ≡ t ++ rest → ⊥)
+        → ((rest : Text) × (a ∷ text ≡ b ∷ (t ++ rest))) ⊎ ((rest : Text) → a ∷ text ≡ b ∷ (t ++ rest) → ⊥)
     go (inl same) (inl (rest, e)) = inl (rest, ap (λ x. x ∷ text) same ∙ ap (λ x. b ∷ x) e)
     go (inl same) (inr bad) = inr (λ rest e. bad rest (same_tail a b text (t ++ rest) e))
     go (inr other) _ = inr (λ rest e. other (same_head a b text (t ++ rest) e))
@@ -79,7 +80,8 @@ module _ (p : ℕ → Bool) where
         c ∷ front,
         back,
         record {
-          split = ap (λ x. encode_utf8 c ++ x) run.split ∙ sym (append_assoc (encode_utf8 c) (encode_utf8_all front) (encode_utf8_all back));
+          split = ap (λ x. encode_utf8 c ++ x) run.split
+              ∙ sym (append_assoc (encode_utf8 c) (encode_utf8_all front) (encode_utf8_all back));
           scalars = scalars_cons c front (grind (arith, one)) run.scalars;
           passes = rw e run.passes;
           ends = run.ends;
@@ -89,24 +91,33 @@ module _ (p : ℕ → Bool) where
       go false e _ = (
         [],
         c ∷ cs,
-        record { split = refl; scalars = refl; passes = refl; ends = λ d back b. ap p (begins_same (encode_utf8_all (c ∷ cs)) d c back (encode_utf8_all cs) b refl).0 ∙ e },
+        record {
+          split = refl;
+          scalars = refl;
+          passes = refl;
+          ends = λ d back b. ap p (begins_same (encode_utf8_all (c ∷ cs)) d c back (encode_utf8_all cs) b refl).0 ∙ e;
+        },
         one,
       )
 
 -- ---- what stands first
 pub data First (rest : Text) : Type 0 where
-  a_piece : (p : Piece) (after : Text) → rest ≡ piece_bytes p ++ after → IsRight p after → IsUtf8 after → length after < length rest → First rest
+  a_piece : (p : Piece) (after : Text) → rest ≡ piece_bytes p ++ after → IsRight p after → IsUtf8 after → length after < length rest
+      → First rest
   a_fault : (k : LexKind) (i : ℕ) → IsFaultAt rest k i → First rest
 
 pub lead_first : (rest after : Text) (kind : TokenKind) → Leads rest kind after → IsUtf8 after → First rest
-lead_first rest after kind lead utf8 = a_piece (lexeme lead.spelling lead.term) after lead.split ((lead.spells, lead.longest), lead.within) utf8 (lead_shorter rest after kind lead)
+lead_first rest after kind lead utf8 = a_piece (lexeme lead.spelling lead.term) after lead.split ((lead.spells, lead.longest), lead.within)
+    utf8 (lead_shorter rest after kind lead)
 
 pub utf8 : (cs : List ℕ) → all_scalars cs ≡ true → IsUtf8 (encode_utf8_all cs)
 utf8 cs one = (cs, (one, refl))
 
 -- ---- inside a text
 abbrev TwoDigits : List ℕ → Type 0
-TwoDigits cs = ((a b : ℕ) (t back : Text) → PartIs (hex a b) t → encode_utf8_all cs ≡ a ∷ b ∷ back → ⊥) ⊎ ((code : ℕ) × (after : Text) × (a : ℕ) × (b : ℕ) × (encode_utf8_all cs ≡ a ∷ b ∷ after) × PartIs (hex a b) (encode_utf8 code) × IsUtf8 after)
+TwoDigits cs = ((a b : ℕ) (t back : Text) → PartIs (hex a b) t → encode_utf8_all cs ≡ a ∷ b ∷ back → ⊥)
+    ⊎ ((code : ℕ) × (after : Text) × (a : ℕ) × (b : ℕ) × (encode_utf8_all cs ≡ a ∷ b ∷ after) × PartIs (hex a b) (encode_utf8 code)
+    × IsUtf8 after)
 
 digits_or_not : (cs : List ℕ) → all_scalars cs ≡ true → TwoDigits cs
 digits_or_not [] one = inl (λ a b t back is e. cc)
@@ -125,15 +136,18 @@ digits_or_not (c ∷ d ∷ cs) one = go (hex_or_not c) (hex_or_not d) (cases_lt 
         let next = hex_first (encode_utf8_all (d ∷ cs)) (encode_utf8_all cs) back d b k refl same.1 in
         (same.0, next.0)
 
-    go : IsHex c ⊎ (IsHex c → ⊥) → IsHex d ⊎ (IsHex d → ⊥) → (hex_value c * 16 + hex_value d < 128) ⊎ (128 ≤ hex_value c * 16 + hex_value d) → TwoDigits (c ∷ d ∷ cs)
+    go : IsHex c ⊎ (IsHex c → ⊥) → IsHex d ⊎ (IsHex d → ⊥) → (hex_value c * 16 + hex_value d < 128) ⊎ (128 ≤ hex_value c * 16 + hex_value d)
+        → TwoDigits (c ∷ d ∷ cs)
     go (inl h) (inl k) (inl lt) =
-        let (x, y, e, is) = hex_stands text (encode_utf8_all (d ∷ cs)) (encode_utf8_all cs) c d (hex_value c * 16 + hex_value d) (hex_value c) (hex_value d) refl refl h k refl refl lt refl in
+        let (x, y, e, is) = hex_stands text (encode_utf8_all (d ∷ cs)) (encode_utf8_all cs) c d (hex_value c * 16 + hex_value d)
+        (hex_value c) (hex_value d) refl refl h k refl refl lt refl in
         inr (hex_value c * 16 + hex_value d, encode_utf8_all cs, x, y, e, is, utf8 cs (grind (arith, one)))
     go (inr bad) _ _ = inl (λ a b t back is e. bad (subst IsHex (sym (both a b back is.0 is.1 e).0) is.0))
     go _ (inr bad) _ = inl (λ a b t back is e. bad (subst IsHex (sym (both a b back is.0 is.1 e).1) is.1))
     go _ _ (inr wide) = inl (λ a b t back is e.
         let same = both a b back is.0 is.1 e in
-        let lt : hex_value c * 16 + hex_value d < 128 = subst (λ x. hex_value x * 16 + hex_value d < 128) (sym same.0) (subst (λ x. hex_value a * 16 + hex_value x < 128) (sym same.1) is.2) in
+        let lt : hex_value c * 16 + hex_value d < 128 = subst (λ x. hex_value x * 16 + hex_value d < 128) (sym same.0)
+        (subst (λ x. hex_value a * 16 + hex_value x < 128) (sym same.1) is.2) in
         absurd (omega (arith, wide, lt)))
 
 abbrev Escape : List ℕ → Type 0
@@ -153,8 +167,15 @@ escape_or_not (d ∷ cs) one = quotes (same_or_not d 34)
     stands byte h lt = inr (byte, encode_utf8_all cs, letter_stands text d byte (encode_utf8_all cs) h lt refl, later)
 
     digits : d ≡ 120 → TwoDigits cs → Escape (d ∷ cs)
-    digits e (inl none) = inl (refl, no_escape_digits text (encode_utf8_all cs) (subst (λ x. Begins text x (encode_utf8_all cs)) e refl) none)
-    digits e (inr (code, after, a, b, f, is, more)) = inr (code, after, digits_stand text (encode_utf8_all cs) a b code after (subst (λ x. Begins text x (encode_utf8_all cs)) e refl) f is, more)
+    digits e (inl none) = inl
+        (refl, no_escape_digits text (encode_utf8_all cs) (subst (λ x. BeginsWithCharacter text x (encode_utf8_all cs)) e refl) none)
+    digits e (inr (code, after, a, b, f, is, more)) = inr (
+      code,
+      after,
+      digits_stand text (encode_utf8_all cs) a b code after
+          (subst (λ x. BeginsWithCharacter text x (encode_utf8_all cs)) e refl) f is,
+      more,
+    )
 
     by_digits : d ≢ 34 → d ≢ 92 → d ≢ 110 → d ≢ 116 → d ≢ 114 → (d ≡ 120) ⊎ (d ≢ 120) → Escape (d ∷ cs)
     by_digits n1 n2 n3 n4 n5 (inl e) = digits e (digits_or_not cs (grind (arith, one)))
@@ -234,11 +255,33 @@ abbrev pub SoFar : Text → Text → Text → Type 0
 SoFar text rest content = (ps : List TextPart) × (text ≡ 34 ∷ spelled ps ++ rest) × PartsAre ps content
 
 ended : (text rest content : Text) → rest ≡ [] → SoFar text rest content → First text
-ended text rest content e (ps, split, are) = a_fault OpenText 0 (ps, record { content = content; bytes = split ∙ ap (λ x. 34 ∷ (spelled ps ++ x)) e; are = are }, refl)
+ended text rest content e (ps, split, are) = a_fault OpenText 0 (
+  ps,
+  record {
+    content = content;
+    bytes = split ∙ ap (λ x. 34 ∷ (spelled ps ++ x)) e;
+    are = are;
+  },
+  refl,
+)
 
-closed : (text rest content back : Text) → rest ≡ 34 ∷ back → IsUtf8 back → SoFar text rest content → (65536 < length content) ⊎ (length content ≤ 65536) → First text
-closed text rest content back e more (ps, split, are) (inl long) = a_fault LongText 0 (record { parts = ps; back = back; before = record { content = content; bytes = split ∙ ap (λ x. 34 ∷ (spelled ps ++ x)) e; are = are }; long = long }, refl)
-closed text rest content back e more (ps, split, are) (inr small) = lead_first text back _ (text_leads text content back (ps, split ∙ ap (λ x. 34 ∷ (spelled ps ++ x)) e, are, small)) more
+closed : (text rest content back : Text) → rest ≡ 34 ∷ back → IsUtf8 back → SoFar text rest content → (65536 < length content)
+    ⊎ (length content ≤ 65536) → First text
+closed text rest content back e more (ps, split, are) (inl long) = a_fault LongText 0 (
+  record {
+    parts = ps;
+    back = back;
+    before = record {
+      content = content;
+      bytes = split ∙ ap (λ x. 34 ∷ (spelled ps ++ x)) e;
+      are = are;
+    };
+    long = long;
+  },
+  refl,
+)
+closed text rest content back e more (ps, split, are) (inr small) = lead_first text back _
+    (text_leads text content back (ps, split ∙ ap (λ x. 34 ∷ (spelled ps ++ x)) e, are, small)) more
 
 stopped : (text rest content : Text) (k : LexKind) → PartFails rest k → SoFar text rest content → First text
 stopped text rest content k h (ps, split, are) = let (i, fault, _) = part_stop text rest content ps k split are h in a_fault k i fault
@@ -246,12 +289,14 @@ stopped text rest content k h (ps, split, are) = let (i, fault, _) = part_stop t
 pub text_first : (n : ℕ) (text rest content : Text) → length rest ≤ n → SoFar text rest content → IsUtf8 rest → First text
 text_first zero text [] content le so_far u = ended text [] content refl so_far
 text_first zero text (b ∷ rest) content le so_far u = absurd (omega (arith, le))
-text_first (suc n) text rest content le so_far u = go (inside_text rest u) (λ new after less far more. text_first n text after new less far more)
+text_first (suc n) text rest content le so_far u = go (inside_text rest u)
+    (λ new after less far more. text_first n text after new less far more)
   where
     go : Inside rest → ((new after : Text) → length after ≤ n → SoFar text after new → IsUtf8 after → First text) → First text
     go (ends e) again = ended text rest content e so_far
     go (closes back e more) again = closed text rest content back e more so_far (cases_lt 65536 (length content))
     go (goes_on_with c after stands more) again =
         let shorter = stand_shorter rest c after stands in
-        again (content ++ encode_utf8 c) after (omega (arith, le, shorter)) (text_push text rest content after (content ++ encode_utf8 c) c so_far stands refl) more
+        again (content ++ encode_utf8 c) after (omega (arith, le, shorter))
+        (text_push text rest content after (content ++ encode_utf8 c) c so_far stands refl) more
     go (fails k h) again = stopped text rest content k h so_far

@@ -6,9 +6,9 @@ use Rattle.task_model.specs.Text.{Text}
 use Rattle.task_model.specs.Token.{TextPart, raw, letter, hex, part_spelling, spelled, PartIs, PartsAre, Escapes, quote, backslash, line_feed, tab, carriage_return, IsHex, hex_value}
 use Rattle.task_syntax.specs.declared.stop.LexKind.{LexKind}
 use Rattle.task_syntax.specs.declared.stop.LexKind.TheVariants.{BadChar, OpenText, BadEscape, LongText, WideNumber}
-use Rattle.task_syntax.specs.Runs.{Begins}
+use Rattle.task_syntax.specs.Runs.{BeginsWithCharacter}
 use Rattle.task_syntax.specs.Fault.{IsFaultAt}
-use Rattle.task_syntax.specs.Parts.{PartStands, PartFails}
+use Rattle.task_syntax.specs.TextParts.{PartStands, PartFails}
 use Rattle.task_syntax.proofs.Bytes.{same_tail, begins_byte, begins_low}
 use Rattle.task_syntax.proofs.PartLemmas.{raw_not, parts_push, spelled_push}
 
@@ -18,13 +18,14 @@ hex_low a (inl d) = omega (arith, d.1)
 hex_low a (inr (inl d)) = omega (arith, d.1)
 hex_low a (inr (inr d)) = omega (arith, d.1)
 
-pub hex_first : (text rest back : Text) (first a : ℕ) → IsHex a → Begins text first rest → text ≡ a ∷ back → (first ≡ a) × (rest ≡ back)
+pub hex_first : (text rest back : Text) (first a : ℕ) → IsHex a → BeginsWithCharacter text first rest → text ≡ a ∷ back → (first ≡ a)
+    × (rest ≡ back)
 hex_first text rest back first a h b e = begins_byte a back first rest (hex_low a h) (sym e ∙ b)
 
 pub hex_stands :
     (text rest more : Text) (a b code high low : ℕ)
-    → Begins text a rest
-    → Begins rest b more
+    → BeginsWithCharacter text a rest
+    → BeginsWithCharacter rest b more
     → IsHex a
     → IsHex b
     → high ≡ hex_value a
@@ -53,7 +54,8 @@ letter_low line_feed = omega arith
 letter_low tab = omega arith
 letter_low carriage_return = omega arith
 
-pub escape_front : (text : Text) (first : ℕ) (rest : Text) → Begins text first rest → (p : TextPart) (t back : Text) → PartIs p t → 92 ∷ text ≡ part_spelling p ++ back → EscapeFront first rest t back
+pub escape_front : (text : Text) (first : ℕ) (rest : Text) → BeginsWithCharacter text first rest → (p : TextPart) (t back : Text)
+    → PartIs p t → 92 ∷ text ≡ part_spelling p ++ back → EscapeFront first rest t back
 escape_front text first rest b (raw c) t back h e = absurd (raw_not c 92 text back t h (omega arith) e (inr (inr (inl refl))))
 escape_front text first rest b (letter c) t back (byte, h, _) e =
     let same = begins_byte c back first rest (letter_low h) (sym (same_tail 92 92 text (c ∷ back) e) ∙ b) in
@@ -65,7 +67,8 @@ escape_front text first rest b (hex x y) t back h e =
 pub no_escape_end : (text : Text) → text ≡ [] → (p : TextPart) (t back : Text) → PartIs p t → 92 ∷ text ≡ part_spelling p ++ back → ⊥
 no_escape_end text empty (raw c) t back h e = raw_not c 92 text back t h (omega arith) e (inr (inr (inl refl)))
 no_escape_end text empty (letter c) t back h e = let k : [] ≡ c ∷ back = sym empty ∙ same_tail 92 92 text (c ∷ back) e in absurd cc
-no_escape_end text empty (hex x y) t back h e = let k : [] ≡ 120 ∷ x ∷ y ∷ back = sym empty ∙ same_tail 92 92 text (120 ∷ x ∷ y ∷ back) e in absurd cc
+no_escape_end text empty (hex x y) t back h e = let k : [] ≡ 120 ∷ x ∷ y ∷ back = sym empty ∙ same_tail 92 92 text (120 ∷ x ∷ y ∷ back) e in
+    absurd cc
 
 letter_in : {c b : ℕ} → Escapes c b → (c ≡ 34) ⊎ ((c ≡ 92) ⊎ ((c ≡ 110) ⊎ ((c ≡ 116) ⊎ (c ≡ 114))))
 letter_in quote = inl refl
@@ -86,7 +89,7 @@ no_escape_letter c b h a d e f g = go (letter_in h)
 
 pub no_escape_other :
     (text : Text) (c : ℕ) (rest : Text)
-    → Begins text c rest
+    → BeginsWithCharacter text c rest
     → c ≢ 34
     → c ≢ 92
     → c ≢ 110
@@ -105,7 +108,7 @@ no_escape_other text c rest begins n1 n2 n3 n4 n5 n6 p t back is e = go (escape_
 
 pub no_escape_digits :
     (text rest : Text)
-    → Begins text 120 rest
+    → BeginsWithCharacter text 120 rest
     → ((a b : ℕ) (t back : Text) → PartIs (hex a b) t → rest ≡ a ∷ b ∷ back → ⊥)
     → (p : TextPart) (t back : Text)
     → PartIs p t
@@ -115,16 +118,24 @@ no_escape_digits text rest begins none p t back is e = go (escape_front text 120
   where
     go : EscapeFront 120 rest t back → ⊥
     go (by_letter byte h _) =
-        no_escape_letter 120 byte h (λ e. absurd (omega (arith, e))) (λ e. absurd (omega (arith, e))) (λ e. absurd (omega (arith, e))) (λ e. absurd (omega (arith, e))) (λ e. absurd (omega (arith, e)))
+        no_escape_letter 120 byte h (λ e. absurd (omega (arith, e))) (λ e. absurd (omega (arith, e))) (λ e. absurd (omega (arith, e)))
+        (λ e. absurd (omega (arith, e))) (λ e. absurd (omega (arith, e)))
     go (by_digits a b _ is e) = none a b t back is e
 
 -- two digits stand, and what they stand for
-pub digits_stand : (text rest : Text) (a b code : ℕ) (back : Text) → Begins text 120 rest → rest ≡ a ∷ b ∷ back → PartIs (hex a b) (encode_utf8 code) → PartStands (92 ∷ text) code back
-digits_stand text rest a b code back begins e is = (hex a b, ap (λ x. 92 ∷ x) (begins_low text 120 rest (omega arith) begins ∙ ap (λ x. 120 ∷ x) e), is)
+pub digits_stand : (text rest : Text) (a b code : ℕ) (back : Text) → BeginsWithCharacter text 120 rest → rest ≡ a ∷ b ∷ back
+    → PartIs (hex a b) (encode_utf8 code) → PartStands (92 ∷ text) code back
+digits_stand text rest a b code back begins e is =
+    (hex a b, ap (λ x. 92 ∷ x) (begins_low text 120 rest (omega arith) begins ∙ ap (λ x. 120 ∷ x) e), is)
 
 -- a letter stands, and what it stands for
-pub letter_stands : (text : Text) (c byte : ℕ) (rest : Text) → Escapes c byte → byte < 128 → Begins text c rest → PartStands (92 ∷ text) byte rest
-letter_stands text c byte rest h lt b = (letter c, ap (λ x. 92 ∷ x) (begins_low text c rest (letter_low h) b), (byte, h, encode_ascii byte lt))
+pub letter_stands : (text : Text) (c byte : ℕ) (rest : Text) → Escapes c byte → byte < 128 → BeginsWithCharacter text c rest
+    → PartStands (92 ∷ text) byte rest
+letter_stands text c byte rest h lt b = (
+  letter c,
+  ap (λ x. 92 ∷ x) (begins_low text c rest (letter_low h) b),
+  (byte, h, encode_ascii byte lt),
+)
 
 -- ---- faults within a text
 pub part_stop :
@@ -133,8 +144,36 @@ pub part_stop :
     → PartsAre ps content
     → PartFails rest kind
     → (inside : ℕ) × IsFaultAt text kind inside × (length rest + inside ≡ length text)
-part_stop text rest content ps BadChar e are fails = (1 + length (spelled ps), inr (ps, rest, record { content = content; bytes = e; are = are }, fails, refl), omega (arith, ap length e, length-append (spelled ps) rest))
-part_stop text rest content ps BadEscape e are fails = (1 + length (spelled ps), (ps, rest, record { content = content; bytes = e; are = are }, fails, refl), omega (arith, ap length e, length-append (spelled ps) rest))
+part_stop text rest content ps BadChar e are fails = (
+  1 + length (spelled ps),
+  inr (
+    ps,
+    rest,
+    record {
+      content = content;
+      bytes = e;
+      are = are;
+    },
+    fails,
+    refl,
+  ),
+  omega (arith, ap length e, length-append (spelled ps) rest),
+)
+part_stop text rest content ps BadEscape e are fails = (
+  1 + length (spelled ps),
+  (
+    ps,
+    rest,
+    record {
+      content = content;
+      bytes = e;
+      are = are;
+    },
+    fails,
+    refl,
+  ),
+  omega (arith, ap length e, length-append (spelled ps) rest),
+)
 part_stop text rest content ps OpenText e are fails = absurd fails
 part_stop text rest content ps LongText e are fails = absurd fails
 part_stop text rest content ps WideNumber e are fails = absurd fails
@@ -155,6 +194,7 @@ pub text_push :
     → (ps : List TextPart) × (text ≡ 34 ∷ spelled ps ++ after) × PartsAre ps new
 text_push text rest content after new c (ps, e, are) (p, f, is) g = (
   ps ++ p ∷ [],
-  e ∙ ap (λ x. 34 ∷ x) (ap (λ x. spelled ps ++ x) f ∙ sym (append_assoc (spelled ps) (part_spelling p) after) ∙ ap (λ x. x ++ after) (sym (spelled_push ps p))),
+  e ∙ ap (λ x. 34 ∷ x) (ap (λ x. spelled ps ++ x) f ∙ sym (append_assoc (spelled ps) (part_spelling p) after)
+      ∙ ap (λ x. x ++ after) (sym (spelled_push ps p))),
   subst (PartsAre (ps ++ p ∷ [])) (sym g) (parts_push ps content p (encode_utf8 c) are is),
 )

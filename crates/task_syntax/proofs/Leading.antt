@@ -7,15 +7,15 @@ use Rattle.std.proofs.Math.Utf8.{scalar}
 use Rattle.std.proofs.lemmas.Bool.Decides.{nat_tests}
 use Rattle.unicode_ident.specs.Ident.{is_xid_start}
 use Rattle.task_model.specs.Text.{Text}
-use Rattle.task_model.specs.Token.{TokenKindTerm, name_token, keyword_token, number_token, text_token, symbol_token, is_keyword, number_from, IsNumber, Spells, IsLongest, spelled}
-use Rattle.task_syntax.specs.declared.keyword.Keyword.{Keyword}
-use Rattle.task_syntax.specs.declared.symbol.Symbol.{Symbol}
+use Rattle.task_model.specs.Token.{TokenKindTerm, name_token, keyword_token, number_token, text_token, symbol_token, is_keyword, number_from, SpellsNumber, Spells, IsLongest, spelled}
+use Rattle.task_model.specs.declared.keyword.Keyword.{Keyword}
+use Rattle.task_model.specs.declared.symbol.Symbol.{Symbol}
 use Rattle.task_syntax.specs.declared.token.TokenKind.TheVariants as kinds
 use Rattle.task_syntax.specs.declared.run.Run.TheVariants.{Word, Digits}
-use Rattle.task_syntax.specs.Spelling.{keyword_spelling, symbol_spelling}
-use Rattle.task_syntax.specs.Runs.{Begins, IsRun, goes_on, is_blank}
+use Rattle.task_model.specs.Spelling.{keyword_spelling, symbol_spelling}
+use Rattle.task_syntax.specs.Runs.{BeginsWithCharacter, IsRun, goes_on, is_blank}
 use Rattle.task_syntax.specs.Front.{Leads}
-use Rattle.task_syntax.specs.Parts.{TextStands}
+use Rattle.task_syntax.specs.TextParts.{TextStands}
 use Rattle.task_syntax.specs.Fault.{BeginsNoToken, IsWide}
 use Rattle.task_syntax.proofs.Bytes.{no_char, begins_byte, all_digits, front_is}
 use Rattle.task_syntax.proofs.Words.{is_keyword-spelling, is_symbol-spelling, symbol_of, all-AllContinue}
@@ -26,7 +26,8 @@ use Rattle.task_syntax.proofs.Longest.{word_longest, digits_longest, text_longes
 pub scalars_cons : (c : ℕ) (cs : List ℕ) → all_scalars (c ∷ []) ≡ true → all_scalars cs ≡ true → all_scalars (c ∷ cs) ≡ true
 scalars_cons c cs one all = let first : scalar c ≡ true = grind (arith, one) in rw (first, all) refl
 
-module _ (text more rest : Text) (c : ℕ) (front : List ℕ) (b : Begins text c more) (one : all_scalars (c ∷ []) ≡ true) (starts : is_xid_start c ≡ true) (run : IsRun (goes_on Word) more front rest) where
+module _ (text more rest : Text) (c : ℕ) (front : List ℕ) (b : BeginsWithCharacter text c more) (one : all_scalars (c ∷ []) ≡ true)
+    (starts : is_xid_start c ≡ true) (run : IsRun (goes_on Word) more front rest) where
   word_split : text ≡ encode_utf8_all (c ∷ front) ++ rest
   word_split = b ∙ ap (λ x. encode_utf8 c ++ x) run.split ∙ sym (append_assoc (encode_utf8 c) (encode_utf8_all front) rest)
 
@@ -38,7 +39,17 @@ module _ (text more rest : Text) (c : ℕ) (front : List ℕ) (b : Begins text c
     spelling = encode_utf8_all (c ∷ front);
     term = name_token;
     split = word_split;
-    spells = (record { first = c; rest = front; scalars = scalars_cons c front one run.scalars; bytes = refl; starts = starts; continues = all-AllContinue front run.passes }, subst (λ t. is_keyword t ≡ false) word_is plain);
+    spells = (
+      record {
+        first = c;
+        rest = front;
+        scalars = scalars_cons c front one run.scalars;
+        bytes = refl;
+        starts = starts;
+        continues = all-AllContinue front run.passes;
+      },
+      subst (λ t. is_keyword t ≡ false) word_is plain,
+    );
     within = tt;
     longest = word_longest c front rest starts run.ends;
     is = refl;
@@ -64,19 +75,20 @@ module _ (text rest : Text) (front : List ℕ) (run : IsRun (goes_on Digits) tex
   digits_split : text ≡ front ++ rest
   digits_split = run.split ∙ ap (λ x. x ++ rest) (all_digits front run.passes).0
 
-  digits_some : (c : ℕ) (more : Text) → Begins text c more → is_ascii_digit c ≡ true → front ≢ []
+  digits_some : (c : ℕ) (more : Text) → BeginsWithCharacter text c more → is_ascii_digit c ≡ true → front ≢ []
   digits_some c more b given e =
       let here : is_ascii_digit c ≡ false = run.ends c more (sym (digits_split ∙ ap (λ x. x ++ rest) e) ∙ b) in
       absurd cc
 
-  module _ (c : ℕ) (more : Text) (b : Begins text c more) (given : is_ascii_digit c ≡ true) where
-    number_is : IsNumber front (number_from 0 front)
+  module _ (c : ℕ) (more : Text) (b : BeginsWithCharacter text c more) (given : is_ascii_digit c ≡ true) where
+    number_is : SpellsNumber front (number_from 0 front)
     number_is = (digits_some c more b given, (all_digits front run.passes).1, refl)
 
     number_longest : IsLongest front rest
     number_longest = digits_longest front rest (digits_some c more b given) (all_digits front run.passes).1 run.ends
 
-    pub number_leads : (n : ℕ) (i : ℤ) → i ≡ pos n → n ≡ number_from 0 (take (length text - length rest) text) → n ≤ 9223372036854775807 → Leads text (kinds.Number i) rest
+    pub number_leads : (n : ℕ) (i : ℤ) → i ≡ pos n → n ≡ number_from 0 (take (length text - length rest) text) → n ≤ 9223372036854775807
+        → Leads text (kinds.Number i) rest
     number_leads n i i_is n_is small =
         let same : n ≡ number_from 0 front = n_is ∙ ap (number_from 0) digits_are in record {
           spelling = front;
@@ -129,7 +141,7 @@ symbol_leads text rest x e most = record {
 -- ---- no token
 pub bad_char :
     (text more : Text) (c : ℕ)
-    → Begins text c more
+    → BeginsWithCharacter text c more
     → is_blank c ≡ false
     → c ≢ 35
     → is_xid_start c ≡ false
@@ -147,14 +159,26 @@ bad_char (d ∷ ds) more c b no_blank no_comment no_letter no_digit no_quote no_
       absurd cc,
   λ e. no_comment ((begins_byte d ds c more (omega (arith, e)) b).0 ∙ e),
   λ e. no_quote ((begins_byte d ds c more (omega (arith, e)) b).0 ∙ e),
-  λ t back kind e s. token t back kind e s (other (class c) (class_other c no_letter no_digit no_quote)) (front_class (d ∷ ds) t back kind c more e s b),
+  λ t back kind e s. token t back kind e s (other (class c) (class_other c no_letter no_digit no_quote))
+      (front_class (d ∷ ds) t back kind c more e s b),
 )
   where
     other : (k : Class) → (k ≡ sign) ⊎ (k ≡ none) → (k ≢ letter) × (k ≢ digit) × (k ≢ quote)
-    other k (inl e) = (λ f. let g : sign ≡ letter = sym e ∙ f in absurd cc, λ f. let g : sign ≡ digit = sym e ∙ f in absurd cc, λ f. let g : sign ≡ quote = sym e ∙ f in absurd cc)
-    other k (inr e) = (λ f. let g : none ≡ letter = sym e ∙ f in absurd cc, λ f. let g : none ≡ digit = sym e ∙ f in absurd cc, λ f. let g : none ≡ quote = sym e ∙ f in absurd cc)
+    other k (inl e) = (
+      λ f. let g : sign ≡ letter = sym e ∙ f in absurd cc,
+      λ f. let g : sign ≡ digit = sym e ∙ f in
+          absurd cc,
+      λ f. let g : sign ≡ quote = sym e ∙ f in absurd cc,
+    )
+    other k (inr e) = (
+      λ f. let g : none ≡ letter = sym e ∙ f in absurd cc,
+      λ f. let g : none ≡ digit = sym e ∙ f in
+          absurd cc,
+      λ f. let g : none ≡ quote = sym e ∙ f in absurd cc,
+    )
 
-    token : (t back : Text) (kind : TokenKindTerm) → d ∷ ds ≡ t ++ back → Spells t kind → (class c ≢ letter) × (class c ≢ digit) × (class c ≢ quote) → class c ≡ class_of kind → ⊥
+    token : (t back : Text) (kind : TokenKindTerm) → d ∷ ds ≡ t ++ back → Spells t kind → (class c ≢ letter) × (class c ≢ digit)
+        × (class c ≢ quote) → class c ≡ class_of kind → ⊥
     token t back name_token e s k is = k.0 is
     token t back keyword_token e s k is = k.0 is
     token t back (number_token n) e s k is = k.1 is

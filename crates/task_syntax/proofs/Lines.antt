@@ -8,7 +8,7 @@ use Rattle.std.proofs.lemmas.Str.{inside_one}
 use Rattle.task_model.specs.Text.{Text}
 use Rattle.task_model.specs.Token.{IsBlank, NoLf, EndsLine}
 use Rattle.task_syntax.specs.declared.run.Run.TheVariants.{Line}
-use Rattle.task_syntax.specs.Runs.{Begins, goes_on, is_blank}
+use Rattle.task_syntax.specs.Runs.{BeginsWithCharacter, goes_on, is_blank}
 use Rattle.task_syntax.proofs.Bytes.{same_head, begins_low}
 
 pub blank_is : (b : ℕ) → is_blank b ≡ true → (b < 128) × IsBlank b
@@ -24,7 +24,8 @@ NoLf-append [] u h k = k
 NoLf-append (b ∷ t) u h k = (h.0, NoLf-append t u h.1 k)
 
 NoLf-char : (c : ℕ) → c ≢ 10 → NoLf (encode_utf8 c)
-NoLf-char c other = NoLf-at (encode_utf8 c) (λ k lt e. other (inside_one c [] (encode_utf8 c) k (sym (append-nil (encode_utf8 c))) lt (omega (arith, e)) ∙ e))
+NoLf-char c other = NoLf-at (encode_utf8 c)
+    (λ k lt e. other (inside_one c [] (encode_utf8 c) k (sym (append-nil (encode_utf8 c))) lt (omega (arith, e)) ∙ e))
 
 pub no_lf : (cs : List ℕ) → list_all (goes_on Line) cs ≡ true → NoLf (encode_utf8_all cs)
 no_lf [] all = tt
@@ -34,7 +35,8 @@ no_lf (c ∷ cs) all =
     NoLf-append (encode_utf8 c) (encode_utf8_all cs) (NoLf-char c other) (no_lf cs (grind (arith, all)))
 
 -- ---- the end of a line
-pub ends_line : (after : Text) → IsUtf8 after → ((c : ℕ) (back : Text) → Begins after c back → goes_on Line c ≡ false) → EndsLine after
+pub ends_line : (after : Text) → IsUtf8 after → ((c : ℕ) (back : Text) → BeginsWithCharacter after c back → goes_on Line c ≡ false)
+    → EndsLine after
 ends_line [] utf8 ends = tt
 ends_line (b ∷ bs) ([], (_, e)) ends = absurd cc
 ends_line (b ∷ bs) (c ∷ cs, (_, e)) ends =

@@ -3,7 +3,7 @@ use Rattle.std.proofs.Common.{◌≡◌, ℕ, ◌+◌, ◌<◌, ◌≤◌, false
 use Rattle.std.specs.Prelude.{if◌then◌else◌, ◌==◌}
 use Rattle.std.proofs.lemmas.Bool.Decides.{nat_tests}
 use Rattle.task_model.specs.Text.{Text}
-use Rattle.task_model.specs.Token.{TokenKindTerm, TokenTerm, name_token, keyword_token, number_token, text_token, symbol_token, TextPart, spelled, Spells, IsWithinLimits, IsLongest, IsBlank, NoLf, EndsLine, Piece, blank, comment, lexeme, piece_bytes, bytes_of, AreRight, tokens_from, HasTokens}
+use Rattle.task_model.specs.Token.{TokenKindTerm, TokenTerm, name_token, keyword_token, number_token, text_token, symbol_token, TextPart, spelled, Spells, IsWithinTokenLimits, IsLongest, IsBlank, NoLf, EndsLine, Piece, blank, comment, lexeme, piece_bytes, bytes_of, AreRight, tokens_from, HasTokens}
 use Rattle.task_syntax.specs.declared.stop.LexKind.{LexKind}
 use Rattle.task_syntax.specs.declared.stop.LexKind.TheVariants.{BadChar, OpenText, BadEscape, LongText, WideNumber}
 use Rattle.task_syntax.specs.Fault.{AreRightBefore, BeginsNoToken, IsWide, IsTextBefore, IsNotRaw, IsNoEscape, IsFaultAt, HasFault}
@@ -24,7 +24,8 @@ blank_low : (b : ℕ) → IsBlank b → b < 128
 blank_low b h = grind (arith, nat_tests, h)
 
 blank_token : (b : ℕ) (u t v : Text) (kind : TokenKindTerm) → IsBlank b → Spells t kind → b ∷ u ≡ t ++ v → ⊥
-blank_token b u t v kind h s e = no_none kind (sym (class-blank b h) ∙ front_class (b ∷ u) t v kind b u e s (low_begins b u (blank_low b h)))
+blank_token b u t v kind h s e = no_none kind
+    (sym (class-blank b h) ∙ front_class (b ∷ u) t v kind b u e s (low_begins b u (blank_low b h)))
 
 comment_token : (u t v : Text) (kind : TokenKindTerm) → Spells t kind → 35 ∷ u ≡ t ++ v → ⊥
 comment_token u t v kind s e = no_none kind (sym class-comment ∙ front_class (35 ∷ u) t v kind 35 u e s (low_begins 35 u (omega arith)))
@@ -82,7 +83,8 @@ spells_same t k l s s' = let (c, v, b, is) = starts t k s in go k l s s' (sym is
     go (text_token c) name_token s s' e = absurd cc
     go (text_token c) keyword_token s s' e = absurd cc
     go (text_token c) (number_token m) s s' e = absurd cc
-    go (text_token c) (text_token d) s s' e = ap text_token (text_same t t [] c d (34 ∷ []) s'.0 (sym (append-nil t)) s s'.1 s'.2 (stuck_quote [])).0
+    go (text_token c) (text_token d) s s' e = ap text_token
+        (text_same t t [] c d (34 ∷ []) s'.0 (sym (append-nil t)) s s'.1 s'.2 (stuck_quote [])).0
     go (text_token c) symbol_token s s' e = absurd cc
     go symbol_token name_token s s' e = absurd cc
     go symbol_token keyword_token s s' e = absurd cc
@@ -90,7 +92,8 @@ spells_same t k l s s' = let (c, v, b, is) = starts t k s in go k l s s' (sym is
     go symbol_token (text_token d) s s' e = absurd cc
     go symbol_token symbol_token s s' e = refl
 
-text_kind : (text t u v : Text) (kind : TokenKindTerm) → text ≡ t ++ u → Spells t kind → text ≡ 34 ∷ v → (content : Text) × (kind ≡ text_token content)
+text_kind : (text t u v : Text) (kind : TokenKindTerm) → text ≡ t ++ u → Spells t kind → text ≡ 34 ∷ v → (content : Text)
+    × (kind ≡ text_token content)
 text_kind text t u v kind e s f = go kind (sym class-quote ∙ front_class text t u kind 34 v e s (f ∙ low_begins 34 v (omega arith)))
   where
     go : (kind : TokenKindTerm) → quote ≡ class_of kind → (content : Text) × (kind ≡ text_token content)
@@ -100,7 +103,8 @@ text_kind text t u v kind e s f = go kind (sym class-quote ∙ front_class text 
     go (text_token content) k = (content, refl)
     go symbol_token k = absurd cc
 
-token_same : (t u v w : Text) (k l : TokenKindTerm) → t ++ u ≡ v ++ w → Spells t k → Spells v l → IsLongest t u → IsLongest v w → (t ≡ v) × (k ≡ l) × (u ≡ w)
+token_same : (t u v w : Text) (k l : TokenKindTerm) → t ++ u ≡ v ++ w → Spells t k → Spells v l → IsLongest t u → IsLongest v w → (t ≡ v)
+    × (k ≡ l) × (u ≡ w)
 token_same t u v w k l e s s' longest longest' = go (fronts t u v w e)
   where
     found : t ≡ v → u ≡ w → (t ≡ v) × (k ≡ l) × (u ≡ w)
@@ -133,14 +137,18 @@ piece_same (lexeme t k) (lexeme s l) u v e h i =
 abbrev Ends : Text → Type 0
 Ends r = (p : Piece) (u : Text) → r ≡ piece_bytes p ++ u → IsRight p u → ⊥
 
-cut_same : (ps qs : List Piece) (r s : Text) → bytes_of ps ++ r ≡ bytes_of qs ++ s → AreRightBefore ps r → AreRightBefore qs s → Ends r → Ends s → (ps ≡ qs) × (r ≡ s)
+cut_same : (ps qs : List Piece) (r s : Text) → bytes_of ps ++ r ≡ bytes_of qs ++ s → AreRightBefore ps r → AreRightBefore qs s → Ends r
+    → Ends s → (ps ≡ qs) × (r ≡ s)
 cut_same [] [] r s e h k end end' = (refl, e)
-cut_same [] (q ∷ qs) r s e h k end end' = absurd (end q (bytes_of qs ++ s) (e ∙ append_assoc (piece_bytes q) (bytes_of qs) s) (right_head q qs s k).0)
-cut_same (p ∷ ps) [] r s e h k end end' = absurd (end' p (bytes_of ps ++ r) (sym e ∙ append_assoc (piece_bytes p) (bytes_of ps) r) (right_head p ps r h).0)
+cut_same [] (q ∷ qs) r s e h k end end' = absurd
+    (end q (bytes_of qs ++ s) (e ∙ append_assoc (piece_bytes q) (bytes_of qs) s) (right_head q qs s k).0)
+cut_same (p ∷ ps) [] r s e h k end end' = absurd
+    (end' p (bytes_of ps ++ r) (sym e ∙ append_assoc (piece_bytes p) (bytes_of ps) r) (right_head p ps r h).0)
 cut_same (p ∷ ps) (q ∷ qs) r s e h k end end' =
     let one = right_head p ps r h in
     let two = right_head q qs s k in
-    let first = piece_same p q (bytes_of ps ++ r) (bytes_of qs ++ s) (sym (append_assoc (piece_bytes p) (bytes_of ps) r) ∙ e ∙ append_assoc (piece_bytes q) (bytes_of qs) s) one.0.0 two.0.0 in
+    let first = piece_same p q (bytes_of ps ++ r) (bytes_of qs ++ s)
+    (sym (append_assoc (piece_bytes p) (bytes_of ps) r) ∙ e ∙ append_assoc (piece_bytes q) (bytes_of qs) s) one.0.0 two.0.0 in
     let more = cut_same ps qs r s first.1 one.1 two.1 end end' in
     (ap (λ x. x ∷ ps) first.0 ∙ ap (λ x. q ∷ x) more.0, more.1)
 
@@ -174,34 +182,62 @@ data Cause (rest : Text) (k : LexKind) (at : ℕ) : Type 0 where
   wide : IsWide rest → k ≡ WideNumber → at ≡ 0 → Cause rest k at
   in_text : InText rest k at → Cause rest k at
 
-bad_said : (n : ℕ) (back : Text) → IsNotRaw back → (BadChar ≡ said_kind back) × (n ≡ said_place n back) × ((after : Text) → back ≡ 34 ∷ after → ⊥)
+bad_said : (n : ℕ) (back : Text) → IsNotRaw back → (BadChar ≡ said_kind back) × (n ≡ said_place n back)
+    × ((after : Text) → back ≡ 34 ∷ after → ⊥)
 bad_said n [] bad = absurd bad
 bad_said n (b ∷ bs) bad =
     let one : (b == 34) ≡ false = grind (arith, nat_tests, bad) in
     let two : (b == 92) ≡ false = grind (arith, nat_tests, bad) in
     (rw (one, two) refl, rw one refl, λ after e. let same : b ≡ 34 = cc in absurd (grind (arith, nat_tests, bad, same)))
 
-escape_said : (n : ℕ) (back : Text) → IsNoEscape back → (BadEscape ≡ said_kind back) × (n ≡ said_place n back) × ((after : Text) → back ≡ 34 ∷ after → ⊥)
+escape_said : (n : ℕ) (back : Text) → IsNoEscape back → (BadEscape ≡ said_kind back) × (n ≡ said_place n back)
+    × ((after : Text) → back ≡ 34 ∷ after → ⊥)
 escape_said n [] bad = absurd bad
-escape_said n (b ∷ bs) bad = subst (λ x. (BadEscape ≡ said_kind (x ∷ bs)) × (n ≡ said_place n (x ∷ bs)) × ((after : Text) → x ∷ bs ≡ 34 ∷ after → ⊥)) (sym bad.0) (refl, refl, λ after e. absurd (omega (arith, same_head 92 34 bs after e)))
+escape_said n (b ∷ bs) bad = subst (λ x. (BadEscape ≡ said_kind (x ∷ bs)) × (n ≡ said_place n (x ∷ bs))
+    × ((after : Text) → x ∷ bs ≡ 34 ∷ after → ⊥)) (sym bad.0) (refl, refl, λ after e. absurd (omega (arith, same_head 92 34 bs after e)))
 
 cause : (rest : Text) (k : LexKind) (at : ℕ) → IsFaultAt rest k at → Cause rest k at
 cause rest BadChar at (inl h) = no_token h.0 refl h.1
 cause rest BadChar at (inr (parts, back, before, bad, is)) =
     let said = bad_said (1 + length (spelled parts)) back bad in
-    in_text (record { parts = parts; tail = back; before = before; stuck = stuck_bad back bad; kind_is = said.0; place_is = is ∙ said.1; long = λ after e. absurd (said.2 after e) })
+    in_text (record {
+      parts = parts;
+      tail = back;
+      before = before;
+      stuck = stuck_bad back bad;
+      kind_is = said.0;
+      place_is = is ∙ said.1;
+      long = λ after e. absurd (said.2 after e);
+    })
 cause rest BadEscape at (parts, back, before, bad, is) =
     let said = escape_said (1 + length (spelled parts)) back bad in
-    in_text (record { parts = parts; tail = back; before = before; stuck = stuck_escape back bad; kind_is = said.0; place_is = is ∙ said.1; long = λ after e. absurd (said.2 after e) })
+    in_text (record {
+      parts = parts;
+      tail = back;
+      before = before;
+      stuck = stuck_escape back bad;
+      kind_is = said.0;
+      place_is = is ∙ said.1;
+      long = λ after e. absurd (said.2 after e);
+    })
 cause rest OpenText at (parts, before, is) =
     in_text (record { parts = parts; tail = []; before = before; stuck = stuck_end; kind_is = refl; place_is = is; long = λ after e. cc })
 cause rest LongText at (h, is) =
-    in_text (record { parts = h.parts; tail = 34 ∷ h.back; before = h.before; stuck = stuck_quote h.back; kind_is = refl; place_is = is; long = λ after e. h.long })
+    in_text (record {
+      parts = h.parts;
+      tail = 34 ∷ h.back;
+      before = h.before;
+      stuck = stuck_quote h.back;
+      kind_is = refl;
+      place_is = is;
+      long = λ after e. h.long;
+    })
 cause rest WideNumber at (h, is) = wide h refl is
 
 -- a fault is no right piece
 digit_text : (rest : Text) (w : IsWide rest) (v : Text) → rest ≡ 34 ∷ v → ⊥
-digit_text rest w v e = go (sym class-quote ∙ front_class rest w.digits w.back (number_token w.number) 34 v w.bytes w.are (e ∙ low_begins 34 v (omega arith)))
+digit_text rest w v e = go (sym class-quote ∙ front_class rest w.digits w.back (number_token w.number) 34 v w.bytes w.are
+    (e ∙ low_begins 34 v (omega arith)))
   where
     go : quote ≡ digit → ⊥
     go k = absurd cc
@@ -223,8 +259,9 @@ cause_ends rest k at (in_text h) (comment t) u e right =
     absurd (omega (arith, same_head 35 34 (t ++ u) (spelled h.parts ++ h.tail) (sym e ∙ h.before.bytes)))
 cause_ends rest k at (in_text h) (lexeme t kind) u e right =
     let (content, kind_is) = text_kind rest t u (spelled h.parts ++ h.tail) kind e right.0.0 h.before.bytes in
-    let same = text_same rest t u content h.before.content h.tail h.parts e (subst (Spells t) kind_is right.0.0) h.before.bytes h.before.are h.stuck in
-    let within : length content ≤ 65536 = subst IsWithinLimits kind_is right.1 in
+    let same = text_same rest t u content h.before.content h.tail h.parts e (subst (Spells t) kind_is right.0.0) h.before.bytes h.before.are
+    h.stuck in
+    let within : length content ≤ 65536 = subst IsWithinTokenLimits kind_is right.1 in
     absurd (omega (arith, within, ap length same.0, h.long u (sym same.1)))
 
 -- two causes at one place are one
@@ -242,8 +279,11 @@ cause_same rest k l i j (wide _ a b) (wide _ c d) = (a ∙ sym c, b ∙ sym d)
 cause_same rest k l i j (in_text h) (in_text g) =
     let both : 34 ∷ (spelled h.parts ++ h.tail) ≡ 34 ∷ (spelled g.parts ++ g.tail) = sym h.before.bytes ∙ g.before.bytes in
     let inner : spelled h.parts ++ h.tail ≡ spelled g.parts ++ g.tail = cc in
-    let same = parts_same h.parts g.parts h.before.content g.before.content h.tail g.tail h.before.are g.before.are inner h.stuck g.stuck in
-    (h.kind_is ∙ ap said_kind same.2 ∙ sym g.kind_is, h.place_is ∙ ap (λ x. said_place (1 + length (spelled x)) h.tail) same.0 ∙ ap (said_place (1 + length (spelled g.parts))) same.2 ∙ sym g.place_is)
+    let same = parts_same h.parts g.parts h.before.content g.before.content h.tail g.tail h.before.are g.before.are inner h.stuck g.stuck in (
+      h.kind_is ∙ ap said_kind same.2 ∙ sym g.kind_is,
+      h.place_is ∙ ap (λ x. said_place (1 + length (spelled x)) h.tail) same.0
+          ∙ ap (said_place (1 + length (spelled g.parts))) same.2 ∙ sym g.place_is,
+    )
 cause_same rest k l i j (no_token h _ _) (wide w _ _) = absurd (no_wide rest h w)
 cause_same rest k l i j (wide w _ _) (no_token h _ _) = absurd (no_wide rest h w)
 cause_same rest k l i j (no_token h _ _) (in_text g) = absurd (no_text rest h _ g.before.bytes)
@@ -260,21 +300,24 @@ right_whole (lexeme t kind ∷ ps) h = (h.0, h.1, subst (IsLongest t) (sym (appe
 
 pub one_list : (source : Text) (ts us : List TokenTerm) → HasTokens source ts → HasTokens source us → ts ≡ us
 one_list source ts us h g =
-    let same = cut_same h.pieces g.pieces [] [] (ap (λ x. x ++ []) (h.bytes ∙ sym g.bytes)) (right_whole h.pieces h.right) (right_whole g.pieces g.right) ends_nil ends_nil in
+    let same = cut_same h.pieces g.pieces [] [] (ap (λ x. x ++ []) (h.bytes ∙ sym g.bytes)) (right_whole h.pieces h.right)
+    (right_whole g.pieces g.right) ends_nil ends_nil in
     sym h.are ∙ ap (tokens_from 0) same.0 ∙ g.are
 
 pub one_fault : (source : Text) (k l : LexKind) (p q : ℕ) → HasFault source k p → HasFault source l q → (k ≡ l) × (p ≡ q)
 one_fault source k l p q h g =
     let a = cause h.rest k h.inside h.fault in
     let b = cause g.rest l g.inside g.fault in
-    let same = cut_same h.pieces g.pieces h.rest g.rest (h.bytes ∙ sym g.bytes) h.right g.right (cause_ends h.rest k h.inside a) (cause_ends g.rest l g.inside b) in
+    let same = cut_same h.pieces g.pieces h.rest g.rest (h.bytes ∙ sym g.bytes) h.right g.right (cause_ends h.rest k h.inside a)
+    (cause_ends g.rest l g.inside b) in
     let one = cause_same g.rest k l h.inside g.inside (subst (λ x. Cause x k h.inside) same.1 a) b in
     (one.0, h.is_place ∙ ap (λ x. length (bytes_of x) + h.inside) same.0 ∙ ap (λ n. length (bytes_of g.pieces) + n) one.1 ∙ sym g.is_place)
 
 pub apart : (source : Text) (ts : List TokenTerm) (k : LexKind) (p : ℕ) → HasTokens source ts → HasFault source k p → ⊥
 apart source ts k p h g =
     let b = cause g.rest k g.inside g.fault in
-    let same = cut_same h.pieces g.pieces [] g.rest (append-nil (bytes_of h.pieces) ∙ h.bytes ∙ sym g.bytes) (right_whole h.pieces h.right) g.right ends_nil (cause_ends g.rest k g.inside b) in
+    let same = cut_same h.pieces g.pieces [] g.rest (append-nil (bytes_of h.pieces) ∙ h.bytes ∙ sym g.bytes) (right_whole h.pieces h.right)
+    g.right ends_nil (cause_ends g.rest k g.inside b) in
     empty (subst (λ x. Cause x k g.inside) (sym same.1) b)
   where
     nil : (t u : Text) → t ++ u ≡ [] → t ≡ []

@@ -32,7 +32,8 @@ escape_not c b e bad = escape_some e (sym (escape_is e) ∙ bad)
 abbrev pub Stuck : Text → Type 0
 Stuck r = (p : TextPart) (t back : Text) → PartIs p t → r ≡ part_spelling p ++ back → ⊥
 
-pub raw_not : (c b : ℕ) (bs r t : Text) → PartIs (raw c) t → b < 128 → b ∷ bs ≡ encode_utf8 c ++ r → ((b < 32) ⊎ ((b ≡ 34) ⊎ ((b ≡ 92) ⊎ (b ≡ 127)))) → ⊥
+pub raw_not : (c b : ℕ) (bs r t : Text) → PartIs (raw c) t → b < 128 → b ∷ bs ≡ encode_utf8 c ++ r
+    → ((b < 32) ⊎ ((b ≡ 34) ⊎ ((b ≡ 92) ⊎ (b ≡ 127)))) → ⊥
 raw_not c b bs r t is lt e low = let same : c ≡ b = (begins_byte b bs c r lt e).0 in go low same
   where
     go : ((b < 32) ⊎ ((b ≡ 34) ⊎ ((b ≡ 92) ⊎ (b ≡ 127)))) → c ≡ b → ⊥
@@ -41,7 +42,8 @@ raw_not c b bs r t is lt e low = let same : c ≡ b = (begins_byte b bs c r lt e
     go (inr (inr (inl h))) same = is.3 (same ∙ h)
     go (inr (inr (inr h))) same = is.4 (same ∙ h)
 
-part_same : (p q : TextPart) (t u r s : Text) → PartIs p t → PartIs q u → part_spelling p ++ r ≡ part_spelling q ++ s → (p ≡ q) × (t ≡ u) × (r ≡ s)
+part_same : (p q : TextPart) (t u r s : Text) → PartIs p t → PartIs q u → part_spelling p ++ r ≡ part_spelling q ++ s → (p ≡ q) × (t ≡ u)
+    × (r ≡ s)
 part_same (raw c) (raw d) t u r s h k e =
     let same = begins_same _ c d r s refl e in
     (ap raw same.0, h.5 ∙ ap encode_utf8 same.0 ∙ sym k.5, same.1)
@@ -63,26 +65,42 @@ part_same (hex a b) (letter c) t u r s h (x, k, u_is) e =
 part_same (hex a b) (hex c d) t u r s h k e =
     let one : a ≡ c = cc in
     let two : b ≡ d = cc in
-    let later : r ≡ s = cc in
-    (ap (λ x. hex x b) one ∙ ap (λ x. hex c x) two, h.3 ∙ ap (λ x. (hex_value x * 16 + hex_value b) ∷ []) one ∙ ap (λ x. (hex_value c * 16 + hex_value x) ∷ []) two ∙ sym k.3, later)
+    let later : r ≡ s = cc in (
+      ap (λ x. hex x b) one ∙ ap (λ x. hex c x) two,
+      h.3 ∙ ap (λ x. (hex_value x * 16 + hex_value b) ∷ []) one
+          ∙ ap (λ x. (hex_value c * 16 + hex_value x) ∷ []) two ∙ sym k.3,
+      later,
+    )
 
 -- ---- several parts
-pub parts_same : (ps qs : List TextPart) (c d r s : Text) → PartsAre ps c → PartsAre qs d → spelled ps ++ r ≡ spelled qs ++ s → Stuck r → Stuck s → (ps ≡ qs) × (c ≡ d) × (r ≡ s)
+pub parts_same : (ps qs : List TextPart) (c d r s : Text) → PartsAre ps c → PartsAre qs d → spelled ps ++ r ≡ spelled qs ++ s → Stuck r
+    → Stuck s → (ps ≡ qs) × (c ≡ d) × (r ≡ s)
 parts_same [] [] c d r s h k e stuck stuck' = (refl, h ∙ sym k, e)
-parts_same [] (q ∷ qs) c d r s h (u, rest, is, later, _) e stuck stuck' = absurd (stuck q u (spelled qs ++ s) is (e ∙ append_assoc (part_spelling q) (spelled qs) s))
-parts_same (p ∷ ps) [] c d r s (t, rest, is, later, _) k e stuck stuck' = absurd (stuck' p t (spelled ps ++ r) is (sym e ∙ append_assoc (part_spelling p) (spelled ps) r))
+parts_same [] (q ∷ qs) c d r s h (u, rest, is, later, _) e stuck stuck' = absurd
+    (stuck q u (spelled qs ++ s) is (e ∙ append_assoc (part_spelling q) (spelled qs) s))
+parts_same (p ∷ ps) [] c d r s (t, rest, is, later, _) k e stuck stuck' = absurd
+    (stuck' p t (spelled ps ++ r) is (sym e ∙ append_assoc (part_spelling p) (spelled ps) r))
 parts_same (p ∷ ps) (q ∷ qs) c d r s (t, v, is, later, c_is) (u, w, is', later', d_is) e stuck stuck' =
-    let first = part_same p q t u (spelled ps ++ r) (spelled qs ++ s) is is' (sym (append_assoc (part_spelling p) (spelled ps) r) ∙ e ∙ append_assoc (part_spelling q) (spelled qs) s) in
+    let first = part_same p q t u (spelled ps ++ r) (spelled qs ++ s) is is' (sym (append_assoc (part_spelling p) (spelled ps) r) ∙ e
+    ∙ append_assoc (part_spelling q) (spelled qs) s) in
     let more = parts_same ps qs v w r s later later' first.2 stuck stuck' in
     (ap (λ x. x ∷ ps) first.0 ∙ ap (λ x. q ∷ x) more.0, c_is ∙ ap (λ x. x ++ v) first.1 ∙ ap (λ x. u ++ x) more.1 ∙ sym d_is, more.2)
 
 pub parts_push : (ps : List TextPart) (c : Text) (p : TextPart) (t : Text) → PartsAre ps c → PartIs p t → PartsAre (ps ++ p ∷ []) (c ++ t)
 parts_push [] c p t h is = (t, [], is, refl, ap (λ x. x ++ t) h ∙ sym (append-nil t))
-parts_push (q ∷ ps) c p t (u, v, is', later, c_is) is = (u, v ++ t, is', parts_push ps v p t later is, ap (λ x. x ++ t) c_is ∙ append_assoc u v t)
+parts_push (q ∷ ps) c p t (u, v, is', later, c_is) is = (
+  u,
+  v ++ t,
+  is',
+  parts_push ps v p t later is,
+  ap (λ x. x ++ t) c_is
+      ∙ append_assoc u v t,
+)
 
 pub spelled_push : (ps : List TextPart) (p : TextPart) → spelled (ps ++ p ∷ []) ≡ spelled ps ++ part_spelling p
 spelled_push [] p = append-nil (part_spelling p)
-spelled_push (q ∷ ps) p = ap (λ x. part_spelling q ++ x) (spelled_push ps p) ∙ sym (append_assoc (part_spelling q) (spelled ps) (part_spelling p))
+spelled_push (q ∷ ps) p = ap (λ x. part_spelling q ++ x) (spelled_push ps p)
+    ∙ sym (append_assoc (part_spelling q) (spelled ps) (part_spelling p))
 
 -- ---- where no part stands
 pub stuck_end : Stuck []

@@ -13,8 +13,8 @@ use Rattle.task_model.specs.Token.{TokenTerm, is_keyword, symbols, number_from, 
 use Rattle.task_syntax.specs.declared.stop.LexKind.{LexKind}
 use Rattle.task_syntax.specs.declared.stop.LexKind.TheVariants.{BadChar, WideNumber}
 use Rattle.task_syntax.specs.declared.run.Run.TheVariants.{Line, Word, Digits}
-use Rattle.task_syntax.specs.declared.symbol.Symbol.{Symbol}
-use Rattle.task_syntax.specs.Spelling.{symbol_spelling}
+use Rattle.task_model.specs.declared.symbol.Symbol.{Symbol}
+use Rattle.task_model.specs.Spelling.{symbol_spelling}
 use Rattle.task_syntax.specs.Runs.{IsRun, goes_on, is_blank}
 use Rattle.task_syntax.specs.Fault.{AreRightBefore, HasFault}
 use Rattle.task_syntax.specs.Table.{NoneBegins, FirstBegins, symbols_with}
@@ -28,17 +28,30 @@ use Rattle.task_syntax.proofs.Deciding.{same_or_not, begins_or_not, run_exists, 
 use Rattle.task_syntax.proofs.Reached.{whole_right}
 
 -- ---- the symbol in front
-symbol_or_not : (ss : List Symbol) (text : Text) → NoneBegins text (map symbol_spelling ss) ⊎ ((s : Symbol) × (rest : Text) × FirstBegins text (map symbol_spelling ss) (symbol_spelling s) rest)
+symbol_or_not : (ss : List Symbol) (text : Text) → NoneBegins text (map symbol_spelling ss)
+    ⊎ ((s : Symbol) × (rest : Text) × FirstBegins text (map symbol_spelling ss) (symbol_spelling s) rest)
 symbol_or_not [] text = inl tt
 symbol_or_not (s ∷ ss) text = go (begins_or_not text (symbol_spelling s)) (symbol_or_not ss text)
   where
     go :
         ((rest : Text) × (text ≡ symbol_spelling s ++ rest)) ⊎ ((rest : Text) → text ≡ symbol_spelling s ++ rest → ⊥)
-        → NoneBegins text (map symbol_spelling ss) ⊎ ((t : Symbol) × (rest : Text) × FirstBegins text (map symbol_spelling ss) (symbol_spelling t) rest)
-        → NoneBegins text (map symbol_spelling (s ∷ ss)) ⊎ ((t : Symbol) × (rest : Text) × FirstBegins text (map symbol_spelling (s ∷ ss)) (symbol_spelling t) rest)
+        → NoneBegins text (map symbol_spelling ss)
+        ⊎ ((t : Symbol) × (rest : Text) × FirstBegins text (map symbol_spelling ss) (symbol_spelling t) rest)
+        → NoneBegins text (map symbol_spelling (s ∷ ss))
+        ⊎ ((t : Symbol) × (rest : Text) × FirstBegins text (map symbol_spelling (s ∷ ss)) (symbol_spelling t) rest)
     go (inl (rest, e)) _ = inr (s, rest, record { before = []; after = map symbol_spelling ss; split = refl; none = tt; begins = e })
     go (inr bad) (inl none) = inl (bad, none)
-    go (inr bad) (inr (t, rest, f)) = inr (t, rest, record { before = symbol_spelling s ∷ f.before; after = f.after; split = ap (λ x. symbol_spelling s ∷ x) f.split; none = (bad, f.none); begins = f.begins })
+    go (inr bad) (inr (t, rest, f)) = inr (
+      t,
+      rest,
+      record {
+        before = symbol_spelling s ∷ f.before;
+        after = f.after;
+        split = ap (λ x. symbol_spelling s ∷ x) f.split;
+        none = (bad, f.none);
+        begins = f.begins;
+      },
+    )
 
 utf8_after : (t rest : Text) → list_all (λ b. nat_lt b 128) t ≡ true → IsUtf8 (t ++ rest) → IsUtf8 rest
 utf8_after [] rest low u = u
@@ -57,13 +70,17 @@ word_first c cs one starts = go (run_exists (goes_on Word) cs (grind (arith, one
     alone : all_scalars (c ∷ []) ≡ true
     alone = let first : scalar c ≡ true = grind (arith, one) in rw first refl
 
-    kind : (front back : List ℕ) → IsRun (goes_on Word) (encode_utf8_all cs) front (encode_utf8_all back) → all_scalars back ≡ true → (b : Bool) → is_keyword (take (length text - length (encode_utf8_all back)) text) ≡ b → First text
+    kind : (front back : List ℕ) → IsRun (goes_on Word) (encode_utf8_all cs) front (encode_utf8_all back) → all_scalars back ≡ true
+        → (b : Bool) → is_keyword (take (length text - length (encode_utf8_all back)) text) ≡ b → First text
     kind front back run more true e =
         let (k, is) = keyword_of (take (length text - length (encode_utf8_all back)) text) e in
-        lead_first text (encode_utf8_all back) _ (keyword_leads text (encode_utf8_all cs) (encode_utf8_all back) c front refl alone starts run k is) (utf8 back more)
-    kind front back run more false e = lead_first text (encode_utf8_all back) _ (name_leads text (encode_utf8_all cs) (encode_utf8_all back) c front refl alone starts run e) (utf8 back more)
+        lead_first text (encode_utf8_all back) _
+        (keyword_leads text (encode_utf8_all cs) (encode_utf8_all back) c front refl alone starts run k is) (utf8 back more)
+    kind front back run more false e = lead_first text (encode_utf8_all back) _
+        (name_leads text (encode_utf8_all cs) (encode_utf8_all back) c front refl alone starts run e) (utf8 back more)
 
-    go : (front : List ℕ) × (back : List ℕ) × IsRun (goes_on Word) (encode_utf8_all cs) front (encode_utf8_all back) × (all_scalars back ≡ true) → First text
+    go : (front : List ℕ) × (back : List ℕ) × IsRun (goes_on Word) (encode_utf8_all cs) front (encode_utf8_all back)
+        × (all_scalars back ≡ true) → First text
     go (front, back, run, more) = kind front back run more (is_keyword (take (length text - length (encode_utf8_all back)) text)) refl
 
 number_first : (c : ℕ) (cs : List ℕ) → all_scalars (c ∷ cs) ≡ true → is_ascii_digit c ≡ true → First (encode_utf8_all (c ∷ cs))
@@ -75,32 +92,44 @@ number_first c cs one is = go (run_exists (goes_on Digits) (c ∷ cs) one)
     value : List ℕ → ℕ
     value back = number_from 0 (take (length text - length (encode_utf8_all back)) text)
 
-    kind : (front back : List ℕ) → IsRun (goes_on Digits) text front (encode_utf8_all back) → all_scalars back ≡ true → (9223372036854775807 < value back) ⊎ (value back ≤ 9223372036854775807) → First text
-    kind front back run more (inl wide) = a_fault WideNumber 0 (number_wide text (encode_utf8_all back) front run c (encode_utf8_all cs) refl is wide, refl)
-    kind front back run more (inr small) = lead_first text (encode_utf8_all back) _ (number_leads text (encode_utf8_all back) front run c (encode_utf8_all cs) refl is (value back) (pos (value back)) refl refl small) (utf8 back more)
+    kind : (front back : List ℕ) → IsRun (goes_on Digits) text front (encode_utf8_all back) → all_scalars back ≡ true
+        → (9223372036854775807 < value back) ⊎ (value back ≤ 9223372036854775807) → First text
+    kind front back run more (inl wide) = a_fault WideNumber 0
+        (number_wide text (encode_utf8_all back) front run c (encode_utf8_all cs) refl is wide, refl)
+    kind front back run more (inr small) = lead_first text (encode_utf8_all back) _
+        (number_leads text (encode_utf8_all back) front run c (encode_utf8_all cs) refl is (value back) (pos (value back)) refl refl small)
+        (utf8 back more)
 
-    go : (front : List ℕ) × (back : List ℕ) × IsRun (goes_on Digits) text front (encode_utf8_all back) × (all_scalars back ≡ true) → First text
+    go : (front : List ℕ) × (back : List ℕ) × IsRun (goes_on Digits) text front (encode_utf8_all back) × (all_scalars back ≡ true)
+        → First text
     go (front, back, run, more) = kind front back run more (cases_lt 9223372036854775807 (value back))
 
 comment_first : (cs : List ℕ) → all_scalars cs ≡ true → First (35 ∷ encode_utf8_all cs)
 comment_first cs one = go (run_exists (goes_on Line) cs one)
   where
-    go : (front : List ℕ) × (back : List ℕ) × IsRun (goes_on Line) (encode_utf8_all cs) front (encode_utf8_all back) × (all_scalars back ≡ true) → First (35 ∷ encode_utf8_all cs)
+    go : (front : List ℕ) × (back : List ℕ) × IsRun (goes_on Line) (encode_utf8_all cs) front (encode_utf8_all back)
+        × (all_scalars back ≡ true) → First (35 ∷ encode_utf8_all cs)
     go (front, back, run, more) =
-        a_piece (comment (encode_utf8_all front)) (encode_utf8_all back) (ap (λ x. 35 ∷ x) run.split) ((no_lf front run.passes, ends_line (encode_utf8_all back) (utf8 back more) run.ends), tt) (utf8 back more)
+        a_piece (comment (encode_utf8_all front)) (encode_utf8_all back) (ap (λ x. 35 ∷ x) run.split)
+        ((no_lf front run.passes, ends_line (encode_utf8_all back) (utf8 back more) run.ends), tt) (utf8 back more)
         (omega (arith, run_shorter (goes_on Line) (encode_utf8_all cs) (encode_utf8_all back) front run))
 
-symbol_first : (c : ℕ) (cs : List ℕ) → all_scalars (c ∷ cs) ≡ true → is_blank c ≡ false → c ≢ 35 → is_xid_start c ≡ false → is_ascii_digit c ≡ false → c ≢ 34 → First (encode_utf8_all (c ∷ cs))
+symbol_first : (c : ℕ) (cs : List ℕ) → all_scalars (c ∷ cs) ≡ true → is_blank c ≡ false → c ≢ 35 → is_xid_start c ≡ false
+    → is_ascii_digit c ≡ false → c ≢ 34 → First (encode_utf8_all (c ∷ cs))
 symbol_first c cs one n1 n2 n3 n4 n5 = go (symbol_or_not (symbols_with c) text)
   where
     text : Text
     text = encode_utf8_all (c ∷ cs)
 
-    go : NoneBegins text (map symbol_spelling (symbols_with c)) ⊎ ((s : Symbol) × (rest : Text) × FirstBegins text (map symbol_spelling (symbols_with c)) (symbol_spelling s) rest) → First text
-    go (inl none) = a_fault BadChar 0 (inl (bad_char text (encode_utf8_all cs) c refl n1 n2 n3 n4 n5 (no_symbol text c (encode_utf8_all cs) refl none), refl))
+    go : NoneBegins text (map symbol_spelling (symbols_with c))
+        ⊎ ((s : Symbol) × (rest : Text) × FirstBegins text (map symbol_spelling (symbols_with c)) (symbol_spelling s) rest) → First text
+    go (inl none) = a_fault BadChar 0
+        (inl (bad_char text (encode_utf8_all cs) c refl n1 n2 n3 n4 n5 (no_symbol text c (encode_utf8_all cs) refl none), refl))
     go (inr (s, rest, first)) =
         lead_first text rest _ (symbol_leads text rest s first.begins (longest_of text c (encode_utf8_all cs) s rest refl first))
-        (utf8_after (symbol_spelling s) rest (any_same (list_all (λ b. nat_lt b 128)) (symbol_spelling s) symbols refl (is_symbol-spelling s)) (subst IsUtf8 first.begins (utf8 (c ∷ cs) one)))
+        (utf8_after (symbol_spelling s) rest
+        (any_same (list_all (λ b. nat_lt b 128)) (symbol_spelling s) symbols refl (is_symbol-spelling s))
+        (subst IsUtf8 first.begins (utf8 (c ∷ cs) one)))
 
 first : (cs : List ℕ) → all_scalars cs ≡ true → (cs ≡ []) ⊎ First (encode_utf8_all cs)
 first [] one = inl refl
@@ -164,17 +193,35 @@ module _ (source : Text) (u : IsUtf8 source) where
     },
   )
 
-  from_here : (n : ℕ) (ps : List Piece) (rest : Text) → length rest ≤ n → bytes_of ps ++ rest ≡ source → AreRightBefore ps rest → IsUtf8 rest → Answer source
+  from_here : (n : ℕ) (ps : List Piece) (rest : Text) → length rest ≤ n → bytes_of ps ++ rest ≡ source → AreRightBefore ps rest
+      → IsUtf8 rest → Answer source
   from_here zero ps [] le e right more = whole ps [] e right refl
   from_here zero ps (b ∷ rest) le e right more = absurd (omega (arith, le))
-  from_here (suc n) ps rest le e right more = go (first_of_text rest more) (λ qs after less f right' more'. from_here n qs after less f right' more')
+  from_here (suc n) ps rest le e right more = go (first_of_text rest more)
+      (λ qs after less f right' more'. from_here n qs after less f right' more')
     where
-      found : First rest → ((qs : List Piece) (after : Text) → length after ≤ n → bytes_of qs ++ after ≡ source → AreRightBefore qs after → IsUtf8 after → Answer source) → Answer source
+      found : First rest → ((qs : List Piece) (after : Text) → length after ≤ n → bytes_of qs ++ after ≡ source → AreRightBefore qs after
+          → IsUtf8 after → Answer source) → Answer source
       found (a_piece p after split is more' shorter) again =
-          again (ps ++ p ∷ []) after (omega (arith, le, shorter)) (bytes_push ps p after ∙ ap (λ x. bytes_of ps ++ x) (sym split) ∙ e) (right_push ps p rest after right split is) more'
-      found (a_fault k i fault) again = inr (k, length (bytes_of ps) + i, record { utf8 = u; pieces = ps; rest = rest; bytes = e; right = right; inside = i; fault = fault; is_place = refl })
+          again (ps ++ p ∷ []) after (omega (arith, le, shorter)) (bytes_push ps p after ∙ ap (λ x. bytes_of ps ++ x) (sym split) ∙ e)
+          (right_push ps p rest after right split is) more'
+      found (a_fault k i fault) again = inr (
+        k,
+        length (bytes_of ps) + i,
+        record {
+          utf8 = u;
+          pieces = ps;
+          rest = rest;
+          bytes = e;
+          right = right;
+          inside = i;
+          fault = fault;
+          is_place = refl;
+        },
+      )
 
-      go : (rest ≡ []) ⊎ First rest → ((qs : List Piece) (after : Text) → length after ≤ n → bytes_of qs ++ after ≡ source → AreRightBefore qs after → IsUtf8 after → Answer source) → Answer source
+      go : (rest ≡ []) ⊎ First rest → ((qs : List Piece) (after : Text) → length after ≤ n → bytes_of qs ++ after ≡ source
+          → AreRightBefore qs after → IsUtf8 after → Answer source) → Answer source
       go (inl empty) again = whole ps rest e right empty
       go (inr f) again = found f again
 

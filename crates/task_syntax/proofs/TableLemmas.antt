@@ -21,7 +21,8 @@ none_of text t rest (u ∷ us) none some e = go (pointwise eqb t u) refl (λ k. 
     go true is later = none.0 rest (e ∙ ap (λ x. x ++ rest) (same_text t u (sym is)))
     go false is later = later (grind (arith, some, is))
 
-no_longer : (t u : Text) (us : List Text) → list_all (λ v. nat_le (length v) (length t)) us ≡ true → list_any (pointwise eqb u) us ≡ true → length u ≤ length t
+no_longer : (t u : Text) (us : List Text) → list_all (λ v. nat_le (length v) (length t)) us ≡ true → list_any (pointwise eqb u) us ≡ true
+    → length u ≤ length t
 no_longer t u [] all some = cc
 no_longer t u (v ∷ us) all some = go (pointwise eqb u v) refl (no_longer t u us (grind (arith, all)))
   where
@@ -44,27 +45,35 @@ first_longest text first u rest [] after sorted some none e = go (pointwise eqb 
     go : (b : Bool) → pointwise eqb u first ≡ b → length u ≤ length first
     go true is = let same : u ≡ first = same_text u first (sym is) in rw same (omega arith)
     go false is = no_longer first u after (grind (arith, sorted)) (grind (arith, some, is))
-first_longest text first u rest (t ∷ before) after sorted some none e = go (pointwise eqb u t) refl (λ k. first_longest text first u rest before after (grind (arith, sorted)) k none.1 e)
+first_longest text first u rest (t ∷ before) after sorted some none e = go (pointwise eqb u t) refl
+    (λ k. first_longest text first u rest before after (grind (arith, sorted)) k none.1 e)
   where
-    go : (b : Bool) → pointwise eqb u t ≡ b → (list_any (pointwise eqb u) (before ++ first ∷ after) ≡ true → length u ≤ length first) → length u ≤ length first
+    go : (b : Bool) → pointwise eqb u t ≡ b → (list_any (pointwise eqb u) (before ++ first ∷ after) ≡ true → length u ≤ length first)
+        → length u ≤ length first
     go true is later = absurd (none.0 rest (e ∙ ap (λ x. x ++ rest) (same_text u t (sym is))))
     go false is later = later (grind (arith, some, is))
 
 -- ---- the loop
 module _ {A : Type 0} (f : A → Text) (xs : List A) (i : ℕ) (d : A) where
   pub split_here : i < length xs → map f xs ≡ map f (take i xs) ++ f (get_or xs i d) ∷ map f (drop (suc i) xs)
-  split_here lt = ap (map f) (sym (take-append-drop i xs) ∙ ap (λ x. take i xs ++ x) (drop-cons xs i d lt)) ∙ map-append f (take i xs) (get_or xs i d ∷ drop (suc i) xs)
+  split_here lt = ap (map f) (sym (take-append-drop i xs) ∙ ap (λ x. take i xs ++ x) (drop-cons xs i d lt))
+      ∙ map-append f (take i xs) (get_or xs i d ∷ drop (suc i) xs)
 
-none_push : (text : Text) (ts : List Text) (t : Text) → NoneBegins text ts → ((rest : Text) → text ≡ t ++ rest → ⊥) → NoneBegins text (ts ++ t ∷ [])
+none_push : (text : Text) (ts : List Text) (t : Text) → NoneBegins text ts → ((rest : Text) → text ≡ t ++ rest → ⊥)
+    → NoneBegins text (ts ++ t ∷ [])
 none_push text [] t none here = (here, tt)
 none_push text (u ∷ ts) t none here = (none.0, none_push text ts t none.1 here)
 
-pub none_more : {A : Type 0} (f : A → Text) (xs : List A) (i : ℕ) (d : A) (text : Text) → i < length xs → NoneBegins text (map f (take i xs)) → ((rest : Text) → text ≡ f (get_or xs i d) ++ rest → ⊥) → NoneBegins text (map f (take (i + 1) xs))
+pub none_more : {A : Type 0} (f : A → Text) (xs : List A) (i : ℕ) (d : A) (text : Text) → i < length xs
+    → NoneBegins text (map f (take i xs)) → ((rest : Text) → text ≡ f (get_or xs i d) ++ rest → ⊥)
+    → NoneBegins text (map f (take (i + 1) xs))
 none_more f xs i d text lt none here =
-    let e : map f (take (i + 1) xs) ≡ map f (take i xs) ++ f (get_or xs i d) ∷ [] = ap (map f) (take_more xs i d lt) ∙ map-append f (take i xs) (get_or xs i d ∷ []) in
+    let e : map f (take (i + 1) xs) ≡ map f (take i xs) ++ f (get_or xs i d) ∷ [] = ap (map f) (take_more xs i d lt)
+    ∙ map-append f (take i xs) (get_or xs i d ∷ []) in
     subst (NoneBegins text) (sym e) (none_push text (map f (take i xs)) (f (get_or xs i d)) none here)
 
 -- what is said of an option's value, and of its lack
-pub weaker : {A : Type 0} {P R : Type 0} {Q S : A → Type 0} (o : Option A) → (P → R) → ((x : A) → Q x → S x) → MatchOption o P Q → MatchOption o R S
+pub weaker : {A : Type 0} {P R : Type 0} {Q S : A → Type 0} (o : Option A) → (P → R) → ((x : A) → Q x → S x) → MatchOption o P Q
+    → MatchOption o R S
 weaker None f g h = f h
 weaker (Some x) f g h = g x h

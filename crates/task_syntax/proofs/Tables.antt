@@ -4,10 +4,10 @@ use Rattle.std.specs.Prelude.{if◌then◌else◌, ◌==◌}
 use Rattle.std.specs.Cmp.Lexicographic.{pointwise}
 use Rattle.std.specs.List.{list_any}
 use Rattle.task_model.specs.Text.{Text}
-use Rattle.task_syntax.specs.declared.symbol.Symbol.{Symbol}
-use Rattle.task_syntax.specs.declared.symbol.Symbol.TheVariants as signs
-use Rattle.task_syntax.specs.Spelling.{symbol_spelling}
-use Rattle.task_syntax.specs.Runs.{Begins}
+use Rattle.task_model.specs.declared.symbol.Symbol.{Symbol}
+use Rattle.task_model.specs.declared.symbol.Symbol.TheVariants as signs
+use Rattle.task_model.specs.Spelling.{symbol_spelling}
+use Rattle.task_syntax.specs.Runs.{BeginsWithCharacter}
 use Rattle.task_syntax.specs.Table.{NoneBegins, FirstBegins, symbols_with}
 use Rattle.task_syntax.proofs.Bytes.{begins_byte}
 use Rattle.task_syntax.proofs.TableLemmas.{descends, none_of, first_longest}
@@ -21,7 +21,20 @@ one_of true xs ys h k = h
 one_of false xs ys h k = k
 
 sorted : (c : ℕ) → IsSorted (symbols_with c)
-sorted c = one_of (c == 40) _ _ refl (one_of (c == 41) _ _ refl (one_of (c == 91) _ _ refl (one_of (c == 93) _ _ refl (one_of (c == 44) _ _ refl (one_of (c == 58) _ _ refl (one_of (c == 59) _ _ refl (one_of (c == 46) _ _ refl (one_of (c == 61) _ _ refl (one_of (c == 33) _ _ refl (one_of (c == 60) _ _ refl (one_of (c == 62) _ _ refl (one_of (c == 43) _ _ refl (one_of (c == 45) _ _ refl (one_of (c == 42) _ _ refl (one_of (c == 124) _ _ refl (one_of (c == 38) _ _ refl (refl)))))))))))))))))
+sorted c = one_of (c == 40) _ _ refl
+    (one_of (c == 41) _ _ refl
+    (one_of (c == 91) _ _ refl
+    (one_of (c == 93) _ _ refl
+    (one_of (c == 44) _ _ refl
+    (one_of (c == 58) _ _ refl
+    (one_of (c == 59) _ _ refl
+    (one_of (c == 46) _ _ refl
+    (one_of (c == 61) _ _ refl
+    (one_of (c == 33) _ _ refl
+    (one_of (c == 60) _ _ refl
+    (one_of (c == 62) _ _ refl
+    (one_of (c == 43) _ _ refl
+    (one_of (c == 45) _ _ refl (one_of (c == 42) _ _ refl (one_of (c == 124) _ _ refl (one_of (c == 38) _ _ refl (refl)))))))))))))))))
 
 -- ---- each symbol stands in the table of its first character
 abbrev first_of : Symbol → ℕ
@@ -189,7 +202,8 @@ listed signs.Pair = refl
 listed signs.InternalChoice = refl
 listed signs.ExternalChoice = refl
 
-listed_at : (text : Text) (c : ℕ) (more : Text) (s : Symbol) (rest : Text) → Begins text c more → text ≡ symbol_spelling s ++ rest → list_any (pointwise eqb (symbol_spelling s)) (map symbol_spelling (symbols_with c)) ≡ true
+listed_at : (text : Text) (c : ℕ) (more : Text) (s : Symbol) (rest : Text) → BeginsWithCharacter text c more
+    → text ≡ symbol_spelling s ++ rest → list_any (pointwise eqb (symbol_spelling s)) (map symbol_spelling (symbols_with c)) ≡ true
 listed_at text c more s rest b e =
     let split : text ≡ first_of s ∷ (rest_of s ++ rest) = e ∙ ap (λ t. t ++ rest) (spelled_by s) in
     let same : c ≡ first_of s = (begins_byte (first_of s) (rest_of s ++ rest) c more (first_low s) (sym split ∙ b)).0 in
@@ -197,16 +211,17 @@ listed_at text c more s rest b e =
 
 pub no_symbol :
     (text : Text) (c : ℕ) (more : Text)
-    → Begins text c more
+    → BeginsWithCharacter text c more
     → NoneBegins text (map symbol_spelling (symbols_with c))
     → (s : Symbol) (rest : Text)
     → text ≡ symbol_spelling s ++ rest
     → ⊥
-no_symbol text c more b none s rest e = none_of text (symbol_spelling s) rest (map symbol_spelling (symbols_with c)) none (listed_at text c more s rest b e) e
+no_symbol text c more b none s rest e = none_of text (symbol_spelling s) rest (map symbol_spelling (symbols_with c)) none
+    (listed_at text c more s rest b e) e
 
 pub longest_of :
     (text : Text) (c : ℕ) (more : Text) (x : Symbol) (rest : Text)
-    → Begins text c more
+    → BeginsWithCharacter text c more
     → FirstBegins text (map symbol_spelling (symbols_with c)) (symbol_spelling x) rest
     → (y : Symbol) (after : Text)
     → text ≡ symbol_spelling y ++ after

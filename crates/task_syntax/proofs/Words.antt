@@ -12,11 +12,11 @@ use Rattle.unicode_ident.specs.Ident.{is_xid_continue}
 use Rattle.unicode_ident.proofs.IdentLemmas.{is_xid_start-ascii, is_xid_continue-ascii, is_xid_start-is_xid_continue}
 use Rattle.task_model.specs.Text.{Text}
 use Rattle.task_model.specs.Token.{IsWord, AllContinue, keywords, is_keyword, is_symbol}
-use Rattle.task_syntax.specs.declared.keyword.Keyword.{Keyword}
-use Rattle.task_syntax.specs.declared.keyword.Keyword.TheVariants as words
-use Rattle.task_syntax.specs.declared.symbol.Symbol.{Symbol}
-use Rattle.task_syntax.specs.declared.symbol.Symbol.TheVariants as signs
-use Rattle.task_syntax.specs.Spelling.{keyword_spelling, symbol_spelling}
+use Rattle.task_model.specs.declared.keyword.Keyword.{Keyword}
+use Rattle.task_model.specs.declared.keyword.Keyword.TheVariants as words
+use Rattle.task_model.specs.declared.symbol.Symbol.{Symbol}
+use Rattle.task_model.specs.declared.symbol.Symbol.TheVariants as signs
+use Rattle.task_model.specs.Spelling.{keyword_spelling, symbol_spelling}
 
 -- ---- texts in a list
 -- a test that each of some texts passes
@@ -39,8 +39,10 @@ any_spelled {A} f (x ∷ xs) t some = go (pointwise eqb t (f x)) refl (any_spell
 -- ---- keywords
 abbrev every_keyword : List Keyword
 every_keyword =
-    words.Fun ∷ words.Task ∷ words.Unit ∷ words.Bool ∷ words.Int ∷ words.Text ∷ words.Ref ∷ words.Let ∷ words.In ∷ words.If ∷ words.Then ∷ words.Else ∷ words.Case ∷ words.Of
-    ∷ words.New ∷ words.Edit ∷ words.Enter ∷ words.Share ∷ words.Fail ∷ words.True ∷ words.False ∷ words.Not ∷ words.Fst ∷ words.Snd ∷ words.Len ∷ words.Quot ∷ words.Rem ∷ words.Nil ∷ []
+    words.Fun ∷ words.Task ∷ words.Unit ∷ words.Bool ∷ words.Int ∷ words.Text ∷ words.Ref ∷ words.Let ∷ words.In ∷ words.If ∷ words.Then
+    ∷ words.Else ∷ words.Case ∷ words.Of
+    ∷ words.New ∷ words.Edit ∷ words.Enter ∷ words.Share ∷ words.Fail ∷ words.True ∷ words.False ∷ words.Not ∷ words.Fst ∷ words.Snd
+    ∷ words.Len ∷ words.Quot ∷ words.Rem ∷ words.Nil ∷ []
 
 pub keyword_of : (t : Text) → is_keyword t ≡ true → (k : Keyword) × (t ≡ keyword_spelling k)
 keyword_of t e = any_spelled keyword_spelling every_keyword t e
@@ -78,7 +80,10 @@ is_keyword-spelling words.Nil = refl
 -- ---- symbols
 abbrev every_symbol : List Symbol
 every_symbol =
-    signs.Open ∷ signs.Close ∷ signs.OpenBracket ∷ signs.CloseBracket ∷ signs.Comma ∷ signs.Colon ∷ signs.Assign ∷ signs.Cons ∷ signs.Semicolon ∷ signs.Dot ∷ signs.Define ∷ signs.Equal ∷ signs.NotEqual ∷ signs.Bang ∷ signs.Less ∷ signs.LessEqual ∷ signs.Greater ∷ signs.GreaterEqual ∷ signs.Plus ∷ signs.Join ∷ signs.Minus ∷ signs.Arrow ∷ signs.Star ∷ signs.Or ∷ signs.Bar ∷ signs.And ∷ signs.InternalStep ∷ signs.UserStep ∷ signs.Pair ∷ signs.InternalChoice ∷ signs.ExternalChoice ∷ []
+    signs.Open ∷ signs.Close ∷ signs.OpenBracket ∷ signs.CloseBracket ∷ signs.Comma ∷ signs.Colon ∷ signs.Assign ∷ signs.Cons
+    ∷ signs.Semicolon ∷ signs.Dot ∷ signs.Define ∷ signs.Equal ∷ signs.NotEqual ∷ signs.Bang ∷ signs.Less ∷ signs.LessEqual
+    ∷ signs.Greater ∷ signs.GreaterEqual ∷ signs.Plus ∷ signs.Join ∷ signs.Minus ∷ signs.Arrow ∷ signs.Star ∷ signs.Or ∷ signs.Bar
+    ∷ signs.And ∷ signs.InternalStep ∷ signs.UserStep ∷ signs.Pair ∷ signs.InternalChoice ∷ signs.ExternalChoice ∷ []
 
 pub symbol_of : (t : Text) → is_symbol t ≡ true → (s : Symbol) × (t ≡ symbol_spelling s)
 symbol_of t e = any_spelled symbol_spelling every_symbol t e

@@ -2,7 +2,7 @@
 use Rattle.std.specs.Prelude.{◌≡◌, ◌≢◌, ℕ, ◌+◌, ◌<◌, ◌⊎◌, List, [], ◌∷◌, ◌++◌, length}
 use Rattle.std.specs.Str.{IsUtf8}
 use Rattle.task_model.specs.Text.{Text}
-use Rattle.task_model.specs.Token.{TokenKindTerm, TextPart, PartIs, PartsAre, part_spelling, spelled, Spells, IsNumber, IsWithinLimits, IsLongest, IsBlank, NoLf, EndsLine, Piece, blank, comment, lexeme, bytes_of}
+use Rattle.task_model.specs.Token.{TokenKindTerm, TextPart, PartIs, PartsAre, part_spelling, spelled, Spells, SpellsNumber, IsWithinTokenLimits, IsLongest, IsBlank, NoLf, EndsLine, Piece, blank, comment, lexeme, bytes_of}
 use Rattle.task_syntax.specs.declared.stop.LexKind.{LexKind}
 use Rattle.task_syntax.specs.declared.stop.LexKind.TheVariants.{BadChar, OpenText, BadEscape, LongText, WideNumber}
 use Rattle.task_syntax.specs.declared.stop.LexStop.{LexStop}
@@ -15,7 +15,8 @@ abbrev pub AreRightBefore : List Piece → Text → Type 0
 AreRightBefore [] rest = Unit {0}
 AreRightBefore (blank byte ∷ ps) rest = IsBlank byte × AreRightBefore ps rest
 AreRightBefore (comment t ∷ ps) rest = NoLf t × EndsLine (bytes_of ps ++ rest) × AreRightBefore ps rest
-AreRightBefore (lexeme t kind ∷ ps) rest = Spells t kind × IsWithinLimits kind × IsLongest t (bytes_of ps ++ rest) × AreRightBefore ps rest
+AreRightBefore (lexeme t kind ∷ ps) rest = Spells t kind × IsWithinTokenLimits kind × IsLongest t (bytes_of ps ++ rest)
+    × AreRightBefore ps rest
 
 -- ---- what is at fault
 -- a character that is no blank and begins no comment, no text and no other token
@@ -30,7 +31,7 @@ pub record IsWide (rest : Text) : Type 0 where
   pub back : Text
   pub number : ℕ
   pub bytes : rest ≡ digits ++ back
-  pub are : IsNumber digits number
+  pub are : SpellsNumber digits number
   pub longest : IsLongest digits back
   pub wide : 9223372036854775807 < number
 
@@ -48,7 +49,8 @@ IsNotRaw (byte ∷ bytes) = (byte < 32) ⊎ (byte ≡ 127)
 -- a backslash that begins no escape
 abbrev pub IsNoEscape : Text → Type 0
 IsNoEscape [] = ⊥
-IsNoEscape (byte ∷ bytes) = (byte ≡ 92) × ((part : TextPart) (t back : Text) → PartIs part t → byte ∷ bytes ≡ part_spelling part ++ back → ⊥)
+IsNoEscape (byte ∷ bytes) = (byte ≡ 92) × ((part : TextPart) (t back : Text) → PartIs part t → byte ∷ bytes ≡ part_spelling part ++ back
+    → ⊥)
 
 -- a text, closed by a quote, of more than 65,536 bytes
 pub record IsLong (rest : Text) : Type 0 where
@@ -60,8 +62,10 @@ pub record IsLong (rest : Text) : Type 0 where
 -- within the rest of a source, so many bytes in, stands a fault of this kind, where the fault is in what stands first
 abbrev pub IsFaultAt : Text → LexKind → ℕ → Type 0
 IsFaultAt rest BadChar at =
-    (BeginsNoToken rest × (at ≡ 0)) ⊎ ((parts : List TextPart) × (back : Text) × IsTextBefore rest parts back × IsNotRaw back × (at ≡ 1 + length (spelled parts)))
-IsFaultAt rest BadEscape at = (parts : List TextPart) × (back : Text) × IsTextBefore rest parts back × IsNoEscape back × (at ≡ 1 + length (spelled parts))
+    (BeginsNoToken rest × (at ≡ 0)) ⊎ ((parts : List TextPart) × (back : Text) × IsTextBefore rest parts back × IsNotRaw back
+    × (at ≡ 1 + length (spelled parts)))
+IsFaultAt rest BadEscape at = (parts : List TextPart) × (back : Text) × IsTextBefore rest parts back × IsNoEscape back
+    × (at ≡ 1 + length (spelled parts))
 IsFaultAt rest OpenText at = (parts : List TextPart) × IsTextBefore rest parts [] × (at ≡ 0)
 IsFaultAt rest LongText at = IsLong rest × (at ≡ 0)
 IsFaultAt rest WideNumber at = IsWide rest × (at ≡ 0)
@@ -79,6 +83,6 @@ pub record HasFault (source : Text) (kind : LexKind) (place : ℕ) : Type 0 wher
   pub is_place : place ≡ length (bytes_of pieces) + inside
 
 -- a stop is the source's fault; want of memory says nothing of the source
-abbrev pub IsStop : Text → LexStop → Type 0
-IsStop source (stops.Fault place kind) = HasFault source kind place
-IsStop source stops.Memory = Unit {0}
+abbrev pub IsLexStop : Text → LexStop → Type 0
+IsLexStop source (stops.Fault place kind) = HasFault source kind place
+IsLexStop source stops.Memory = Unit {0}

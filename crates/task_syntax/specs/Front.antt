@@ -1,7 +1,7 @@
 -- What stands first in the rest of a source.
 use Rattle.std.specs.Prelude.{◌≡◌, ℕ, ◌+◌, ◌++◌, length}
 use Rattle.task_model.specs.Text.{Text}
-use Rattle.task_model.specs.Token.{TokenKindTerm, Spells, IsWithinLimits, IsLongest}
+use Rattle.task_model.specs.Token.{TokenKindTerm, Spells, IsWithinTokenLimits, IsLongest}
 use Rattle.task_syntax.specs.declared.token.TokenKind.{TokenKind}
 use Rattle.task_syntax.specs.declared.stop.Stop.{Stop}
 use Rattle.task_syntax.specs.declared.stop.Stop.TheVariants as stops
@@ -14,11 +14,11 @@ pub record Leads (text : Text) (kind : TokenKind) (rest : Text) : Type 0 where
   pub term : TokenKindTerm
   pub split : text ≡ spelling ++ rest
   pub spells : Spells spelling term
-  pub within : IsWithinLimits term
+  pub within : IsWithinTokenLimits term
   pub longest : IsLongest spelling rest
   pub is : IsKind kind term spelling
 
 -- a fault stands in what comes first, and this follows its place
-abbrev pub StopsAt : Text → Stop → Type 0
-StopsAt text (stops.Fault kind rest) = (inside : ℕ) × IsFaultAt text kind inside × (length rest.now + inside ≡ length text)
-StopsAt text stops.Memory = Unit {0}
+abbrev pub LexStopsAt : Text → Stop → Type 0
+LexStopsAt text (stops.Fault kind rest) = (inside : ℕ) × IsFaultAt text kind inside × (length rest.now + inside ≡ length text)
+LexStopsAt text stops.Memory = Unit {0}

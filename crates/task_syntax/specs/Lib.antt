@@ -1,7 +1,6 @@
 pub mod Fault
 pub mod Front
-pub mod Parts
+pub mod TextParts
 pub mod Runs
-pub mod Spelling
 pub mod Table
 pub mod Tokens

@@ -19,12 +19,12 @@ goes_on Word c = is_xid_continue c
 goes_on Digits c = is_ascii_digit c
 
 -- a text begins with this character
-abbrev pub Begins : Text → ℕ → Text → Type 0
-Begins text c rest = text ≡ encode_utf8 c ++ rest
+abbrev pub BeginsWithCharacter : Text → ℕ → Text → Type 0
+BeginsWithCharacter text c rest = text ≡ encode_utf8 c ++ rest
 
 -- the longest front of a text that passes the test, and the rest
 pub record IsRun (p : ℕ → Bool) (text : Text) (front : List ℕ) (rest : Text) : Type 0 where
   pub split : text ≡ encode_utf8_all front ++ rest
   pub scalars : all_scalars front ≡ true
   pub passes : list_all p front ≡ true
-  pub ends : (c : ℕ) (back : Text) → Begins rest c back → p c ≡ false
+  pub ends : (c : ℕ) (back : Text) → BeginsWithCharacter rest c back → p c ≡ false

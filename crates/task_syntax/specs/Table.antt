@@ -1,8 +1,8 @@
 -- The first of some texts that another begins with, and the symbols by their first character.
 use Rattle.std.specs.Prelude.{ℕ, ◌==◌, if◌then◌else◌, ◌≡◌, List, [], ◌∷◌, ◌++◌}
 use Rattle.task_model.specs.Text.{Text}
-use Rattle.task_syntax.specs.declared.symbol.Symbol.{Symbol}
-use Rattle.task_syntax.specs.declared.symbol.Symbol.TheVariants as signs
+use Rattle.task_model.specs.declared.symbol.Symbol.{Symbol}
+use Rattle.task_model.specs.declared.symbol.Symbol.TheVariants as signs
 
 -- a text begins with none of these
 abbrev pub NoneBegins : Text → List Text → Type 0

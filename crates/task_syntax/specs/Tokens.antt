@@ -5,7 +5,7 @@ use Rattle.task_model.specs.Token.{TokenKindTerm, TokenTerm, name_token, keyword
 use Rattle.task_syntax.specs.declared.token.TokenKind.{TokenKind}
 use Rattle.task_syntax.specs.declared.token.TokenKind.TheVariants as kinds
 use Rattle.task_syntax.specs.declared.token.Token.{Token}
-use Rattle.task_syntax.specs.Spelling.{keyword_spelling, symbol_spelling}
+use Rattle.task_model.specs.Spelling.{keyword_spelling, symbol_spelling}
 
 -- a kind of the code is this kind of the source, with these bytes
 abbrev pub IsKind : TokenKind → TokenKindTerm → Text → Type 0

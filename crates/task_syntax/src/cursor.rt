@@ -1,10 +1,10 @@
 ghost use Rattle.std.specs.Prelude.{◌≡◌, ◌-◌, ◌<◌, ◌≤◌, [], true, ◌∷◌, ℕ, MatchOption, IfSome, length};
 ghost use Rattle.std.specs.Str.{all_scalars};
-ghost use Rattle.task_syntax.specs.Runs.{Begins};
+ghost use Rattle.task_syntax.specs.Runs.{BeginsWithCharacter};
 
 /// The first character of a text, and what stands after it.
 pub(crate) fn first_char(text: &str) -> Option<(char, &str)>
-    ensures cases { MatchOption result (text.now ≡ []) (λ r. Begins text.now r.0 r.1.now) }
+    ensures cases { MatchOption result (text.now ≡ []) (λ r. BeginsWithCharacter text.now r.0 r.1.now) }
     ensures scalar { IfSome result (λ r. all_scalars (r.0 ∷ []) ≡ true) }
     ensures shorter { IfSome result (λ r. length r.1.now < length text.now) }
 {

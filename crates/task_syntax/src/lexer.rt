@@ -1,10 +1,10 @@
 ghost use Rattle.std.specs.Prelude.{◌≡◌, ◌≢◌, ◌+◌, ◌≤◌, [], ◌∷◌, false, ℕ, List, length, MatchResult, IfOk, IfErr};
 ghost use Rattle.task_model.specs.Text.{Text};
 ghost use Rattle.task_model.specs.Token.{TokenTerm, HasTokens};
-ghost use Rattle.task_syntax.specs.Fault.{IsStop};
-ghost use Rattle.task_syntax.specs.Front.{Leads, StopsAt};
+ghost use Rattle.task_syntax.specs.Fault.{IsLexStop};
+ghost use Rattle.task_syntax.specs.Front.{Leads, LexStopsAt};
 ghost use Rattle.task_syntax.specs.Runs as runs;
-ghost use Rattle.task_syntax.specs.Runs.{Begins, IsRun, goes_on};
+ghost use Rattle.task_syntax.specs.Runs.{BeginsWithCharacter, IsRun, goes_on};
 ghost use Rattle.task_syntax.specs.Tokens.{AreTokens, AreSpans};
 ghost use Rattle.std.specs.Char.{is_ascii_digit};
 ghost use Rattle.std.specs.Prelude.{true};
@@ -12,7 +12,7 @@ ghost use Rattle.std.specs.Str.{all_scalars};
 ghost use Rattle.unicode_ident.specs.Ident as ident;
 
 use crate::cursor::{first_char, place_of};
-use crate::keyword::Keyword;
+use crate::keyword::keyword_spelled;
 use crate::number::value;
 use crate::run::Run;
 use crate::stop::{LexKind, LexStop, Stop};
@@ -31,12 +31,12 @@ fn is_blank(character: char) -> bool
 
 /// The name or the keyword at the front of a text, whose first character was passed, and what stands after it.
 fn word_at<'s>(text: &'s str, more: &'s str) -> (TokenKind, &'s str)
-    requires { (c : ℕ) × Begins text.now c more.now × (all_scalars (c ∷ []) ≡ true) × (ident.is_xid_start c ≡ true) }
+    requires { (c : ℕ) × BeginsWithCharacter text.now c more.now × (all_scalars (c ∷ []) ≡ true) × (ident.is_xid_start c ≡ true) }
     ensures { Leads text.now result.0 result.1.now }
 {
     let rest = Run::Word.strip(more);
     let word = &text.as_bytes()[..text.len() - rest.len()];
-    match Keyword::spelled(word) {
+    match keyword_spelled(word) {
         Some(keyword) => (TokenKind::Keyword(keyword), rest),
         None => (TokenKind::Name, rest),
     }
@@ -44,8 +44,8 @@ fn word_at<'s>(text: &'s str, more: &'s str) -> (TokenKind, &'s str)
 
 /// The number at the front of a text that begins with a digit, and what stands after it.
 fn number_at(text: &str) -> Result<(TokenKind, &str), Stop<'_>>
-    requires { (c : ℕ) × (more : Text) × Begins text.now c more × (is_ascii_digit c ≡ true) }
-    ensures { MatchResult result (λ r. Leads text.now r.0 r.1.now) (λ stop. StopsAt text.now stop) }
+    requires { (c : ℕ) × (more : Text) × BeginsWithCharacter text.now c more × (is_ascii_digit c ≡ true) }
+    ensures { MatchResult result (λ r. Leads text.now r.0 r.1.now) (λ stop. LexStopsAt text.now stop) }
 {
     let rest = Run::Digits.strip(text);
     let digits = &text.as_bytes()[..text.len() - rest.len()];
@@ -65,11 +65,11 @@ fn token_at<'s>(
     first: char,
     more: &'s str,
 ) -> Result<(TokenKind, &'s str), Stop<'s>>
-    requires begins { Begins text.now first more.now }
+    requires begins { BeginsWithCharacter text.now first more.now }
     requires scalar { all_scalars (first ∷ []) ≡ true }
     requires no_blank { runs.is_blank first ≡ false }
     requires no_comment { first ≢ 35 }
-    ensures { MatchResult result (λ r. Leads text.now r.0 r.1.now) (λ stop. StopsAt text.now stop) }
+    ensures { MatchResult result (λ r. Leads text.now r.0 r.1.now) (λ stop. LexStopsAt text.now stop) }
 {
     if is_xid_start(first) {
         return Ok(word_at(text, more));
@@ -97,7 +97,7 @@ pub fn lex(alloc: Global, text: &str) -> Result<Tokens, LexStop>
     ensures tokens { IfOk result (λ r. (ts : List TokenTerm) × HasTokens text.now ts × AreTokens text.now r.list.list ts) }
     ensures only { IfOk result (λ r. (ts : List TokenTerm) → HasTokens text.now ts → AreTokens text.now r.list.list ts) }
     ensures spans { IfOk result (λ r. AreSpans 0 r.list.list (length text.now)) }
-    ensures fault { IfErr result (λ stop. IsStop text.now stop) }
+    ensures fault { IfErr result (λ stop. IsLexStop text.now stop) }
 {
     let mut list = Row::new(alloc);
     let mut rest = text;

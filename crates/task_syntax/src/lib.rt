@@ -14,9 +14,7 @@ mod tests;
 mod text;
 mod token;
 
-pub use keyword::Keyword;
 pub use laws::one_reading;
 pub use lexer::lex;
-pub use stop::{LexKind, LexStop};
-pub use symbol::Symbol;
+pub use stop::{LexKind, LexStop, ReadKind, ReadStop};
 pub use token::{Token, TokenKind, Tokens};

@@ -1,92 +1,18 @@
 ghost use Rattle.std.specs.Prelude.{◌≡◌, ◌++◌, ◌<◌, ◌≤◌, ℕ, List, length, MatchOption, IfSome};
 ghost use Rattle.std.specs.Prelude.{map};
-ghost use Rattle.task_syntax.specs.Spelling.{symbol_spelling};
-ghost use Rattle.task_syntax.specs.Runs.{Begins};
+ghost use Rattle.task_model.specs.Spelling.{symbol_spelling};
+ghost use Rattle.task_syntax.specs.Runs.{BeginsWithCharacter};
 ghost use Rattle.task_syntax.specs.Table.{NoneBegins, FirstBegins, symbols_with};
 
-/// A sign, named for what it is for.
-#[derive(Clone, Copy, Debug, PartialEq, Eq)]
-pub enum Symbol {
-    Open,
-    Close,
-    OpenBracket,
-    CloseBracket,
-    Comma,
-    Colon,
-    Assign,
-    Cons,
-    Semicolon,
-    Dot,
-    Define,
-    Equal,
-    NotEqual,
-    Bang,
-    Less,
-    LessEqual,
-    Greater,
-    GreaterEqual,
-    Plus,
-    Join,
-    Minus,
-    Arrow,
-    Star,
-    Or,
-    Bar,
-    And,
-    InternalStep,
-    UserStep,
-    Pair,
-    InternalChoice,
-    ExternalChoice,
-}
+use task_model::Symbol;
 
-impl Symbol {
-    pub fn spelling(self) -> &'static str
-        ensures { result.now ≡ symbol_spelling self }
-    {
-        match self {
-            Symbol::Open => "(",
-            Symbol::Close => ")",
-            Symbol::OpenBracket => "[",
-            Symbol::CloseBracket => "]",
-            Symbol::Comma => ",",
-            Symbol::Colon => ":",
-            Symbol::Assign => ":=",
-            Symbol::Cons => "::",
-            Symbol::Semicolon => ";",
-            Symbol::Dot => ".",
-            Symbol::Define => "=",
-            Symbol::Equal => "==",
-            Symbol::NotEqual => "!=",
-            Symbol::Bang => "!",
-            Symbol::Less => "<",
-            Symbol::LessEqual => "<=",
-            Symbol::Greater => ">",
-            Symbol::GreaterEqual => ">=",
-            Symbol::Plus => "+",
-            Symbol::Join => "++",
-            Symbol::Minus => "-",
-            Symbol::Arrow => "->",
-            Symbol::Star => "*",
-            Symbol::Or => "||",
-            Symbol::Bar => "|",
-            Symbol::And => "&&",
-            Symbol::InternalStep => ">>=",
-            Symbol::UserStep => ">>?",
-            Symbol::Pair => "<&>",
-            Symbol::InternalChoice => "<|>",
-            Symbol::ExternalChoice => "<?>",
-        }
-    }
-
-    /// What stands after this symbol, if a text begins with it.
-    fn strip(self, text: &str) -> Option<&str>
-        ensures { MatchOption result
-            ((rest : List ℕ) → text.now ≡ symbol_spelling self ++ rest → ⊥)
-            (λ rest. text.now ≡ symbol_spelling self ++ rest.now) }
-    {
-        text.strip_prefix(self.spelling())
-    }
+/// What stands after this symbol, if a text begins with it.
+fn strip_symbol(symbol: Symbol, text: &str) -> Option<&str>
+    ensures { MatchOption result
+        ((rest : List ℕ) → text.now ≡ symbol_spelling symbol ++ rest → ⊥)
+        (λ rest. text.now ≡ symbol_spelling symbol ++ rest.now) }
+{
+    text.strip_prefix(symbol.spelling())
 }
 
 /// The symbols that begin with this character, longer ones first.
@@ -133,7 +59,7 @@ fn first_of<'s>(symbols: &[Symbol], text: &'s str) -> Option<(Symbol, &'s str)>
         (λ r. FirstBegins text.now (map symbol_spelling symbols.now) (symbol_spelling r.0) r.1.now) }
 {
     for symbol in symbols {
-        if let Some(rest) = symbol.strip(text) {
+        if let Some(rest) = strip_symbol(*symbol, text) {
             return Some((*symbol, rest));
         }
     }
@@ -142,7 +68,7 @@ fn first_of<'s>(symbols: &[Symbol], text: &'s str) -> Option<(Symbol, &'s str)>
 
 /// The longest symbol at the front of a text, and what stands after it.
 pub(crate) fn symbol_at(text: &str, first: char) -> Option<(Symbol, &str)>
-    requires { (more : List ℕ) × Begins text.now first more }
+    requires { (more : List ℕ) × BeginsWithCharacter text.now first more }
     ensures { MatchOption result
         ((s : _) (rest : List ℕ) → text.now ≡ symbol_spelling s ++ rest → ⊥)
         (λ r. (text.now ≡ symbol_spelling r.0 ++ r.1.now)

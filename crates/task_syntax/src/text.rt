@@ -3,13 +3,13 @@ ghost use Rattle.std.specs.Str.{all_scalars};
 ghost use Rattle.task_model.specs.Text.{Text};
 ghost use Rattle.task_model.specs.Token.{IsHex, hex_value, hex, PartIs};
 ghost use Rattle.task_syntax.specs.Fault.{IsNoEscape};
-ghost use Rattle.task_syntax.specs.Front.{StopsAt};
-ghost use Rattle.task_syntax.specs.Parts.{PartStands, PartFails, TextStands};
+ghost use Rattle.task_syntax.specs.Front.{LexStopsAt};
+ghost use Rattle.task_syntax.specs.TextParts.{PartStands, PartFails, TextStands};
 
 use crate::cursor::first_char;
 use crate::stop::{LexKind, Stop};
 use std::alloc::Global;
-use task_model::{TEXT_LIMIT, TaskText};
+use task_model::{TEXT_BYTE_LIMIT, TaskText};
 
 /// The value of a hexadecimal digit.
 fn hex_digit(digit: char) -> Option<u8>
@@ -83,19 +83,22 @@ pub(crate) fn text_at<'s>(
     requires { text.now ≡ 34 ∷ inside.now }
     ensures { MatchResult result
         (λ r. TextStands text.now r.0 r.1.now)
-        (λ stop. StopsAt text.now stop) }
+        (λ stop. LexStopsAt text.now stop) }
 {
     let mut content = String::new(alloc);
     let mut rest = inside;
     while let Some((first, more)) = first_char(rest) {
         if first == '"' {
-            if content.len() > TEXT_LIMIT {
+            if content.len() > TEXT_BYTE_LIMIT {
                 return Err(Stop::Fault {
                     kind: LexKind::LongText,
                     rest: text,
                 });
             }
-            return Ok((TaskText::of_string(content), more));
+            let Ok(content) = TaskText::of_string(content) else {
+                return Err(Stop::Memory);
+            };
+            return Ok((content, more));
         }
         match part(first, more) {
             Ok((character, after)) => {

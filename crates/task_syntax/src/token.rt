@@ -1,6 +1,4 @@
-use crate::keyword::Keyword;
-use crate::symbol::Symbol;
-use task_model::{Row, TaskText};
+use task_model::{Keyword, Row, Symbol, TaskText};
 
 /// What a token is; a text has its content, with each escape as the character that it stands for.
 #[derive(Drop)]

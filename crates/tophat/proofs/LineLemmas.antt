@@ -8,41 +8,48 @@ use Rattle.line_frame.proofs.ScriptLemmas.{is_over}
 use Rattle.task_model.specs.Text.{Text}
 use Rattle.task_model.specs.declared.input.Turn.{Turn}
 use Rattle.std.specs.Option.{option_map}
-use Rattle.tophat.specs.Reads.{words_behind}
-use Rattle.tophat.specs.Line.{with_byte, words_of, by_words, number_after, number_of}
+use Rattle.tophat.specs.ReadLine.{words_behind}
+use Rattle.tophat.specs.Line.{words_with_byte, words_of, by_words, number_after, number_of}
 
-no_space : (byte : ℕ) (words : List Text) → byte ≢ 32 → if byte == 32 then [] ∷ words else with_byte byte words ≡ with_byte byte words
+no_space : (byte : ℕ) (words : List Text) → byte ≢ 32
+    → if byte == 32 then [] ∷ words else words_with_byte byte words ≡ words_with_byte byte words
 no_space byte words none = by (byte == 32) refl
   where
-    by : (b : Bool) → (byte == 32) ≡ b → if b then [] ∷ words else with_byte byte words ≡ with_byte byte words
+    by : (b : Bool) → (byte == 32) ≡ b → if b then [] ∷ words else words_with_byte byte words ≡ words_with_byte byte words
     by true e = absurd (none (eqb-true byte 32 e))
     by false e = refl
 
 -- the front of a text before its first space
-pub words_front : (n : ℕ) (bytes : Text) → n < length bytes → ((k : ℕ) → k < n → get_or bytes k 0 ≢ 32) → get_or bytes n 0 ≡ 32 → words_of bytes ≡ take n bytes ∷ words_of (drop (suc n) bytes)
+pub words_front : (n : ℕ) (bytes : Text) → n < length bytes → ((k : ℕ) → k < n → get_or bytes k 0 ≢ 32) → get_or bytes n 0 ≡ 32
+    → words_of bytes ≡ take n bytes ∷ words_of (drop (suc n) bytes)
 words_front zero [] lt none at = absurd (omega arith)
-words_front zero (byte ∷ bytes) lt none at = ap (λ b. if b then [] ∷ words_of bytes else with_byte byte (words_of bytes)) (eq-eqb byte 32 at)
+words_front zero (byte ∷ bytes) lt none at = ap (λ b. if b then [] ∷ words_of bytes else words_with_byte byte (words_of bytes))
+    (eq-eqb byte 32 at)
 words_front (suc n) [] lt none at = absurd (omega arith)
 words_front (suc n) (byte ∷ bytes) lt none at =
-    no_space byte (words_of bytes) (none 0 (omega arith)) ∙ ap (with_byte byte) (words_front n bytes (omega arith) (λ k l. none (suc k) (omega arith)) at)
+    no_space byte (words_of bytes) (none 0 (omega arith))
+    ∙ ap (words_with_byte byte) (words_front n bytes (omega arith) (λ k l. none (suc k) (omega arith)) at)
 
 -- a text without spaces
 pub words_whole : (bytes : Text) → ((k : ℕ) → k < length bytes → get_or bytes k 0 ≢ 32) → words_of bytes ≡ bytes ∷ []
 words_whole [] none = refl
-words_whole (byte ∷ bytes) none = no_space byte (words_of bytes) (none 0 (omega arith)) ∙ ap (with_byte byte) (words_whole bytes (λ k l. none (suc k) (omega arith)))
+words_whole (byte ∷ bytes) none = no_space byte (words_of bytes) (none 0 (omega arith))
+    ∙ ap (words_with_byte byte) (words_whole bytes (λ k l. none (suc k) (omega arith)))
 
 -- there is always a first word
 pub words_some : (bytes : Text) → (word : Text) × (words : List Text) × (words_of bytes ≡ word ∷ words)
 words_some [] = ([], [], refl)
 words_some (byte ∷ bytes) = by (byte == 32) (words_of bytes)
   where
-    by : (b : Bool) (words : List Text) → (word : Text) × (more : List Text) × (if b then [] ∷ words else with_byte byte words ≡ word ∷ more)
+    by : (b : Bool) (words : List Text)
+        → (word : Text) × (more : List Text) × (if b then [] ∷ words else words_with_byte byte words ≡ word ∷ more)
     by true words = ([], words, refl)
     by false [] = (byte ∷ [], [], refl)
     by false (word ∷ words) = (byte ∷ word, words, refl)
 
 -- one word more, where a space ends it
-pub word_more : {A : Type 0} (view : A → Text) (bytes word : Text) (r : Option A) (rest : A) → words_of bytes ≡ word ∷ words_behind (option_map view r) → r ≡ Some rest → words_of bytes ≡ word ∷ words_of (view rest)
+pub word_more : {A : Type 0} (view : A → Text) (bytes word : Text) (r : Option A) (rest : A)
+    → words_of bytes ≡ word ∷ words_behind (option_map view r) → r ≡ Some rest → words_of bytes ≡ word ∷ words_of (view rest)
 word_more view bytes word r rest e is = e ∙ ap (λ o. word ∷ words_behind (option_map view o)) is
 
 -- more than four words are no line
@@ -54,12 +61,14 @@ pub number_over : (most value : ℕ) (digits : Text) → most < value → number
 number_over most value [] lt = ap (λ b. if b then Some value else None) (is_over value most lt)
 number_over most value (digit ∷ digits) lt = by (is_ascii_digit digit) (number_over most (value * 10 + (digit - 48)) digits (omega arith))
   where
-    by : (b : Bool) → number_after most (value * 10 + (digit - 48)) digits ≡ None → if b then number_after most (value * 10 + (digit - 48)) digits else None ≡ None
+    by : (b : Bool) → number_after most (value * 10 + (digit - 48)) digits ≡ None
+        → if b then number_after most (value * 10 + (digit - 48)) digits else None ≡ None
     by true e = e
     by false e = refl
 
 -- where the next value is beyond the most
-pub number_stops : (most value : ℕ) (rest : Text) → 0 < length rest → most < value * 10 + (slice_index rest 0 - 48) → number_after most value rest ≡ None
+pub number_stops : (most value : ℕ) (rest : Text) → 0 < length rest → most < value * 10 + (slice_index rest 0 - 48)
+    → number_after most value rest ≡ None
 number_stops most value [] some lt = absurd (omega arith)
 number_stops most value (digit ∷ digits) some lt = by (is_ascii_digit digit)
   where

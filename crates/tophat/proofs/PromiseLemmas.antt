@@ -1,56 +1,85 @@
 -- The promise follows from how a command went.
-use Rattle.std.proofs.Common.{◌≡◌, ℕ, List, ◌++◌, Option, None, Some, ◌⊎◌, inl, inr, refl, sym, ◌∙◌, ap, subst}
+use Rattle.std.proofs.Common.{◌≡◌, ℕ, ◌++◌, Option, None, Some, ◌⊎◌, inl, inr, refl, sym, ◌∙◌, ap, subst}
+use Rattle.std.specs.Prelude.{option_map, IfSome, IfNone, MatchOption}
 use Rattle.std.specs.Io.KnownBytes.{Appends}
 use Rattle.outer_io.specs.Sink.{IsStart}
-use Rattle.line_frame.specs.Told.{Told, Comes}
-use Rattle.line_frame.specs.declared.finish.Finish.{Finish}
-use Rattle.line_frame.specs.declared.finish.Finish.TheVariants.{Usage, FileFault, ReadFault, WriteFault, Memory}
+use Rattle.line_frame.specs.declared.finish.Finish.TheVariants as finishes
 use Rattle.task_model.specs.Text.{Text}
+use Rattle.tophat.specs.declared.ending.Ending.{Ending}
+use Rattle.tophat.specs.declared.ending.Ending.TheVariants.{Usage, FileFault, Unopened, Ran}
+use Rattle.tophat.specs.declared.no_world.NoWorld.TheVariants.{Memory}
+use Rattle.tophat.specs.Command.{CommandTerm}
 use Rattle.tophat.specs.Ending.{status_of}
-use Rattle.tophat.specs.Promise.{IsCutShort, WritesTold, Promised, IsReadableBy}
-use Rattle.tophat.specs.Reading.{IsReadingOf}
-use Rattle.tophat.specs.Top.{Limits, top_text}
-use Rattle.tophat.specs.Words.{file_of}
-use Rattle.tophat.specs.Worked.{IsReadableAt}
+use Rattle.tophat.specs.Promise.{IsCutShort, WritesReport, Promised, HasVerdictBy}
+use Rattle.tophat.specs.Verdict.{IsVerdictOf}
+use Rattle.tophat.specs.Top.{Limits, Report, Reports}
+use Rattle.tophat.specs.Worked.{HasVerdictAt, IfNotRun, Writes}
 use Rattle.tophat.specs.Went.{Counted, Went}
+use Rattle.tophat.proofs.ReportLemmas.{report_exists}
+use Rattle.tophat.proofs.WorkLemmas.{is_usage}
 
 took_is : (before : Text) (now : Option Text) (written : Text) → Appends (Some before) now written → now ≡ Some (before ++ written)
 took_is before None written a = absurd a
 took_is before (Some bytes) written a = ap Some a
 
-comes_either : (told : Told) (written : Text) (finish : Finish) → Comes told written finish → (told ≡ record { output = written; finish = finish }) ⊎ (IsCutShort (status_of finish) × IsStart written told.output)
-comes_either told written FileFault c = inr (inl refl, c)
-comes_either told written ReadFault c = inr (inl refl, c)
-comes_either told written WriteFault c = inr (inr (inl refl), c)
-comes_either told written Memory c = inr (inr (inr refl), c)
-comes_either told written finish c = inl c
+writes_either : (report : Report) (written : Text) (ending : Ending) → Writes report written ending
+    → (report ≡ record { output = written; ending = ending }) ⊎ (IsCutShort (status_of ending) × IsStart written report.output)
+writes_either report written FileFault c = inr (inl refl, c)
+writes_either report written (Unopened Memory) c = inr (inr (inr refl), c)
+writes_either report written (Ran finishes.ReadFault) c = inr (inl refl, c)
+writes_either report written (Ran finishes.WriteFault) c = inr (inr (inl refl), c)
+writes_either report written (Ran finishes.Memory) c = inr (inr (inr refl), c)
+writes_either report written ending c = inl c
 
-writes_told : (told : Told) (before written : Text) (now : Option Text) (finish : Finish) (status : ℕ) → status ≡ status_of finish → now ≡ Some (before ++ written) → Comes told written finish
-    → WritesTold told before now status
-writes_told told before written now finish status e took c =
-    elim (comes_either told written finish c) [
-      | inl p ↦ inl (e ∙ sym (ap (λ (t : Told). status_of t.finish) p), took ∙ ap (λ (t : Told). Some (before ++ t.output)) (sym p))
+writes_report : (report : Report) (before written : Text) (now : Option Text) (ending : Ending) (status : ℕ) → status ≡ status_of ending
+    → now ≡ Some (before ++ written) → Writes report written ending → WritesReport report before now status
+writes_report report before written now ending status e took c =
+    elim (writes_either report written ending c) [
+      | inl p ↦ inl (e ∙ sym (ap (λ (z : Report). status_of z.ending) p), took ∙ ap (λ (z : Report). Some (before ++ z.output)) (sym p))
       | inr q ↦ inr (subst IsCutShort (sym e) q.0, (written, q.1, took))
     ]
 
-readable_by : (file : Option Text) (finish : Finish) (status : ℕ) → status ≡ status_of finish → IsReadableAt finish file → IsReadableBy status file
+readable_by : (file : Option Text) (ending : Ending) (status : ℕ) → status ≡ status_of ending → HasVerdictAt ending file
+    → HasVerdictBy status file
 readable_by file Usage status e r = inl (inl e)
 readable_by file FileFault status e r = inl (inr (inl e))
-readable_by file Memory status e r = inl (inr (inr e))
-readable_by file finish status e r = inr r
+readable_by file (Unopened Memory) status e r = inl (inr (inr e))
+readable_by file ending status e r = inr r
 
-pub promised : (l : Limits) (words : List Text) (holds : Option (Option Text)) (left_old left_new taken_old taken_new said_old said_new : Option Text) (files input out err : Counted) (status : ℕ)
-    → Went l words holds left_old left_new taken_old taken_new said_old said_new files input out err status → Promised l (file_of words) holds left_old taken_old taken_new status
-promised l words None left_old left_new taken_old taken_new said_old said_new files input out err status w = tt
-promised l words (Some file) None left_new taken_old taken_new said_old said_new files input out err status w = tt
-promised l words (Some file) (Some script) left_new None taken_new said_old said_new files input out err status w = tt
-promised l words (Some file) (Some script) left_new (Some first) taken_new said_old said_new files input out err status w = (
-  subst (IsReadableBy status) (sym w.worked.file_told) (readable_by w.worked.file w.finish status w.status_is w.worked.readable),
-  λ reading h.
+pub promised : (l : Limits) (command : Option CommandTerm) (holds : Option (Option Text))
+    (left_old left_new taken_old taken_new said_old said_new : Option Text)
+    (files input out err : Counted) (untouched : Type 0) (status : ℕ)
+    → Went l command holds left_old left_new taken_old taken_new said_old said_new files input out err untouched status
+    → Promised l command holds left_old taken_old taken_new status
+promised l command None left_old left_new taken_old taken_new said_old said_new files input out err untouched status w = tt
+promised l command (Some file) None left_new taken_old taken_new said_old said_new files input out err untouched status w = tt
+promised l command (Some file) (Some script) left_new None taken_new said_old said_new files input out err untouched status w = tt
+promised l command (Some file) (Some script) left_new (Some first) taken_new said_old said_new files input out err untouched status w = (
+  subst (HasVerdictBy status) (sym w.worked.file_told) (readable_by w.worked.file w.ending status w.status_is w.worked.verdict_is),
+  λ verdict h.
       let d = w.worked in
-      let known : IsReadingOf d.file reading = subst (λ (f : Option Text). IsReadingOf f reading) d.file_told h in
-      let same : top_text l (file_of words) d.file reading d.script ≡ top_text l (file_of words) file reading script =
-      ap (λ f. top_text l (file_of words) f reading d.script) (sym d.file_told) ∙ ap (top_text l (file_of words) file reading) (sym d.script_told) in
-      writes_told (top_text l (file_of words) file reading script) first d.written taken_new w.finish status w.status_is (took_is first taken_new d.written d.took)
-      (subst (λ (t : Told). Comes t d.written w.finish) same (d.comes reading known)),
+      let r = report_exists l command file verdict script in
+      let known : IsVerdictOf d.file verdict = subst (λ (f : Option Text). IsVerdictOf f verdict) d.file_told h in
+      let reports : Reports l command d.file verdict d.script r.0 =
+      subst (λ (z : Text). Reports l command d.file verdict z r.0) d.script_told
+      (subst (λ (f : Option Text). Reports l command f verdict script r.0) d.file_told r.1) in (
+        r.0,
+        r.1,
+        writes_report r.0 first d.written taken_new w.ending status w.status_is (took_is first taken_new d.written d.took)
+            (d.comes verdict known r.0 reports),
+      ),
 )
+
+-- status 2 comes exactly where the words ask for nothing
+pub usage_is : {A : Type 0} (view : A → CommandTerm) (asked : Option A) (command : Option CommandTerm) (ending : Ending) (status : ℕ)
+    (no_file no_read no_write : Type 0)
+    → option_map view asked ≡ command → status ≡ status_of ending → IfSome asked (λ _. ending ≡ Usage → ⊥)
+    → IfNone asked ((ending ≡ Usage) × no_file)
+    → IfNotRun ending (no_read × no_write) → MatchOption command ((status ≡ 2) × no_file × no_read × no_write) (λ _. status ≡ 2 → ⊥)
+usage_is view None None ending status no_file no_read no_write e is some none run =
+    let kept = subst (λ (z : Ending). IfNotRun z (no_read × no_write)) none.0 run in
+    (is ∙ ap status_of none.0, none.1, kept.0, kept.1)
+usage_is view (Some asked) (Some command) ending status no_file no_read no_write e is some none run = λ two. some
+    (is_usage ending (sym is ∙ two))
+usage_is view None (Some command) ending status no_file no_read no_write e is some none run = absurd (cc)
+usage_is view (Some asked) None ending status no_file no_read no_write e is some none run = absurd (cc)

@@ -7,7 +7,8 @@ use Rattle.outer_io.specs.declared.sink.Written.TheVariants.{Failed}
 use Rattle.outer_io.proofs.Bytes.{wrote_then, wrote_part}
 
 -- a word, a number, a word and a number were written, and then an LF
-pub pair_then : (old mid new : Option (List ℕ)) (a x b y d e : List ℕ) (r : Written) → x ≡ d → y ≡ e → Appends old mid (a ++ x ++ (b ++ y)) → Wrote mid new (10 ∷ []) r
+pub pair_then : (old mid new : Option (List ℕ)) (a x b y d e : List ℕ) (r : Written) → x ≡ d → y ≡ e → Appends old mid (a ++ x ++ (b ++ y))
+    → Wrote mid new (10 ∷ []) r
     → Wrote old new (a ++ d ++ (b ++ e) ++ 10 ∷ []) r
 pair_then old mid new a x b y d e r p q one two =
     let text : List ℕ = a ++ x ++ (b ++ y) in
@@ -23,7 +24,8 @@ pair_part old new a x b y d e p q one =
     subst (λ (z : List ℕ). Wrote old new (z ++ 10 ∷ []) Failed) same (wrote_part old new text (10 ∷ []) one)
 
 -- a word, a name, a word and a number were written, and then the rest
-pub rest_then : (old mid new : Option (List ℕ)) (a x b y e more : List ℕ) (r : Written) → y ≡ e → Appends old mid (a ++ x ++ (b ++ y)) → Wrote mid new more r
+pub rest_then : (old mid new : Option (List ℕ)) (a x b y e more : List ℕ) (r : Written) → y ≡ e → Appends old mid (a ++ x ++ (b ++ y))
+    → Wrote mid new more r
     → Wrote old new (a ++ x ++ (b ++ e) ++ more) r
 rest_then old mid new a x b y e more r q one two =
     let text : List ℕ = a ++ x ++ (b ++ y) in
@@ -38,6 +40,7 @@ rest_part old new a x b y e more q one =
     let same : text ≡ a ++ x ++ (b ++ e) = ap (λ z. a ++ x ++ (b ++ z)) q in
     subst (λ (z : List ℕ). Wrote old new (z ++ more) Failed) same (wrote_part old new text more one)
 
--- the same with other names of a word and a number
-pub as_named : (old new : Option (List ℕ)) (a x d y e b : List ℕ) (r : Written) → x ≡ d → y ≡ e → Wrote old new (a ++ x ++ (y ++ b)) r → Wrote old new (a ++ d ++ (e ++ b)) r
-as_named old new a x d y e b r p q one = subst (λ (z : List ℕ). Wrote old new z r) (ap (λ z. a ++ z ++ (y ++ b)) p ∙ ap (λ z. a ++ d ++ (z ++ b)) q) one
+-- the same with another name of the number behind a word
+pub as_number : (old new : Option (List ℕ)) (word y e : List ℕ) (r : Written) → y ≡ e → Wrote old new (word ++ y) r
+    → Wrote old new (word ++ e) r
+as_number old new word y e r q one = subst (λ (z : List ℕ). Wrote old new (word ++ z) r) q one

@@ -1,10 +1,9 @@
-pub mod Words
+pub mod Command
 pub mod Line
-pub mod Reads
+pub mod ReadLine
 pub mod Session
-pub mod CutLine
 pub mod Ending
-pub mod Reading
+pub mod Verdict
 pub mod Top
 pub mod Worked
 pub mod Went

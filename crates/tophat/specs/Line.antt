@@ -26,14 +26,14 @@ without_cr [] = []
 without_cr (byte ∷ bytes) = if slice_index (byte ∷ bytes) (length bytes) == 13 then take (length bytes) (byte ∷ bytes) else byte ∷ bytes
 
 -- one byte more at the front of the first word
-abbrev pub with_byte : ℕ → List Text → List Text
-with_byte byte [] = (byte ∷ []) ∷ []
-with_byte byte (word ∷ words) = (byte ∷ word) ∷ words
+abbrev pub words_with_byte : ℕ → List Text → List Text
+words_with_byte byte [] = (byte ∷ []) ∷ []
+words_with_byte byte (word ∷ words) = (byte ∷ word) ∷ words
 
 -- the words between single spaces
 abbrev pub words_of : Text → List Text
 words_of [] = [] ∷ []
-words_of (byte ∷ bytes) = if byte == 32 then [] ∷ words_of bytes else with_byte byte (words_of bytes)
+words_of (byte ∷ bytes) = if byte == 32 then [] ∷ words_of bytes else words_with_byte byte (words_of bytes)
 
 -- a digit that isn't 0
 abbrev pub is_first_digit : ℕ → Bool
@@ -43,7 +43,9 @@ is_first_digit byte = is_ascii_digit byte && nat_le 49 byte
 abbrev pub seat_of : Text → Option ℕ
 seat_of (one ∷ []) = if is_first_digit one then Some (one - 48) else None
 seat_of (ten ∷ one ∷ []) =
-    if is_first_digit ten then (if is_ascii_digit one then (if nat_le ((ten - 48) * 10 + (one - 48)) 64 then Some ((ten - 48) * 10 + (one - 48)) else None) else None) else None
+    if is_first_digit ten
+    then (if is_ascii_digit one then (if nat_le ((ten - 48) * 10 + (one - 48)) 64 then Some ((ten - 48) * 10 + (one - 48)) else None)
+    else None) else None
 seat_of text = None
 
 -- one turn more at the front
@@ -55,7 +57,8 @@ with_turn turn (Some path) = Some (turn ∷ path)
 abbrev pub turns_of : Text → Option (List Turn)
 turns_of [] = Some []
 turns_of (letter ∷ letters) =
-    if letter == 70 then with_turn turns.First (turns_of letters) else if letter == 83 then with_turn turns.Second (turns_of letters) else None
+    if letter == 70 then with_turn turns.First (turns_of letters) else if letter == 83 then with_turn turns.Second (turns_of letters)
+    else None
 
 -- a path: a dot and letters
 abbrev pub path_of : Text → Option (List Turn)
@@ -73,10 +76,11 @@ number_of most [] = None
 number_of most (digit ∷ digits) = number_after most 0 (digit ∷ digits)
 
 -- an int literal: digits, or a minus and digits, within 64 bits
-abbrev pub int_of : Text → Option ℤ
-int_of [] = None
-int_of (byte ∷ bytes) =
-    if byte == 45 then option_map (λ n. neg_ℤ (pos n)) (number_of 9223372036854775808 bytes) else option_map pos (number_of 9223372036854775807 (byte ∷ bytes))
+abbrev pub int_literal : Text → Option ℤ
+int_literal [] = None
+int_literal (byte ∷ bytes) =
+    if byte == 45 then option_map (λ n. neg_ℤ (pos n)) (number_of 9223372036854775808 bytes)
+    else option_map pos (number_of 9223372036854775807 (byte ∷ bytes))
 
 abbrev pub show_of : Option ℕ → Option LineTerm
 show_of None = None
@@ -95,7 +99,7 @@ abbrev pub two_of : (seat word : Text) → Option LineTerm
 two_of seat word = if same_text word (codes "show") then show_of (seat_of seat) else None
 
 abbrev pub four_of : (seat path word number : Text) → Option LineTerm
-four_of seat path word number = if same_text word (codes "set") then set_of (seat_of seat) (path_of path) (int_of number) else None
+four_of seat path word number = if same_text word (codes "set") then set_of (seat_of seat) (path_of path) (int_literal number) else None
 
 -- nothing at all, `SEAT show`, or `SEAT PATH set N`
 abbrev pub by_words : List Text → Option LineTerm

@@ -1,26 +1,14 @@
--- What is written for the lines of a script, line by line (docs/FORMATS.md, "Answers").
-use Rattle.std.specs.Prelude.{ℕ, ◌+◌, List, [], ◌∷◌, ◌++◌, Option, None, Some, codes, decimal}
+-- What is told of the lines of a script, line by line (docs/FORMATS.md, "Answers").
+use Rattle.std.specs.Prelude.{ℕ, ◌≡◌, ◌+◌, List, [], ◌∷◌, ◌++◌, Option, None, Some, codes, decimal}
 use Rattle.task_model.specs.Text.{Text}
-use Rattle.task_model.specs.Input.{InputTerm, EntryTerm}
-use Rattle.task_model.specs.Outcome.{Outcome, taken, not_offered, over_budget}
-use Rattle.task_model.specs.Widget.{WidgetTerm}
-use Rattle.task_model.specs.Page.{page_text}
+use Rattle.task_model.specs.Input.{EntryTerm}
+use Rattle.task_model.specs.Outcome.{Outcome, IsOutcome, taken, not_offered, over_budget}
 use Rattle.task_model.specs.State.{version_of}
-use Rattle.task_model.proofs.OutcomeLemmas.{outcome_exists}
-use Rattle.task_model.proofs.OfferLemmas.{widgets_exist}
-use Rattle.world_core.specs.World.{WorldTerm, with_entry}
-use Rattle.line_frame.specs.Told.{Told, after}
+use Rattle.world_core.specs.World.{WorldTerm, IsWorldPage, with_entry}
+use Rattle.line_frame.specs.Told.{Told, told_after}
 use Rattle.line_frame.specs.declared.finish.Finish.{Finish}
 use Rattle.line_frame.specs.declared.finish.Finish.TheVariants.{Bad}
 use Rattle.tophat.specs.Line.{LineTerm, nothing, shows, gives, line_of}
-
--- the one outcome of an input at a world
-abbrev pub outcome_of : WorldTerm → InputTerm → Outcome
-outcome_of w i = (outcome_exists w.checked w.budget w.state i).0
-
--- the one list of a world's widgets
-abbrev pub widgets_of : WorldTerm → List WidgetTerm
-widgets_of w = (widgets_exist w.checked w.budget w.state.tree w.state.store).0
 
 -- the world after an entry with this outcome
 abbrev pub world_after : WorldTerm → EntryTerm → Outcome → WorldTerm
@@ -34,24 +22,21 @@ answer_text w e (taken t) = codes "taken " ++ decimal (version_of (with_entry w 
 answer_text w e not_offered = codes "not offered\n"
 answer_text w e over_budget = codes "over budget\n"
 
--- the answer to a line
-abbrev pub reply_of : WorldTerm → LineTerm → Text
-reply_of w nothing = []
-reply_of w (shows seat) = page_text (version_of w.history) seat (widgets_of w)
-reply_of w (gives e) = answer_text w e (outcome_of w e.input)
+-- a line is answered by this text, and leads to this world: an input by its outcome, a page by the world's widgets
+abbrev pub Answers : WorldTerm → LineTerm → Text → WorldTerm → Type 0
+Answers w nothing text next = (text ≡ []) × (next ≡ w)
+Answers w (shows seat) text next = IsWorldPage w seat text × (next ≡ w)
+Answers w (gives e) text next =
+    (o : Outcome) × IsOutcome w.checked w.budget w.state e.input o × (text ≡ answer_text w e o) × (next ≡ world_after w e o)
 
--- the world after a line
-abbrev pub next_of : WorldTerm → LineTerm → WorldTerm
-next_of w nothing = w
-next_of w (shows seat) = w
-next_of w (gives e) = world_after w e (outcome_of w e.input)
+-- this is told of a line, by what is told of those behind it; a line outside the grammar ends the run
+abbrev pub TellsLine : Option LineTerm → WorldTerm → ℕ → (WorldTerm → Told → Type 0) → Told → Type 0
+TellsLine None w number TellsRest told = told ≡ record { output = []; finish = Bad number 1 }
+TellsLine (Some line) w number TellsRest told =
+    (text : Text) × (next : WorldTerm) × (rest : Told) × Answers w line text next × TellsRest next rest × (told ≡ told_after text rest)
 
--- what is told of a line, before what is told of those behind it; a line outside the grammar ends the run
-abbrev pub told_by : Option LineTerm → WorldTerm → ℕ → (WorldTerm → Told) → Told
-told_by None w number rest = record { output = []; finish = Bad number 1 }
-told_by (Some line) w number rest = after (reply_of w line) (rest (next_of w line))
-
--- what is told of these lines, the first of which has this number
-abbrev pub tells_from : ℕ → WorldTerm → ℕ → List Text → Finish → Told
-tells_from longest w number [] finish = record { output = []; finish = finish }
-tells_from longest w number (line ∷ lines) finish = told_by (line_of longest line) w number (λ next. tells_from longest next (number + 1) lines finish)
+-- this is told of these lines, the first of which has this number
+abbrev pub Tells : ℕ → WorldTerm → ℕ → List Text → Finish → Told → Type 0
+Tells longest w number [] finish told = told ≡ record { output = []; finish = finish }
+Tells longest w number (line ∷ lines) finish told =
+    TellsLine (line_of longest line) w number (λ next rest. Tells longest next (number + 1) lines finish rest) told

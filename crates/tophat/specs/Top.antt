@@ -1,30 +1,46 @@
--- What `run` writes and how it ends, by the words, the file, its program and the script.
-use Rattle.std.specs.Prelude.{ℕ, nat_le, [], ◌∷◌, length, replicate, Option, None, Some, if◌then◌else◌}
+-- What a command reports: what it writes and how it ends, by its file, the program there and the script.
+use Rattle.std.specs.Prelude.{ℕ, ◌≡◌, ◌<◌, ◌≤◌, ◌⊎◌, [], ◌∷◌, length, replicate, Option, None, Some}
 use Rattle.task_model.specs.Text.{Text}
 use Rattle.task_model.specs.Basic.{int_type}
 use Rattle.task_model.specs.Tree.{State}
 use Rattle.task_model.specs.Item.{opened}
 use Rattle.task_model.specs.Program.{ProgramTerm}
 use Rattle.task_model.specs.Checked.{CheckedTerm, defs_nodes}
-use Rattle.task_model.proofs.OutcomeLemmas.{Opens, opens, never_opens, opening_decided}
+use Rattle.task_model.specs.State.{IsOpening}
 use Rattle.world_core.specs.World.{WorldTerm}
 use Rattle.line_frame.specs.Told.{Told}
-use Rattle.line_frame.specs.Script.{whole_of, cut_of}
-use Rattle.line_frame.specs.declared.finish.Finish.{Finish}
-use Rattle.line_frame.specs.declared.finish.Finish.TheVariants.{Refused, Usage, OverBudget, ReadFault, Absent, FileTooLong}
-use Rattle.tophat.specs.Reading.{Reading, accepted, refused}
-use Rattle.tophat.specs.Session.{tells_from}
+use Rattle.line_frame.specs.Script.{TellsScript, cut_of}
+use Rattle.line_frame.specs.declared.finish.Finish.TheVariants.{ReadFault}
+use Rattle.tophat.specs.declared.ending.Ending.{Ending}
+use Rattle.tophat.specs.declared.ending.Ending.TheVariants.{Usage, Absent, FileTooLong, Unopened, Ran}
+use Rattle.tophat.specs.declared.no_world.NoWorld.TheVariants.{Refused, OverBudget}
+use Rattle.tophat.specs.Command.{CommandTerm, run}
+use Rattle.tophat.specs.Verdict.{Verdict, accepted, refused}
+use Rattle.tophat.specs.Session.{Tells}
 
--- the limits of a program's file, of a line and of a script in bytes, and the budget in units
+-- the limits of a program's file, of a line and of a script in bytes
 pub record Limits : Type 0 where
   pub file : ℕ
   pub line : ℕ
   pub script : ℕ
-  pub budget : ℕ
 
 abbrev pub limits : Limits
-limits = record { file = 1048576; line = 1048576; script = 67108864; budget = 10000 }
+limits = record { file = 1048576; line = 1048576; script = 67108864 }
 
+-- what a command writes, and how it ends
+pub record Report : Type 0 where
+  pub output : Text
+  pub ending : Ending
+
+-- nothing is written
+abbrev pub ends : Ending → Report
+ends ending = record { output = []; ending = ending }
+
+-- what is told of a script
+abbrev pub reported : Told → Report
+reported told = record { output = told.output; ending = Ran told.finish }
+
+-- ---- openings
 -- a plain program with the types of its `edit` nodes
 abbrev pub checked_of : ProgramTerm → CheckedTerm
 checked_of p = record { program = p; types = replicate (defs_nodes p p.defs) int_type }
@@ -33,30 +49,42 @@ checked_of p = record { program = p; types = replicate (defs_nodes p p.defs) int
 abbrev pub world_at : CheckedTerm → ℕ → State → WorldTerm
 world_at c budget s = record { checked = c; budget = budget; history = opened c.program budget ∷ []; state = s }
 
--- nothing is written
-abbrev pub ends : Finish → Told
-ends finish = record { output = []; finish = finish }
+-- what a file comes to: a world, or an end
+pub data Opened : Type 0 where
+  world : WorldTerm → Opened
+  none : Ending → Opened
 
--- what is told at the opening's state, if there is one
-abbrev pub by_opening : (c : CheckedTerm) (budget : ℕ) → Opens c budget → (WorldTerm → Told) → Told
-by_opening c budget (opens s o) told = told (world_at c budget s)
-by_opening c budget (never_opens none) told = ends OverBudget
+-- what is read comes to the world at the opening's state, if there is one
+abbrev pub OpensVerdict : ℕ → Verdict → Opened → Type 0
+OpensVerdict budget (refused place refusal) o = o ≡ none (Unopened (Refused place refusal))
+OpensVerdict budget (accepted p) (world w) = (s : State) × IsOpening (checked_of p) budget s × (w ≡ world_at (checked_of p) budget s)
+OpensVerdict budget (accepted p) (none ending) =
+    ((s : State) → IsOpening (checked_of p) budget s → ⊥) × (ending ≡ Unopened OverBudget)
 
--- what is told of what a file is read as
-abbrev pub by_program : ℕ → Reading → (WorldTerm → Told) → Told
-by_program budget (refused place refusal) told = ends (Refused place refusal)
-by_program budget (accepted p) told = by_opening (checked_of p) budget (opening_decided (checked_of p) budget) told
+-- the same of a file, if it is there and within the limit
+abbrev pub OpensFile : ℕ → ℕ → Option Text → Verdict → Opened → Type 0
+OpensFile limit budget None verdict o = o ≡ none Absent
+OpensFile limit budget (Some bytes) verdict o =
+    ((length bytes ≤ limit) × OpensVerdict budget verdict o) ⊎ ((limit < length bytes) × (o ≡ none FileTooLong))
 
--- what is told of a file, if it is there and within the limit
-abbrev pub by_file : Limits → Option Text → Reading → (WorldTerm → Told) → Told
-by_file l None reading told = ends Absent
-by_file l (Some bytes) reading told = if nat_le (length bytes) l.file then by_program l.budget reading told else ends FileTooLong
+-- ---- reports
+-- at a world this is reported by what is told there; an end is reported
+abbrev pub ReportsOpened : (WorldTerm → Told → Type 0) → Opened → Report → Type 0
+ReportsOpened TellsAt (world w) report = (told : Told) × TellsAt w told × (report ≡ reported told)
+ReportsOpened TellsAt (none ending) report = report ≡ ends ending
 
--- what is told of words that name a file, or of words outside the grammar
-abbrev pub top_text : Limits → Option Text → Option Text → Reading → Text → Told
-top_text l None file reading script = ends Usage
-top_text l (Some name) file reading script = by_file l file reading (λ w. whole_of (tells_from l.line w 1) l.script script)
+-- this is reported of a command, by what is told at the world of its file
+abbrev pub ReportsCommand : Limits → Option CommandTerm → Option Text → Verdict → (WorldTerm → Told → Type 0) → Report → Type 0
+ReportsCommand l None file verdict TellsAt report = report ≡ ends Usage
+ReportsCommand l (Some (run name budget)) file verdict TellsAt report =
+    (o : Opened) × OpensFile l.file budget file verdict o × ReportsOpened TellsAt o report
 
--- what is told of the lines that end within the bytes that were read, where nothing but a fault of reading ends the run
-abbrev pub so_far : Limits → Option Text → Reading → Text → Told
-so_far l file reading read = by_file l file reading (λ w. tells_from l.line w 1 (cut_of read).lines ReadFault)
+-- this is reported of the whole script
+abbrev pub Reports : Limits → Option CommandTerm → Option Text → Verdict → Text → Report → Type 0
+Reports l command file verdict script report =
+    ReportsCommand l command file verdict (λ w told. TellsScript (Tells l.line w 1) l.script script told) report
+
+-- this is reported of the lines that end within the bytes that were read, where nothing but a fault of reading ends the run
+abbrev pub ReportsRead : Limits → Option CommandTerm → Option Text → Verdict → Text → Report → Type 0
+ReportsRead l command file verdict read report =
+    ReportsCommand l command file verdict (λ w told. Tells l.line w 1 (cut_of read).lines ReadFault told) report

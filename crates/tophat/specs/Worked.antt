@@ -1,41 +1,52 @@
--- What a run did.
-use Rattle.std.specs.Prelude.{ℕ, ◌≡◌, List, [], Option, None, Some, Result, Ok, Err, ⊤}
+-- What a command did.
+use Rattle.std.specs.Prelude.{ℕ, ◌≡◌, List, Option, None, Some, Result, Ok, Err, ⊤}
 use Rattle.std.specs.Io.KnownBytes.{Appends, Consumes}
 use Rattle.outer_io.specs.Sink.{IsStart}
 use Rattle.task_model.specs.Text.{Text}
 use Rattle.task_model.specs.Program.{ProgramTerm}
-use Rattle.world_core.specs.World.{SeenWorld, WorldTerm, world_term}
-use Rattle.line_frame.specs.Told.{Told, Comes}
-use Rattle.line_frame.specs.Drove.{IsTold}
-use Rattle.line_frame.specs.declared.finish.Finish.{Finish}
-use Rattle.line_frame.specs.declared.finish.Finish.TheVariants.{Usage, FileFault, ReadFault, Memory}
-use Rattle.tophat.specs.Reading.{Reading, accepted, refused, IsReading, IsReadingOf, IsReadable}
-use Rattle.line_frame.specs.declared.refusal.Refusal.TheVariants.{NotBuilt}
 use Rattle.task_model.specs.Accepted.{IsPlain}
 use Rattle.task_reader.specs.Built.{IsBuilt}
-use Rattle.tophat.specs.Top.{Limits, by_program, by_file, top_text, so_far}
+use Rattle.world_core.specs.World.{SeenWorld, world_term}
+use Rattle.line_frame.specs.Drove.{Drove, IsTold}
+use Rattle.line_frame.specs.declared.finish.Finish.{Finish}
+use Rattle.line_frame.specs.declared.finish.Finish.TheVariants as finishes
+use Rattle.tophat.specs.declared.ending.Ending.{Ending}
+use Rattle.tophat.specs.declared.ending.Ending.TheVariants.{Usage, FileFault, Unopened, Ran}
+use Rattle.tophat.specs.declared.no_world.NoWorld.{NoWorld}
+use Rattle.tophat.specs.declared.no_world.NoWorld.TheVariants.{Memory}
+use Rattle.tophat.specs.declared.refusal.Refusal.TheVariants.{NotBuilt}
+use Rattle.tophat.specs.Command.{CommandTerm}
+use Rattle.tophat.specs.Verdict.{Verdict, accepted, refused, IsVerdict, IsVerdictOf, HasVerdict}
+use Rattle.tophat.specs.Session.{Tells}
+use Rattle.tophat.specs.Top.{Limits, Report, world, none, OpensVerdict, Reports, ReportsRead}
 
 -- the known file is this
 abbrev pub IsFile : Option (Option Text) → Option Text → Type 0
 IsFile None file = ⊤
 IsFile (Some known) file = known ≡ file
 
--- at this end the file has a reading, unless the words are outside the grammar, its bytes could not be had, or memory ran out
-abbrev pub IsReadableAt : Finish → Option Text → Type 0
-IsReadableAt Usage file = ⊤
-IsReadableAt FileFault file = ⊤
-IsReadableAt Memory file = ⊤
-IsReadableAt finish file = IsReadable file
+-- what was written of what is reported: all of it, and the end is the reported one; or the first part, where a fault or want of memory
+-- ends the command
+abbrev pub Writes : Report → Text → Ending → Type 0
+Writes report written FileFault = IsStart written report.output
+Writes report written (Unopened Memory) = IsStart written report.output
+Writes report written (Ran finishes.ReadFault) = IsStart written report.output
+Writes report written (Ran finishes.WriteFault) = IsStart written report.output
+Writes report written (Ran finishes.Memory) = IsStart written report.output
+Writes report written ending = report ≡ record { output = written; ending = ending }
 
--- the same of an opening, and where a world was opened
-abbrev pub IsReadableAfter : Result SeenWorld Finish → Option Text → Type 0
-IsReadableAfter (Ok w) file = IsReadable file
-IsReadableAfter (Err finish) file = IsReadableAt finish file
+-- at this end the file has a verdict, unless the words are outside the grammar, its bytes could not be had, or memory ran out
+abbrev pub HasVerdictAt : Ending → Option Text → Type 0
+HasVerdictAt Usage file = ⊤
+HasVerdictAt FileFault file = ⊤
+HasVerdictAt (Unopened Memory) file = ⊤
+HasVerdictAt ending file = HasVerdict file
 
--- The file and the script are those that the objects told, where they tell, and the file has a reading. What was written is what is told by them and by the file's
--- program, and the end is the told one; or it is the first part of that, and the end is a fault or want of memory. After a fault of the
--- input it is the whole output of the lines that end within the bytes that were read.
-pub record Worked (l : Limits) (named : Option Text) (holds : Option (Option Text)) (left_old left_new taken_old taken_new : Option Text) (finish : Finish) : Type 0 where
+-- The file and the script are those that the objects told, where they tell, and the file has a verdict. What was written is what is
+-- reported by them and by the file's program, and the end is the reported one; or it is the first part of that, and the end is a fault or
+-- want of memory. After a fault of the input it is the whole output of the lines that end within the bytes that were read.
+pub record Worked (l : Limits) (command : Option CommandTerm) (holds : Option (Option Text))
+    (left_old left_new taken_old taken_new : Option Text) (ending : Ending) : Type 0 where
   pub file : Option Text
   pub script : Text
   pub read : Text
@@ -45,28 +56,43 @@ pub record Worked (l : Limits) (named : Option Text) (holds : Option (Option Tex
   pub begins : IsStart read script
   pub consumed : Consumes left_old left_new read
   pub took : Appends taken_old taken_new written
-  pub readable : IsReadableAt finish file
-  pub comes : (reading : Reading) → IsReadingOf file reading → Comes (top_text l named file reading script) written finish
-  pub answered : (reading : Reading) → IsReadingOf file reading → finish ≡ ReadFault → so_far l file reading read ≡ record { output = written; finish = ReadFault }
+  pub verdict_is : HasVerdictAt ending file
+  pub comes : (verdict : Verdict) → IsVerdictOf file verdict → (report : Report) → Reports l command file verdict script report
+      → Writes report written ending
+  pub answered : ending ≡ Ran finishes.ReadFault → (verdict : Verdict) → IsVerdictOf file verdict → (report : Report)
+      → ReportsRead l command file verdict read report → report ≡ record { output = written; ending = ending }
 
--- a world was opened where this is told of every way to go on, or the end comes with nothing written
-abbrev pub Opens : ((WorldTerm → Told) → Told) → Result SeenWorld Finish → Type 0
-Opens told_by (Ok w) = (told : WorldTerm → Told) → told_by told ≡ told (world_term w)
-Opens told_by (Err finish) = (told : WorldTerm → Told) → Comes (told_by told) [] finish
+-- a fact where no line of the script was run
+abbrev pub IfNotRun : Ending → Type 0 → Type 0
+IfNotRun (Ran finish) fact = ⊤
+IfNotRun ending fact = fact
 
--- the same of bytes, by the program that they have
-abbrev pub OpensBytes : ℕ → Text → Result SeenWorld Finish → Type 0
-OpensBytes budget bytes result = (reading : Reading) → IsReading bytes reading → Opens (by_program budget reading) result
+-- ---- openings
+-- what is read was opened to this world, or there is none for this reason, or memory ran out
+abbrev pub Opens : ℕ → Verdict → Result SeenWorld NoWorld → Type 0
+Opens budget verdict (Ok w) = OpensVerdict budget verdict (world (world_term w))
+Opens budget verdict (Err Memory) = ⊤
+Opens budget verdict (Err why) = OpensVerdict budget verdict (none (Unopened why))
+
+-- the same of bytes, by what they are read as
+abbrev pub OpensBytes : ℕ → Text → Result SeenWorld NoWorld → Type 0
+OpensBytes budget bytes result = (verdict : Verdict) → IsVerdict bytes verdict → Opens budget verdict result
 
 -- the same of a program that was read, with its places
-abbrev pub OpensRead : ℕ → ProgramTerm → List ℕ → Result SeenWorld Finish → Type 0
-OpensRead budget p places result =
-    (IsPlain p → Opens (by_program budget (accepted p)) result)
-    × ((place : ℕ) → IsBuilt p places (Some place) → Opens (by_program budget (refused place NotBuilt)) result)
+abbrev pub OpensProgram : ℕ → ProgramTerm → List ℕ → Result SeenWorld NoWorld → Type 0
+OpensProgram budget p places result =
+    (IsPlain p → Opens budget (accepted p) result)
+    × ((place : ℕ) → IsBuilt p places (Some place) → Opens budget (refused place NotBuilt) result)
 
--- the same of the file that was found
-pub record Opening (l : Limits) (holds : Option (Option Text)) (result : Result SeenWorld Finish) : Type 0 where
-  pub file : Option Text
-  pub file_told : IsFile holds file
-  pub readable : IsReadableAfter result file
-  pub opens : (reading : Reading) → IsReadingOf file reading → Opens (by_file l file reading) result
+-- the bytes have a verdict, unless memory ran out
+abbrev pub HasVerdictAfter : {A : Type 0} → Result A NoWorld → Text → Type 0
+HasVerdictAfter (Ok w) bytes = HasVerdict (Some bytes)
+HasVerdictAfter (Err Memory) bytes = ⊤
+HasVerdictAfter (Err why) bytes = HasVerdict (Some bytes)
+
+-- a script was run on the world that these bytes were opened to, or there is none
+abbrev pub RunsBytes : Limits → ℕ → Text → (left_old left_new taken_old taken_new : Option Text) → Result Finish NoWorld → Type 0
+RunsBytes l budget bytes left_old left_new taken_old taken_new (Ok finish) =
+    (w : SeenWorld) × OpensBytes budget bytes (Ok w) × Drove (Tells l.line (world_term w) 1) l.script left_old left_new taken_old taken_new
+    finish
+RunsBytes l budget bytes left_old left_new taken_old taken_new (Err why) = OpensBytes budget bytes (Err why)

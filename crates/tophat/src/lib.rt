@@ -3,16 +3,20 @@
 #![tactic(auto)]
 
 mod check;
+mod command;
 mod ending;
+mod laws;
 mod line;
 mod line_parts;
-mod refusals;
+mod no_world;
+mod opening;
+mod refusal;
 mod runner;
 mod sentence;
 #[cfg(test)]
 mod tests;
 mod top;
-mod words;
 mod work;
 
+pub use laws::one_report;
 pub use top::tophat;

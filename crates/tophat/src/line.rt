@@ -1,8 +1,8 @@
 ghost use Rattle.std.specs.Prelude.{◌≡◌, IfOk};
 ghost use Rattle.tophat.specs.Line.{line_of, blank_of, two_of, four_of};
-ghost use Rattle.tophat.specs.Reads.{ReadsLine, IsSeated};
+ghost use Rattle.tophat.specs.ReadLine.{ReadsLine, IsSeated};
 
-use crate::line_parts::{Parts, int_of, parts_of, path_of, seat_of, without_cr};
+use crate::line_parts::{Parts, int_literal, parts_of, path_of, seat_of, without_cr};
 use line_frame::LineStop;
 use std::alloc::Global;
 use task_model::{Act, Entry, Input, OutOfMemory, Value};
@@ -74,7 +74,7 @@ fn read_set(
     let Some(seat) = seat_of(seat) else {
         return Err(OUTSIDE);
     };
-    let Some(number) = int_of(number) else {
+    let Some(number) = int_literal(number) else {
         return Err(OUTSIDE);
     };
     match path_of(alloc, path) {

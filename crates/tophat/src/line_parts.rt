@@ -2,7 +2,7 @@ ghost use Rattle.std.specs.Prelude.{◌≡◌, ◌∷◌, ◌≤◌, ℤ, pos, n
 ghost use Rattle.task_model.specs.State.{IsSeat};
 ghost use Rattle.tophat.specs.Line as grammar;
 ghost use Rattle.tophat.specs.Line.{words_of};
-ghost use Rattle.tophat.specs.Reads.{HasParts, words_behind};
+ghost use Rattle.tophat.specs.ReadLine.{HasParts, words_behind};
 
 use memchr::memchr;
 use std::alloc::Global;
@@ -110,8 +110,8 @@ fn turns_of(alloc: Global, letters: &[u8]) -> Result<Option<Row<Turn>>, OutOfMem
 }
 
 /// An int literal.
-pub(crate) fn int_of(text: &[u8]) -> Option<i64>
-    ensures { result ≡ grammar.int_of text.now }
+pub(crate) fn int_literal(text: &[u8]) -> Option<i64>
+    ensures { result ≡ grammar.int_literal text.now }
 {
     if text.is_empty() {
         return None;

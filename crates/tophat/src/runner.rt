@@ -1,20 +1,18 @@
-ghost use Rattle.std.specs.Prelude.{◌≡◌, ◌++◌, Ok, IfOk, IfErr, codes, decimal};
+ghost use Rattle.std.specs.Prelude.{◌≡◌, ◌++◌, IfOk, codes, decimal};
 ghost use Rattle.task_model.specs.Input.{entry_term};
 ghost use Rattle.task_model.specs.State.{IsSeat};
-ghost use Rattle.world_core.specs.World.{world_term};
-ghost use Rattle.tophat.specs.Line.{shows, gives};
-ghost use Rattle.tophat.specs.Session.{reply_of, next_of};
+ghost use Rattle.world_core.specs.World.{world_term, IsWorldPage};
+ghost use Rattle.tophat.specs.Line.{gives, line_term};
+ghost use Rattle.tophat.specs.ReadLine.{IsSeated};
+ghost use Rattle.tophat.specs.Session.{Answers};
 
 use crate::line::{Line, read_line};
 use itoa::Buffer;
 use line_frame::{LineStop, Machine};
 use std::alloc::Global;
 use std::sync::ledger::Ledger;
-use task_model::{ActStop, Entry, OutOfMemory, Row, Steps};
+use task_model::{ActStop, Entry, LINE_BYTE_LIMIT, OutOfMemory, Row, Steps};
 use world_core::{Taken, World};
-
-/// The longest line of a script in bytes, besides its LF.
-pub(crate) const LONGEST_LINE: usize = 1_048_576;
 
 /// Runs the lines of a script on a world.
 #[derive(Drop)]
@@ -30,10 +28,22 @@ impl<L: Ledger> Runner<L> {
         Runner { world, steps }
     }
 
+    // Does what a line asks for: its answer.
+    fn answer(&mut self, alloc: Global, line: Line) -> Result<Row<u8>, OutOfMemory>
+        requires { IsSeated line }
+        ensures { IfOk result (λ text. Answers (world_term self.old.world) (line_term line) text.list (world_term self.new.world)) }
+    {
+        match line {
+            Line::Nothing => Ok(Row::new(alloc)),
+            Line::Shows(seat) => self.show(alloc, seat),
+            Line::Gives(entry) => self.give(alloc, entry),
+        }
+    }
+
     // The terminal page for a seat.
     fn show(&self, alloc: Global, seat: u8) -> Result<Row<u8>, OutOfMemory>
         requires { IsSeat seat }
-        ensures { IfOk result (λ text. text.list ≡ reply_of (world_term self.now.world) (shows seat)) }
+        ensures { IfOk result (λ text. IsWorldPage (world_term self.now.world) seat text.list) }
     {
         let page = self.world.text(alloc, seat)?;
         row_of(alloc, page.as_str().as_bytes())
@@ -42,8 +52,7 @@ impl<L: Ledger> Runner<L> {
     // Gives an input to the world, and answers what became of it.
     fn give(&mut self, alloc: Global, entry: Entry) -> Result<Row<u8>, OutOfMemory>
         requires { IsSeat entry.seat }
-        ensures text { IfOk result (λ text. text.list ≡ reply_of (world_term self.old.world) (gives (entry_term entry))) }
-        ensures next { IfOk result (λ _. world_term self.new.world ≡ next_of (world_term self.old.world) (gives (entry_term entry))) }
+        ensures { IfOk result (λ text. Answers (world_term self.old.world) (gives (entry_term entry)) text.list (world_term self.new.world)) }
     {
         match self
             .world
@@ -59,37 +68,24 @@ impl<L: Ledger> Runner<L> {
 
 impl<L: Ledger> Machine for Runner<L> {
     ghost use Rattle.world_core.specs.World.{world_term};
-    ghost use Rattle.tophat.specs.Session.{tells_from};
-    ghost use Rattle.tophat.specs.CutLine.{tells_from-cut};
-    ghost use Rattle.std.specs.Prelude.{refl};
+    ghost use Rattle.tophat.specs.Session.{Tells};
 
     ghost LONGEST = { 1048576 };
 
-    const LONGEST: usize = LONGEST_LINE;
+    const LONGEST: usize = LINE_BYTE_LIMIT;
 
-    ghost tells = { λ r. tells_from 1048576 (world_term r.world) };
+    ghost tells = { λ r. Tells 1048576 (world_term r.world) };
 
-    ghost no_lines = { λ _ _ _. refl };
-
-    ghost cut_line = { λ r. tells_from-cut 1048576 (world_term r.world) };
+    ghost no_lines = { λ _ _ _ _ told. told };
 
     fn run_line(&mut self, alloc: Global, line: &[u8]) -> Result<Row<u8>, LineStop> {
-        match read_line(alloc, line, LONGEST_LINE)? {
-            Line::Nothing => Ok(Row::new(alloc)),
-            Line::Shows(seat) => answered(self.show(alloc, seat)),
-            Line::Gives(entry) => answered(self.give(alloc, entry)),
+        match read_line(alloc, line, LINE_BYTE_LIMIT) {
+            Ok(line) => match self.answer(alloc, line) {
+                Ok(text) => Ok(text),
+                Err(OutOfMemory) => Err(LineStop::Memory),
+            },
+            Err(stop) => Err(stop),
         }
-    }
-}
-
-// Want of memory ends the run.
-fn answered(text: Result<Row<u8>, OutOfMemory>) -> Result<Row<u8>, LineStop>
-    ensures ok { IfOk result (λ row. text ≡ Ok row) }
-    ensures err { IfErr result (λ stop. stop ≡ LineStop.Memory) }
-{
-    match text {
-        Ok(text) => Ok(text),
-        Err(OutOfMemory) => Err(LineStop::Memory),
     }
 }
 

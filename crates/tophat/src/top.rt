@@ -1,12 +1,11 @@
-ghost use Rattle.std.specs.Prelude.{◌≡◌, ◌⊎◌};
+ghost use Rattle.std.specs.Prelude.{◌≡◌, ◌⊎◌, MatchOption};
 ghost use Rattle.outer_io.specs.Causes.{Rose};
-ghost use Rattle.tophat.specs.Words as grammar;
+ghost use Rattle.tophat.specs.Command as commands;
 ghost use Rattle.tophat.specs.Top.{limits};
 ghost use Rattle.tophat.specs.Went.{Went};
 ghost use Rattle.tophat.specs.Promise.{Promised};
 
-use crate::ending::{status, tell};
-use crate::words::name_of;
+use crate::command::{command_of, named};
 use crate::work::work;
 use outer_io::{Files, Sink, Source};
 use std::alloc::Global;
@@ -26,21 +25,26 @@ pub fn tophat<F: Files, I: Source, O: Sink, E: Sink>(
     out: &mut O,
     err: &mut E,
 ) -> u8
-    // What was written to both sinks, and the status.
-    ensures went { Went limits words.now (F.holds files.old (grammar.name_of words.now)) (I.left input.old) (I.left input.new)
+    // What was written to both sinks, and the status. Where no line was run, input and output are untouched.
+    ensures went { Went limits (commands.command_of words.now) (F.holds files.old (commands.named (commands.command_of words.now))) (I.left input.old) (I.left input.new)
         (O.taken out.old) (O.taken out.new) (E.taken err.old) (E.taken err.new)
         (record { before = F.faults files.old; now = F.faults files.new }) (record { before = I.faults input.old; now = I.faults input.new })
-        (record { before = O.faults out.old; now = O.faults out.new }) (record { before = E.faults err.old; now = E.faults err.new }) result }
+        (record { before = O.faults out.old; now = O.faults out.new }) (record { before = E.faults err.old; now = E.faults err.new })
+        ((input.new ≡ input.old) × (out.new ≡ out.old)) result }
 
-    // Where the objects tell their bytes: the status and the output are the told ones, or the status is 5, 6 or 8
+    // Where the objects tell their bytes: the status and the output are the reported ones, or the status is 5, 6 or 8
     // and the output is the first part of that.
-    ensures told { Promised limits (grammar.file_of words.now) (F.holds files.old (grammar.name_of words.now)) (I.left input.old) (O.taken out.old) (O.taken out.new) result }
+    ensures told { Promised limits (commands.command_of words.now) (F.holds files.old (commands.named (commands.command_of words.now))) (I.left input.old) (O.taken out.old) (O.taken out.new) result }
+
+    // Status 2 comes where the words ask for nothing, and nothing else comes there; all is then untouched.
+    ensures usage { MatchOption (commands.command_of words.now) ((result ≡ 2) × (files.new ≡ files.old) × (input.new ≡ input.old) × (out.new ≡ out.old)) (λ _. result ≡ 2 → ⊥) }
 
     // A fault is answered only where a count rose.
     ensures read_fault { result ≡ 5 → Rose (F.faults files.old) (F.faults files.new) ⊎ Rose (I.faults input.old) (I.faults input.new) }
     ensures write_fault { result ≡ 6 → Rose (O.faults out.old) (O.faults out.new) }
 {
-    let finish = work::<F, I, O, Brand>(alloc, words, files, input, out, Blank::new(1));
-    let _ = tell(err, name_of(words), finish);
-    status(finish)
+    let asked = command_of(words);
+    let ending = work::<F, I, O, Brand>(alloc, &asked, files, input, out, Blank::new(1));
+    let _ = ending.tell(err, named(&asked));
+    ending.status()
 }

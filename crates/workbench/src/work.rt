@@ -1,11 +1,8 @@
+use crate::programs::{definitions_of, parameter_of, parameters_of, parentheses_of, program_of};
 use literal_text::read_any;
 use std::alloc::{AllocError, Global};
 use task_reader::read_program;
 use task_syntax::lex;
-
-/// A definition that has tokens of every sort.
-const DEFINITION: &str =
-    "task post(log : ref [text], limit : int) : [text] = # one line more, as long as there is room\n  enter text >>? line . if len !log < limit && not (line == \"\\n\") then (log := line :: !log ; post(log, limit)) else edit [\"full\", \"\"]\n\n";
 
 /// What is read.
 #[derive(Clone, Copy)]
@@ -18,6 +15,14 @@ pub(crate) enum Work {
     Tokens,
     /// A program of so many bytes.
     Program,
+    /// A task of so many choices, and four parameters for each.
+    Parameters,
+    /// A task of so many choices, and one parameter of 25 letters for each.
+    Parameter,
+    /// A program of so many definitions.
+    Definitions,
+    /// So many parentheses, which are no program.
+    Parentheses,
 }
 
 impl Work {
@@ -27,6 +32,10 @@ impl Work {
             "list" => Some(Work::List),
             "tokens" => Some(Work::Tokens),
             "program" => Some(Work::Program),
+            "parameters" => Some(Work::Parameters),
+            "parameter" => Some(Work::Parameter),
+            "definitions" => Some(Work::Definitions),
+            "parentheses" => Some(Work::Parentheses),
             _ => None,
         }
     }
@@ -37,25 +46,30 @@ impl Work {
             Work::Text => text_of(alloc, size),
             Work::List => list_of(alloc, size),
             Work::Tokens | Work::Program => program_of(alloc, size),
+            Work::Parameters => parameters_of(alloc, size),
+            Work::Parameter => parameter_of(alloc, size),
+            Work::Definitions => definitions_of(alloc, size),
+            Work::Parentheses => parentheses_of(alloc, size),
         }
     }
 
-    /// How often the source was read, of so many times.
-    pub(crate) fn read(self, alloc: Global, source: &str, times: usize) -> u64 {
-        let mut read: u64 = 0;
+    /// How often the source had its right answer, of so many times.
+    pub(crate) fn answered(self, alloc: Global, source: &str, times: usize) -> u64 {
+        let mut answered: u64 = 0;
         for _ in 0..times {
-            if self.is_read(alloc, source) {
-                read = read.saturating_add(1);
+            if self.is_answered(alloc, source) {
+                answered = answered.saturating_add(1);
             }
         }
-        read
+        answered
     }
 
-    fn is_read(self, alloc: Global, source: &str) -> bool {
+    fn is_answered(self, alloc: Global, source: &str) -> bool {
         match self {
             Work::Text | Work::List => read_any(alloc, source.as_bytes()).is_ok(),
             Work::Tokens => lex(alloc, source).is_ok(),
-            Work::Program => read_program(alloc, source.as_bytes()).is_ok(),
+            Work::Parentheses => read_program(alloc, source.as_bytes()).is_err(),
+            _ => read_program(alloc, source.as_bytes()).is_ok(),
         }
     }
 }
@@ -79,16 +93,4 @@ fn list_of(alloc: Global, texts: usize) -> Result<String, AllocError> {
     }
     literal.push(']')?;
     Ok(literal)
-}
-
-/// As many definitions as have room in so many bytes, and blanks behind them.
-fn program_of(alloc: Global, bytes: usize) -> Result<String, AllocError> {
-    let mut program = String::new(alloc);
-    for _ in 0..bytes / DEFINITION.len() {
-        program.push_str(DEFINITION)?;
-    }
-    for _ in program.len()..bytes {
-        program.push(' ')?;
-    }
-    Ok(program)
 }

@@ -9,7 +9,7 @@ use std::process::Abort;
 use std::test::Fail;
 use task_model::{
     Act, Basic, Body, Def, DefBody, Env, Host, Input, Kind, Op, OutOfMemory, Param, Path, Program,
-    Purse, Row, Stop, Task, TaskText, Tree, Turn, Value, Widget, boxed,
+    Purse, Row, Scope, Stop, Task, TaskText, Tree, Turn, Value, Widget, boxed, shared,
 };
 
 const BUDGET: u32 = 100_000;
@@ -163,7 +163,7 @@ impl Maker {
             None => None,
         };
         self.bodies.push(Body {
-            scope: names,
+            scope: Scope::of(alloc, names)?,
             binder,
             task: Box::into_inner(task),
         })
@@ -630,7 +630,7 @@ fn one_task(alloc: Global, task: Box<Task>, basic: Basic) -> Result<Rules, OutOf
 }
 
 fn texts(alloc: Global) -> Result<Basic, OutOfMemory> {
-    Ok(Basic::List(boxed(alloc, Basic::Text)?))
+    Ok(Basic::List(shared(alloc, Basic::Text)?))
 }
 
 // `task post(log : ref [text]) = enter text >>? m . (log := m :: !log ; post(log))`

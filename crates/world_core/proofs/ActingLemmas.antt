@@ -10,9 +10,9 @@ use Rattle.task_model.specs.declared.value.Value.{Value}
 use Rattle.task_model.specs.declared.input.Act.{Act}
 use Rattle.task_model.specs.declared.input.Act.TheVariants as acts
 use Rattle.task_model.specs.Checked.{CheckedTerm}
-use Rattle.task_model.specs.Plan.{Plan, give, ask, after, settles, work, Derives}
+use Rattle.task_model.specs.Plan.{Plan, give, ask, after, settles, plan_work, Derives}
 use Rattle.task_model.specs.Rules.{rule_of}
-use Rattle.task_model.specs.Judgements.{Settles, Within}
+use Rattle.task_model.specs.Judgements.{Settles, IsWithinBudget}
 use Rattle.task_model.specs.Spends.{Spends}
 use Rattle.task_model.specs.Handling.{if_typed, rebuilds, handled, settled, handles}
 use Rattle.task_model.specs.Outcome.{IsTaken, IsOutcome, taken, not_offered, over_budget}
@@ -21,7 +21,7 @@ use Rattle.task_model.specs.declared.input.Turn.TheVariants as turns
 use Rattle.task_model.specs.declared.purse.Stop.{Stop}
 use Rattle.task_model.specs.declared.purse.Stop.TheVariants.{Over, Memory}
 use Rattle.task_model.specs.PlainTree.{PlainTree}
-use Rattle.world_core.specs.PlainTree.{node_at, put_at, type_at}
+use Rattle.world_core.specs.InnerTree.{inner_node_at, put_at, type_at}
 use Rattle.world_core.specs.Acting.{Sets, IsLacking, Judges, Acts}
 use Rattle.task_model.specs.declared.stops.ActStop.{ActStop}
 use Rattle.task_model.specs.declared.stops.ActStop.TheVariants.{NotOffered}
@@ -37,21 +37,24 @@ if_typed-rebuilds : (b : Bool) (s : State) (g : TreeTerm → TreeTerm) → rebui
 if_typed-rebuilds true s g = refl
 if_typed-rebuilds false s g = refl
 
-set_plan-rebuilds : (o : Option BasicTerm) (v : ValueTerm) (f : BasicTerm → State) (g : TreeTerm → TreeTerm) → rebuilds (set_plan o v f) g ≡ set_plan o v (λ a. at (g (f a).tree) (f a).store)
+set_plan-rebuilds : (o : Option BasicTerm) (v : ValueTerm) (f : BasicTerm → State) (g : TreeTerm → TreeTerm) → rebuilds (set_plan o v f) g
+    ≡ set_plan o v (λ a. at (g (f a).tree) (f a).store)
 set_plan-rebuilds None v f g = refl
 set_plan-rebuilds (Some a) v f g = if_typed-rebuilds (value_has v a) (f a) g
 
 handled_set : (c : CheckedTerm) (t : TreeTerm) (σ : List ValueTerm) (path : List Turn) (v : ValueTerm) (b : BasicTerm) → PlainTree t b
-    → handled c t σ path (set_act v) ≡ set_plan (type_at (node_at t path)) v (λ a. at (put_at t path (edit_tree a v)) σ)
+    → handled c t σ path (set_act v) ≡ set_plan (type_at (inner_node_at t path)) v (λ a. at (put_at t path (edit_tree a v)) σ)
 handled_set c (edit_tree a w) σ [] v b h = refl
 handled_set c (edit_tree a w) σ (x ∷ path) v b h = refl
 handled_set c (enter_tree a) σ [] v b h = refl
 handled_set c (enter_tree a) σ (x ∷ path) v b h = refl
 handled_set c (and_tree t u) σ [] v b h = refl
 handled_set c (and_tree t u) σ (turns.First ∷ path) v b h =
-    ap (λ p. rebuilds p (λ t'. and_tree t' u)) (handled_set c t σ path v h.0 h.3) ∙ set_plan-rebuilds (type_at (node_at t path)) v (λ a. at (put_at t path (edit_tree a v)) σ) (λ t'. and_tree t' u)
+    ap (λ p. rebuilds p (λ t'. and_tree t' u)) (handled_set c t σ path v h.0 h.3) ∙ set_plan-rebuilds (type_at (inner_node_at t path)) v
+    (λ a. at (put_at t path (edit_tree a v)) σ) (λ t'. and_tree t' u)
 handled_set c (and_tree t u) σ (turns.Second ∷ path) v b h =
-    ap (λ p. rebuilds p (λ u'. and_tree t u')) (handled_set c u σ path v h.1 h.4) ∙ set_plan-rebuilds (type_at (node_at u path)) v (λ a. at (put_at u path (edit_tree a v)) σ) (λ u'. and_tree t u')
+    ap (λ p. rebuilds p (λ u'. and_tree t u')) (handled_set c u σ path v h.1 h.4) ∙ set_plan-rebuilds (type_at (inner_node_at u path)) v
+    (λ a. at (put_at u path (edit_tree a v)) σ) (λ u'. and_tree t u')
 handled_set c t σ path v b h = absurd h
 
 -- an act that sets nothing
@@ -59,15 +62,18 @@ abbrev pub IsOther : ActTerm → Type 0
 IsOther (set_act v) = ⊥
 IsOther act = Unit {0}
 
-handled_other : (c : CheckedTerm) (t : TreeTerm) (σ : List ValueTerm) (path : List Turn) (act : ActTerm) (b : BasicTerm) → IsOther act → PlainTree t b → handled c t σ path act ≡ give None
+handled_other : (c : CheckedTerm) (t : TreeTerm) (σ : List ValueTerm) (path : List Turn) (act : ActTerm) (b : BasicTerm) → IsOther act
+    → PlainTree t b → handled c t σ path act ≡ give None
 handled_other c t σ path (set_act v) b o h = absurd o
 handled_other c (edit_tree a w) σ [] act b o h = refl
 handled_other c (edit_tree a w) σ (x ∷ path) act b o h = refl
 handled_other c (enter_tree a) σ [] act b o h = refl
 handled_other c (enter_tree a) σ (x ∷ path) act b o h = refl
 handled_other c (and_tree t u) σ [] act b o h = refl
-handled_other c (and_tree t u) σ (turns.First ∷ path) act b o h = ap (λ p. rebuilds p (λ t'. and_tree t' u)) (handled_other c t σ path act h.0 o h.3)
-handled_other c (and_tree t u) σ (turns.Second ∷ path) act b o h = ap (λ p. rebuilds p (λ u'. and_tree t u')) (handled_other c u σ path act h.1 o h.4)
+handled_other c (and_tree t u) σ (turns.First ∷ path) act b o h = ap (λ p. rebuilds p (λ t'. and_tree t' u))
+    (handled_other c t σ path act h.0 o h.3)
+handled_other c (and_tree t u) σ (turns.Second ∷ path) act b o h = ap (λ p. rebuilds p (λ u'. and_tree t u'))
+    (handled_other c u σ path act h.1 o h.4)
 handled_other c t σ path act b o h = absurd h
 
 -- ---- trees stay plain
@@ -75,7 +81,8 @@ is_int : (v : ValueTerm) (b : BasicTerm) → value_has v int_type ≡ true → b
 is_int (int_value i) b e h = h
 is_int v b e h = absurd (cc)
 
-plain_put : (t : TreeTerm) (path : List Turn) (a : BasicTerm) (v : ValueTerm) (b : BasicTerm) → PlainTree t b → type_at (node_at t path) ≡ Some a → value_has v a ≡ true → PlainTree (put_at t path (edit_tree a v)) b
+plain_put : (t : TreeTerm) (path : List Turn) (a : BasicTerm) (v : ValueTerm) (b : BasicTerm) → PlainTree t b
+    → type_at (inner_node_at t path) ≡ Some a → value_has v a ≡ true → PlainTree (put_at t path (edit_tree a v)) b
 plain_put (edit_tree int_type (int_value i)) [] a v b h e has =
     let same : int_type ≡ a = cc in
     subst (λ z. value_has v z ≡ true → PlainTree (edit_tree z v) b) same (λ q. is_int v b q h) has
@@ -95,26 +102,31 @@ some_node (Some t) a e = refl
 
 -- ---- judging
 module _ (t : TreeTerm) (b : BasicTerm) (h : PlainTree t b) where
-  pub sets : (i : InputTerm) (v : ValueTerm) (a : BasicTerm) → i.act ≡ set_act v → type_at (node_at t i.path) ≡ Some a → value_has v a ≡ true → Sets t i (edit_tree a v)
+  pub sets : (i : InputTerm) (v : ValueTerm) (a : BasicTerm) → i.act ≡ set_act v → type_at (inner_node_at t i.path) ≡ Some a
+      → value_has v a ≡ true → Sets t i (edit_tree a v)
   sets i v a k e has = record {
-    there = some_node (node_at t i.path) a e;
+    there = some_node (inner_node_at t i.path) a e;
     handled = λ c σ.
         subst (λ act. handled c t σ i.path act ≡ give (Some (at (put_at t i.path (edit_tree a v)) σ))) (sym k)
-        (handled_set c t σ i.path v b h ∙ ap (λ o. set_plan o v (λ z. at (put_at t i.path (edit_tree z v)) σ)) e ∙ ap (λ q. if_typed q (at (put_at t i.path (edit_tree a v)) σ)) has);
+        (handled_set c t σ i.path v b h ∙ ap (λ o. set_plan o v (λ z. at (put_at t i.path (edit_tree z v)) σ)) e
+        ∙ ap (λ q. if_typed q (at (put_at t i.path (edit_tree a v)) σ)) has);
     plain = λ b' h'. plain_put t i.path a v b' h' e has;
   }
 
-  pub lacks_type : (i : InputTerm) (v : ValueTerm) (a : BasicTerm) → i.act ≡ set_act v → type_at (node_at t i.path) ≡ Some a → value_has v a ≡ false → IsLacking t i
+  pub lacks_type : (i : InputTerm) (v : ValueTerm) (a : BasicTerm) → i.act ≡ set_act v → type_at (inner_node_at t i.path) ≡ Some a
+      → value_has v a ≡ false → IsLacking t i
   lacks_type i v a k e has = record {
     handled = λ c σ.
         subst (λ act. handled c t σ i.path act ≡ give None) (sym k)
-        (handled_set c t σ i.path v b h ∙ ap (λ o. set_plan o v (λ z. at (put_at t i.path (edit_tree z v)) σ)) e ∙ ap (λ q. if_typed q (at (put_at t i.path (edit_tree a v)) σ)) has);
+        (handled_set c t σ i.path v b h ∙ ap (λ o. set_plan o v (λ z. at (put_at t i.path (edit_tree z v)) σ)) e
+        ∙ ap (λ q. if_typed q (at (put_at t i.path (edit_tree a v)) σ)) has);
   }
 
-  pub lacks_editor : (i : InputTerm) (v : ValueTerm) → i.act ≡ set_act v → type_at (node_at t i.path) ≡ None → IsLacking t i
+  pub lacks_editor : (i : InputTerm) (v : ValueTerm) → i.act ≡ set_act v → type_at (inner_node_at t i.path) ≡ None → IsLacking t i
   lacks_editor i v k e = record {
     handled = λ c σ.
-        subst (λ act. handled c t σ i.path act ≡ give None) (sym k) (handled_set c t σ i.path v b h ∙ ap (λ o. set_plan o v (λ z. at (put_at t i.path (edit_tree z v)) σ)) e);
+        subst (λ act. handled c t σ i.path act ≡ give None) (sym k)
+        (handled_set c t σ i.path v b h ∙ ap (λ o. set_plan o v (λ z. at (put_at t i.path (edit_tree z v)) σ)) e);
   }
 
   pub lacks_set : (i : InputTerm) → IsOther i.act → IsLacking t i
@@ -128,13 +140,15 @@ other_act acts.Left h = tt
 other_act acts.Right h = tt
 
 -- ---- putting a node back
-pub node_at-put_at : (t : TreeTerm) (path : List Turn) (node : TreeTerm) → IsSome (node_at t path) → node_at (put_at t path node) path ≡ Some node
+pub node_at-put_at : (t : TreeTerm) (path : List Turn) (node : TreeTerm) → IsSome (inner_node_at t path)
+    → inner_node_at (put_at t path node) path ≡ Some node
 node_at-put_at t [] node h = refl
 node_at-put_at (and_tree t u) (turns.First ∷ path) node h = node_at-put_at t path node h
 node_at-put_at (and_tree t u) (turns.Second ∷ path) node h = node_at-put_at u path node h
 node_at-put_at t path node h = absurd (cc)
 
-pub put_at-put_at : (t : TreeTerm) (path : List Turn) (node old : TreeTerm) → node_at t path ≡ Some old → put_at (put_at t path node) path old ≡ t
+pub put_at-put_at : (t : TreeTerm) (path : List Turn) (node old : TreeTerm) → inner_node_at t path ≡ Some old
+    → put_at (put_at t path node) path old ≡ t
 put_at-put_at t [] node old e = cc
 put_at-put_at (and_tree t u) (turns.First ∷ path) node old e = ap (λ z. and_tree z u) (put_at-put_at t path node old e)
 put_at-put_at (and_tree t u) (turns.Second ∷ path) node old e = ap (λ z. and_tree t z) (put_at-put_at u path node old e)
@@ -142,15 +156,35 @@ put_at-put_at t path node old e = absurd (cc)
 
 -- ---- outcomes
 module _ (c : CheckedTerm) (budget : ℕ) (s : State) (i : InputTerm) where
-  taken_by : (t : State) (n h : ℕ) → handles c s i ≡ give (Some t) → Settles c t t n h → Within budget n h → IsTaken c budget s i t
+  taken_by : (t : State) (n h : ℕ) → handles c s i ≡ give (Some t) → Settles c t t n h → IsWithinBudget budget n h → IsTaken c budget s i t
   taken_by t n h e d w =
-      let two : work (Derives (rule_of c)) (ask (settles t) (λ x. give (Some x))) (Some t) n h = record { middle = t; n1 = n; h1 = h; n2 = 0; h2 = 0; one = d; two = record { value = refl; units = refl; height = refl }; units = omega arith; height = omega arith } in
-      (n, h, subst (λ p. work (Derives (rule_of c)) (after p settled) (Some t) n h) (sym e) two, w)
+      let two : plan_work (Derives (rule_of c)) (ask (settles t) (λ x. give (Some x))) (Some t) n h = record {
+        middle = t;
+        n1 = n;
+        h1 = h;
+        n2 = 0;
+        h2 = 0;
+        one = d;
+        two = record {
+          value = refl;
+          units = refl;
+          height = refl;
+        };
+        units = omega arith;
+        height = omega arith;
+      } in
+      (n, h, subst (λ p. plan_work (Derives (rule_of c)) (after p settled) (Some t) n h) (sym e) two, w)
 
-  over_by : (t : State) → handles c s i ≡ give (Some t) → ((u : State) (n h : ℕ) → Settles c t u n h → Within budget n h → ⊥) → IsOutcome c budget s i over_budget
-  over_by t e none = (λ u q. by_settling u q.0 q.1 (subst (λ p. work (Derives (rule_of c)) (after p settled) (Some u) q.0 q.1) e q.2) q.3, λ l. by_lacking l.0 l.1 (subst (λ p. work (Derives (rule_of c)) p None l.0 l.1) e l.2))
+  over_by : (t : State) → handles c s i ≡ give (Some t) → ((u : State) (n h : ℕ) → Settles c t u n h → IsWithinBudget budget n h → ⊥)
+      → IsOutcome c budget s i over_budget
+  over_by t e none = (
+    λ u q. by_settling u q.0 q.1 (subst (λ p. plan_work (Derives (rule_of c)) (after p settled) (Some u) q.0 q.1) e q.2)
+        q.3,
+    λ l. by_lacking l.0 l.1 (subst (λ p. plan_work (Derives (rule_of c)) p None l.0 l.1) e l.2),
+  )
     where
-      by_settling : (u : State) (n h : ℕ) → work (Derives (rule_of c)) (ask (settles t) (λ x. give (Some x))) (Some u) n h → Within budget n h → ⊥
+      by_settling : (u : State) (n h : ℕ) → plan_work (Derives (rule_of c)) (ask (settles t) (λ x. give (Some x))) (Some u) n h
+          → IsWithinBudget budget n h → ⊥
       by_settling u n h d w =
           let du = d.units in
           let dh = d.height in
@@ -158,21 +192,33 @@ module _ (c : CheckedTerm) (budget : ℕ) (s : State) (i : InputTerm) where
           let wh = w.height in
           none d.middle d.n1 d.h1 d.one (record { units = omega arith; height = omega arith })
 
-      by_lacking : (n h : ℕ) → work (Derives (rule_of c)) (give (Some t)) None n h → ⊥
+      by_lacking : (n h : ℕ) → plan_work (Derives (rule_of c)) (give (Some t)) None n h → ⊥
       by_lacking n h d = let e' = d.value in cc
 
   pub not_offered_by : handles c s i ≡ give None → IsOutcome c budget s i not_offered
-  not_offered_by e = (0, 0, subst (λ p. work (Derives (rule_of c)) p None 0 0) (sym e) (record { value = refl; units = refl; height = refl }), record { units = omega arith; height = omega arith })
+  not_offered_by e = (
+    0,
+    0,
+    subst (λ p. plan_work (Derives (rule_of c)) p None 0 0) (sym e) (record {
+      value = refl;
+      units = refl;
+      height = refl;
+    }),
+    record { units = omega arith; height = omega arith },
+  )
 
   -- the settling of the state that an input leads to, with a purse of the budget
-  pub taken_spends : (t : State) (old new : Left) → old.units ≡ budget → old.height ≡ 1000 → handles c s i ≡ give (Some t) → Spends (Settles c t) (λ (u : Unit {0}). t) old new (Ok tt) → IsOutcome c budget s i (taken t)
+  pub taken_spends : (t : State) (old new : Left) → old.units ≡ budget → old.height ≡ 1000 → handles c s i ≡ give (Some t)
+      → Spends (Settles c t) (λ (u : Unit {0}). t) old new (Ok tt) → IsOutcome c budget s i (taken t)
   taken_spends t old new bu bh e p =
       let le = p.3 in
       let un = p.4 in
       taken_by t p.0 p.1 e p.2 (record { units = omega arith; height = omega arith })
 
-  pub over_spends : (t : State) (old new : Left) → old.units ≡ budget → old.height ≡ 1000 → handles c s i ≡ give (Some t) → Spends {X = Unit {0}} (Settles c t) (λ u. t) old new (Err Over) → IsOutcome c budget s i over_budget
-  over_spends t old new bu bh e p = over_by t e (λ u n h d w. let wu = w.units in let wh = w.height in p u n h d (omega arith) (omega arith))
+  pub over_spends : (t : State) (old new : Left) → old.units ≡ budget → old.height ≡ 1000 → handles c s i ≡ give (Some t)
+      → Spends {X = Unit {0}} (Settles c t) (λ u. t) old new (Err Over) → IsOutcome c budget s i over_budget
+  over_spends t old new bu bh e p = over_by t e (λ u n h d w. let wu = w.units in let wh = w.height in
+      p u n h d (omega arith) (omega arith))
 
 -- ---- acting
 module _ (t : TreeTerm) (budget : ℕ) (i : InputTerm) where
@@ -181,15 +227,20 @@ module _ (t : TreeTerm) (budget : ℕ) (i : InputTerm) where
   acts_judged acts_over.Over l = absurd l
   acts_judged acts_over.Memory l = refl
 
-  module _ (node new : TreeTerm) (s : Sets t i node) (e : new ≡ put_at t i.path node) (l l' : Left) (lu : l.units ≡ budget) (lh : l.height ≡ 1000) where
+  module _ (node new : TreeTerm) (s : Sets t i node) (e : new ≡ put_at t i.path node) (l l' : Left) (lu : l.units ≡ budget)
+      (lh : l.height ≡ 1000) where
     leads : (c : CheckedTerm) (σ : List ValueTerm) → handles c (at t σ) i ≡ give (Some (at new σ))
     leads c σ = s.handled c σ ∙ ap (λ u. give (Some (at u σ))) (sym e)
 
-    pub acts_taken : ((c : CheckedTerm) (σ : List ValueTerm) → Spends {X = Unit {0}} (Settles c (at new σ)) (λ u. at new σ) l l' (Ok tt)) → Acts t budget i new (Ok tt)
+    pub acts_taken : ((c : CheckedTerm) (σ : List ValueTerm) → Spends {X = Unit {0}} (Settles c (at new σ)) (λ u. at new σ) l l' (Ok tt))
+        → Acts t budget i new (Ok tt)
     acts_taken p = λ c σ. taken_spends c budget (at t σ) i (at new σ) l l' lu lh (leads c σ) (p c σ)
 
-    pub acts_stopped : (back : TreeTerm) → back ≡ t → (s : Stop) (r : ActStop) → (s ≡ Over → r ≡ acts_over.Over) → (s ≡ Memory → r ≡ acts_over.Memory)
-        → ((c : CheckedTerm) (σ : List ValueTerm) → Spends {X = Unit {0}} (Settles c (at new σ)) (λ u. at new σ) l l' (Err s)) → Acts t budget i back (Err r)
+    pub acts_stopped : (back : TreeTerm) → back ≡ t → (s : Stop) (r : ActStop) → (s ≡ Over → r ≡ acts_over.Over)
+        → (s ≡ Memory → r ≡ acts_over.Memory)
+        → ((c : CheckedTerm) (σ : List ValueTerm) → Spends {X = Unit {0}} (Settles c (at new σ)) (λ u. at new σ) l l' (Err s))
+        → Acts t budget i back (Err r)
     acts_stopped back same Over r over memory p =
-        subst (λ z. Acts t budget i back (Err z)) (sym (over refl)) (λ c σ. over_spends c budget (at t σ) i (at new σ) l l' lu lh (leads c σ) (p c σ), same)
+        subst (λ z. Acts t budget i back (Err z)) (sym (over refl))
+        (λ c σ. over_spends c budget (at t σ) i (at new σ) l l' lu lh (leads c σ) (p c σ), same)
     acts_stopped back same Memory r over memory p = subst (λ z. Acts t budget i back (Err z)) (sym (memory refl)) same

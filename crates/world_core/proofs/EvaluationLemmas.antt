@@ -13,16 +13,17 @@ use Rattle.task_model.specs.Task.{edit}
 use Rattle.task_model.specs.Tree.{edit_tree}
 use Rattle.task_model.specs.Checked.{CheckedTerm}
 use Rattle.task_model.specs.Rules.{value_rule}
-use Rattle.task_model.specs.Calls.{Ran}
+use Rattle.task_model.specs.Calls.{RunsPlan}
 use Rattle.task_model.specs.Accepted.{PlainType}
 use Rattle.task_model.specs.declared.basic.Basic.{Basic}
 use Rattle.task_model.specs.declared.value.Value.{Value}
 use Rattle.task_model.proofs.RanLemmas.{ran_give}
 use Rattle.task_model.specs.PlainTree.{PlainTree}
-use Rattle.world_core.specs.PlainTree.{HasNumber, IsInt, MayEvaluate}
+use Rattle.world_core.specs.InnerTree.{HasNumber, IsInt, MayEvaluate}
 
 -- a number's expression gives its value
-pub number_ran : {c : CheckedTerm} {old : Left} (e : HostTerm) (env : EnvTerm) (σ : List ValueTerm) (v : Value) → HasNumber e (value_term v) → Ran c (value_rule c e env σ) value_term old old (Ok v)
+pub number_ran : {c : CheckedTerm} {old : Left} (e : HostTerm) (env : EnvTerm) (σ : List ValueTerm) (v : Value) → HasNumber e (value_term v)
+    → RunsPlan c (value_rule c e env σ) value_term old old (Ok v)
 number_ran (int_expr i) env σ v h = ran_give h
 number_ran e env σ v h = absurd h
 
@@ -40,13 +41,15 @@ pub node_type : (c : CheckedTerm) (e : HostTerm) (first : ℕ) → MayEvaluate c
 node_type c e first m = let w = m.within in replicated (length c.types) first c.types m.ints (omega arith)
 
 -- and so is the type that was read there
-pub read_type : (c : CheckedTerm) (e : HostTerm) (first : ℕ) (types : List Basic) (b : Basic) → MayEvaluate c (edit e) first → c.types ≡ map basic_term types → b ≡ get_or types first b → basic_term b ≡ int_type
+pub read_type : (c : CheckedTerm) (e : HostTerm) (first : ℕ) (types : List Basic) (b : Basic) → MayEvaluate c (edit e) first
+    → c.types ≡ map basic_term types → b ≡ get_or types first b → basic_term b ≡ int_type
 read_type c e first types b m same is =
     let w = m.within in
     let n = ap length same ∙ length-map types basic_term in
     let lt : first < length types = omega arith in
     let here : slice_get types first ≡ Some b = slice_get_read types (length types) first b refl lt is in
-    let there : slice_get (map basic_term types) first ≡ Some (basic_term b) = slice_get-map basic_term types first ∙ ap (option_map basic_term) here in
+    let there : slice_get (map basic_term types) first ≡ Some (basic_term b) = slice_get-map basic_term types first
+    ∙ ap (option_map basic_term) here in
     let both : Some (basic_term b) ≡ Some int_type = sym there ∙ ap (λ l. slice_get l first) (sym same) ∙ node_type c e first m in
     cc
 
@@ -55,6 +58,7 @@ int_tree a b (int_value j) same h p = subst (λ z. PlainTree (edit_tree z (int_v
 int_tree a b v same h p = absurd h
 
 -- a plain `edit` makes a plain tree
-pub plain_edit : (e : HostTerm) (a b : BasicTerm) (v : ValueTerm) → a ≡ int_type → IsInt v → PlainType (edit e) b → PlainTree (edit_tree a v) b
+pub plain_edit : (e : HostTerm) (a b : BasicTerm) (v : ValueTerm) → a ≡ int_type → IsInt v → PlainType (edit e) b
+    → PlainTree (edit_tree a v) b
 plain_edit (int_expr i) a b v same h p = int_tree a b v same h p
 plain_edit e a b v same h p = absurd p

@@ -29,8 +29,8 @@ use Rattle.task_model.specs.declared.purse.Stop.TheVariants.{Over, Memory}
 use Rattle.task_model.proofs.OutcomeLemmas.{lead_to_more}
 use Rattle.task_model.proofs.OfferLemmas.{widgets_exist}
 use Rattle.task_model.specs.PlainTree.{PlainTree, IsSmallTree}
-use Rattle.world_core.specs.PlainTree.{tree_nodes}
-use Rattle.world_core.specs.World.{SeenWorld, WorldTerm, world_term, IsStanding, with_entry, Replies, IsPage}
+use Rattle.world_core.specs.InnerTree.{tree_nodes}
+use Rattle.world_core.specs.World.{SeenWorld, WorldTerm, world_term, IsStanding, with_entry, Replies, IsWorldPage}
 use Rattle.world_core.specs.Acting.{Acts}
 use Rattle.world_core.specs.Inside.{IsKept}
 
@@ -38,7 +38,8 @@ use Rattle.world_core.specs.Inside.{IsKept}
 plain_nodes : (t : TreeTerm) (b : BasicTerm) → PlainTree t b → tree_nodes t ≡ symbols_of b
 plain_nodes (edit_tree int_type (int_value i)) b h = ap symbols_of (sym h)
 plain_nodes (enter_tree int_type) b h = ap symbols_of (sym h)
-plain_nodes (and_tree t u) b h = let x = plain_nodes t h.0 h.3 in let y = plain_nodes u h.1 h.4 in let e : suc (tree_nodes t + tree_nodes u) ≡ suc (symbols_of h.0 + symbols_of h.1) = omega arith in e ∙ ap symbols_of (sym h.2)
+plain_nodes (and_tree t u) b h = let x = plain_nodes t h.0 h.3 in let y = plain_nodes u h.1 h.4 in let e : suc (tree_nodes t + tree_nodes u)
+    ≡ suc (symbols_of h.0 + symbols_of h.1) = omega arith in e ∙ ap symbols_of (sym h.2)
 plain_nodes t b h = absurd h
 
 pub few_nodes : (t : TreeTerm) → IsSmallTree t → tree_nodes t ≤ 64
@@ -59,7 +60,8 @@ pub standing_version : (w : WorldTerm) → IsStanding w → length w.history ≡
 standing_version w s = ap length s.begins ∙ ap suc (sym (version_length s.entries s.seats)) ∙ ap (λ h. suc (version_of h)) (sym s.begins)
 
 -- ---- one entry more
-pub standing_more : (w : WorldTerm) (e : EntryTerm) (t : State) → IsStanding w → IsSeat e.seat → IsTaken w.checked w.budget w.state e.input t → IsStanding (with_entry w e t)
+pub standing_more : (w : WorldTerm) (e : EntryTerm) (t : State) → IsStanding w → IsSeat e.seat
+    → IsTaken w.checked w.budget w.state e.input t → IsStanding (with_entry w e t)
 standing_more w e t s seat d = record {
   accepted = s.accepted;
   budget = s.budget;
@@ -70,9 +72,11 @@ standing_more w e t s seat d = record {
 }
 
 -- ---- the opening
-pub opening_never : {X : Type 0} (view : X → State) (c : CheckedTerm) (budget : ℕ) (old new : Left) (stop : Stop) → old.units ≡ budget → old.height ≡ 1000 → stop ≡ Over
+pub opening_never : {X : Type 0} (view : X → State) (c : CheckedTerm) (budget : ℕ) (old new : Left) (stop : Stop) → old.units ≡ budget
+    → old.height ≡ 1000 → stop ≡ Over
     → Spends (Normal c (call_task main_name []) empty_env []) view old new (Err stop) → (s : State) → IsOpening c budget s → ⊥
-opening_never view c budget old new Over bu bh e p s o = let w = o.3 in let wu = w.units in let wh = w.height in p s o.0 o.1 o.2 (omega arith) (omega arith)
+opening_never view c budget old new Over bu bh e p s o = let w = o.3 in let wu = w.units in let wh = w.height in
+    p s o.0 o.1 o.2 (omega arith) (omega arith)
 opening_never view c budget old new Memory bu bh e p s o = absurd (cc)
 
 -- ---- what a standing world shows
@@ -82,14 +86,15 @@ standing_state w s = subst (λ h. IsState h w.state) (sym s.begins) (w.checked.t
 pub standing_legal : (w : WorldTerm) → IsStanding w → IsLegal w.history
 standing_legal w s = subst IsLegal (sym s.begins) (s.budget, s.seats, (w.state, (w.checked.types, s.accepted, s.reached)))
 
-pub standing_terminal : (w : WorldTerm) (seat : ℕ) (text : Text) → IsStanding w → IsPage w seat text → IsTerminal w.history seat text
+pub standing_terminal : (w : WorldTerm) (seat : ℕ) (text : Text) → IsStanding w → IsWorldPage w seat text → IsTerminal w.history seat text
 standing_terminal w seat text s p =
     subst (λ h. IsTerminal h seat text) (sym s.begins)
     (p.0, (w.checked.types, w.state, s.accepted, s.reached, p.1), p.2 ∙ ap (λ h. page_text (version_of h) seat p.0) s.begins)
 
 -- a text that is the page of any widgets of the tree is the world's page
 pub page_of : (w : WorldTerm) (seat version : ℕ) (text : Text) → version ≡ version_of w.history
-    → ((c : CheckedTerm) (budget : ℕ) (σ : List ValueTerm) (ws : List WidgetTerm) → AreWidgets c budget w.state.tree σ ws → text ≡ page_text version seat ws) → IsPage w seat text
+    → ((c : CheckedTerm) (budget : ℕ) (σ : List ValueTerm) (ws : List WidgetTerm) → AreWidgets c budget w.state.tree σ ws
+    → text ≡ page_text version seat ws) → IsWorldPage w seat text
 page_of w seat version text e h =
     let ws = widgets_exist w.checked w.budget w.state.tree w.state.store in
     (ws.0, ws.1, h w.checked w.budget w.state.store ws.0 ws.1 ∙ ap (λ v. page_text v seat ws.0) e)
@@ -101,31 +106,60 @@ world_with w history tree = record { checked = w.checked; budget = w.budget; his
 module _ (w : SeenWorld) (history : List Item) (tree : Tree) (e : Entry) where
   same_world : history ≡ w.history → tree_term tree ≡ tree_term w.tree → world_term (world_with w history tree) ≡ world_term w
   same_world p q =
-      ap (λ h. record { checked = checked_term w.checked; budget = w.budget; history = history_term h; state = at (tree_term tree) (map value_term w.store) }) p
-      ∙ ap (λ t. record { checked = checked_term w.checked; budget = w.budget; history = history_term w.history; state = at t (map value_term w.store) }) q
+      ap (λ h. record {
+        checked = checked_term w.checked;
+        budget = w.budget;
+        history = history_term h;
+        state = at (tree_term tree) (map value_term w.store);
+      }) p
+      ∙ ap (λ t. record {
+        checked = checked_term w.checked;
+        budget = w.budget;
+        history = history_term w.history;
+        state = at t (map value_term w.store);
+      }) q
 
-  grown_world : history ≡ w.history ++ item_kinds.Took e ∷ [] → world_term (world_with w history tree) ≡ with_entry (world_term w) (entry_term e) (at (tree_term tree) (map value_term w.store))
+  grown_world : history ≡ w.history ++ item_kinds.Took e ∷ [] → world_term (world_with w history tree)
+      ≡ with_entry (world_term w) (entry_term e) (at (tree_term tree) (map value_term w.store))
   grown_world p =
-      ap (λ h. record { checked = checked_term w.checked; budget = w.budget; history = h; state = at (tree_term tree) (map value_term w.store) })
+      ap (λ h. record {
+        checked = checked_term w.checked;
+        budget = w.budget;
+        history = h;
+        state = at (tree_term tree) (map value_term w.store);
+      })
       (ap history_term p ∙ map-append item_term w.history (item_kinds.Took e ∷ []))
 
-  pub refuses : (s : ActStop) → history ≡ w.history → Acts (tree_term w.tree) w.budget (input_term e.input) (tree_term tree) (Err s) → Replies (world_term w) (entry_term e) (world_term (world_with w history tree)) (Err s)
+  pub refuses : (s : ActStop) → history ≡ w.history → Acts (tree_term w.tree) w.budget (input_term e.input) (tree_term tree) (Err s)
+      → Replies (world_term w) (entry_term e) (world_term (world_with w history tree)) (Err s)
   refuses act_stops.NotOffered p a = (a.0 (checked_term w.checked) (map value_term w.store), same_world p a.1)
   refuses act_stops.Over p a = (a.0 (checked_term w.checked) (map value_term w.store), same_world p a.1)
   refuses act_stops.Memory p a = same_world p a
 
-  module _ (k : IsKept w) (seat : IsSeat e.seat) (p : history ≡ w.history ++ item_kinds.Took e ∷ []) (a : Acts (tree_term w.tree) w.budget (input_term e.input) (tree_term tree) (Ok tt)) where
-    taken_here : IsTaken (checked_term w.checked) w.budget (world_term w).state (input_term e.input) (at (tree_term tree) (map value_term w.store))
+  module _ (k : IsKept w) (seat : IsSeat e.seat) (p : history ≡ w.history ++ item_kinds.Took e ∷ [])
+      (a : Acts (tree_term w.tree) w.budget (input_term e.input) (tree_term tree) (Ok tt)) where
+    taken_here : IsTaken (checked_term w.checked) w.budget (world_term w).state (input_term e.input)
+        (at (tree_term tree) (map value_term w.store))
     taken_here = a (checked_term w.checked) (map value_term w.store)
 
     grown_standing : IsStanding (world_term (world_with w history tree))
-    grown_standing = subst IsStanding (sym (grown_world p)) (standing_more (world_term w) (entry_term e) (at (tree_term tree) (map value_term w.store)) k.standing seat taken_here)
+    grown_standing = subst IsStanding (sym (grown_world p))
+        (standing_more (world_term w) (entry_term e) (at (tree_term tree) (map value_term w.store)) k.standing seat taken_here)
 
     pub keeps : ((b : BasicTerm) → PlainTree (tree_term w.tree) b → PlainTree (tree_term tree) b) → IsKept (world_with w history tree)
-    keeps plain = record { standing = grown_standing; tree = record { type = k.tree.type; plain = plain k.tree.type k.tree.plain; small = k.tree.small }; store = k.store }
+    keeps plain = record {
+      standing = grown_standing;
+      tree = record {
+        type = k.tree.type;
+        plain = plain k.tree.type k.tree.plain;
+        small = k.tree.small;
+      };
+      store = k.store;
+    }
 
     -- the answer of an input that was taken
-    pub takes : (version : ℕ) → suc version ≡ length history → Replies (world_term w) (entry_term e) (world_term (world_with w history tree)) (Ok (record { version = version }))
+    pub takes : (version : ℕ) → suc version ≡ length history
+        → Replies (world_term w) (entry_term e) (world_term (world_with w history tree)) (Ok (record { version = version }))
     takes version same =
         let grown = standing_version (world_term (world_with w history tree)) grown_standing in
         let long = length-map history item_term in

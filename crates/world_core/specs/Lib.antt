@@ -1,4 +1,4 @@
-pub mod PlainTree
+pub mod InnerTree
 pub mod World
 pub mod Drawing
 pub mod Acting

@@ -58,12 +58,13 @@ with_entry w e t = record { checked = w.checked; budget = w.budget; history = w.
 -- The answer to an input is its outcome at the state of the history. A taken one is appended; a refused one leaves all.
 abbrev pub Replies : WorldTerm → EntryTerm → WorldTerm → Result Taken ActStop → Type 0
 Replies old e new (Ok done) =
-    (t : State) × IsOutcome old.checked old.budget old.state e.input (taken t) × (new ≡ with_entry old e t) × (done.version ≡ version_of new.history)
+    (t : State) × IsOutcome old.checked old.budget old.state e.input (taken t) × (new ≡ with_entry old e t)
+    × (done.version ≡ version_of new.history)
 Replies old e new (Err NotOffered) = IsOutcome old.checked old.budget old.state e.input not_offered × (new ≡ old)
 Replies old e new (Err Over) = IsOutcome old.checked old.budget old.state e.input over_budget × (new ≡ old)
 Replies old e new (Err Memory) = new ≡ old
 
 -- the terminal page of a world for a seat
-abbrev pub IsPage : WorldTerm → ℕ → Text → Type 0
-IsPage w seat text =
+abbrev pub IsWorldPage : WorldTerm → ℕ → Text → Type 0
+IsWorldPage w seat text =
     (ws : List WidgetTerm) × AreWidgets w.checked w.budget w.state.tree w.state.store ws × (text ≡ page_text (version_of w.history) seat ws)

@@ -8,19 +8,18 @@ ghost use Rattle.world_core.specs.Acting.{Judges, Acts};
 
 use crate::editing::{put_node, type_at};
 use crate::settling::settle;
-use std::alloc::Global;
 use task_model::{
     Act, ActStop, Basic, Input, OutOfMemory, Purse, Stop, Tree, Value, copy_basic, copy_value,
     value_has,
 };
 
 /// Does what an input asks for, if the tree offers it within the budget. A refusal leaves the tree.
-pub(crate) fn act(alloc: Global, tree: &mut Tree, budget: u32, input: &Input) -> Result<(), ActStop>
+pub(crate) fn act(tree: &mut Tree, budget: u32, input: &Input) -> Result<(), ActStop>
     requires { (b : BasicTerm) × PlainTree (tree_term tree.old) b }
     ensures acts { Acts (tree_term tree.old) budget (input_term input.now) (tree_term tree.new) result }
     ensures plain { (b : BasicTerm) → PlainTree (tree_term tree.old) b → PlainTree (tree_term tree.new) b }
 {
-    let node = judge(alloc, tree, input)?;
+    let node = judge(tree, input)?;
     let path = input.path.turns.as_slice();
     let old = put_node(tree, path, node);
     match settle(tree, &mut Purse::new(budget)) {
@@ -33,7 +32,7 @@ pub(crate) fn act(alloc: Global, tree: &mut Tree, budget: u32, input: &Input) ->
 }
 
 // The node that an input puts in its place.
-fn judge(alloc: Global, tree: &Tree, input: &Input) -> Result<Tree, ActStop>
+fn judge(tree: &Tree, input: &Input) -> Result<Tree, ActStop>
     requires { (b : BasicTerm) × PlainTree (tree_term tree.now) b }
     ensures { Judges (tree_term tree.now) (input_term input.now) result }
 {
@@ -46,18 +45,15 @@ fn judge(alloc: Global, tree: &Tree, input: &Input) -> Result<Tree, ActStop>
     if !value_has(v, b) {
         return Err(ActStop::NotOffered);
     }
-    match edited(alloc, b, v) {
-        Ok(node) => Ok(node),
-        Err(OutOfMemory) => Err(ActStop::Memory),
-    }
+    Ok(edited(b, v)?)
 }
 
 // An editor with this value.
-fn edited(alloc: Global, b: &Basic, v: &Value) -> Result<Tree, OutOfMemory>
+fn edited(b: &Basic, v: &Value) -> Result<Tree, OutOfMemory>
     ensures { IfOk result (λ t. tree_term t ≡ edit_tree (basic_term b.now) (value_term v.now)) }
 {
-    let b = copy_basic(alloc, b)?;
-    Ok(Tree::Edit(b, copy_value(alloc, v)?))
+    let b = copy_basic(b)?;
+    Ok(Tree::Edit(b, copy_value(v)?))
 }
 
 fn refused(stop: Stop) -> ActStop

@@ -7,7 +7,7 @@ ghost use Rattle.task_model.specs.Checked.{CheckedTerm};
 ghost use Rattle.task_model.specs.Widget.{WidgetTerm, AreWidgets};
 ghost use Rattle.task_model.specs.Page.{turns_text, path_text, widget_lines, head_text, page_text};
 ghost use Rattle.task_model.specs.PlainTree.{PlainTree};
-ghost use Rattle.world_core.specs.PlainTree.{IsInt};
+ghost use Rattle.world_core.specs.InnerTree.{IsInt};
 ghost use Rattle.world_core.specs.Drawing.{all_below};
 
 use itoa::Buffer;
@@ -28,7 +28,7 @@ pub(crate) fn draw_page(
     let mut text = String::new(alloc);
     draw_head(&mut text, version, seat)?;
     draw_tree(t, &mut Row::new(alloc), &mut text)?;
-    Ok(TaskText::of_string(text))
+    TaskText::of_string(text)
 }
 
 fn draw_head(text: &mut String, version: u64, seat: u8) -> Result<(), OutOfMemory>
@@ -124,8 +124,5 @@ fn push_number(text: &mut String, v: &Value) -> Result<(), OutOfMemory>
 fn push(text: &mut String, more: &str) -> Result<(), OutOfMemory>
     ensures { OnOk result (string_bytes text.new ≡ string_bytes text.old ++ more.now) }
 {
-    match text.push_str(more) {
-        Ok(()) => Ok(()),
-        Err(_) => Err(OutOfMemory),
-    }
+    Ok(text.push_str(more)?)
 }

@@ -3,8 +3,8 @@ ghost use Rattle.std.specs.Option.{option_map};
 ghost use Rattle.task_model.specs.Basic.{BasicTerm, basic_term};
 ghost use Rattle.task_model.specs.Tree.{tree_term};
 ghost use Rattle.task_model.specs.PlainTree.{PlainTree};
-ghost use Rattle.world_core.specs.PlainTree.{tree_nodes, node_at, put_at};
-ghost use Rattle.world_core.specs.PlainTree as plain;
+ghost use Rattle.world_core.specs.InnerTree.{tree_nodes, inner_node_at, put_at};
+ghost use Rattle.world_core.specs.InnerTree as plain;
 
 use std::mem;
 use task_model::{Basic, Tree, Turn};
@@ -12,7 +12,7 @@ use task_model::{Basic, Tree, Turn};
 /// The type of the editor that a path leads to, if there is one.
 pub(crate) fn type_at<'a>(t: &'a Tree, path: &[Turn]) -> Option<&'a Basic>
     requires { (b : BasicTerm) × PlainTree (tree_term t.now) b }
-    ensures { option_map (λ b. basic_term b.now) result ≡ plain.type_at (node_at (tree_term t.now) path.now) }
+    ensures { option_map (λ b. basic_term b.now) result ≡ plain.type_at (inner_node_at (tree_term t.now) path.now) }
 {
     match path {
         [] => match t {
@@ -33,9 +33,9 @@ pub(crate) fn type_at<'a>(t: &'a Tree, path: &[Turn]) -> Option<&'a Basic>
 
 /// Puts a node in the place of the one that a path leads to, and hands that out.
 pub(crate) fn put_node(t: &mut Tree, path: &[Turn], node: Tree) -> Tree
-    requires { IsSome (node_at (tree_term t.old) path.now) }
+    requires { IsSome (inner_node_at (tree_term t.old) path.now) }
     ensures put { tree_term t.new ≡ put_at (tree_term t.old) path.now (tree_term node) }
-    ensures old { node_at (tree_term t.old) path.now ≡ Some (tree_term result) }
+    ensures old { inner_node_at (tree_term t.old) path.now ≡ Some (tree_term result) }
 {
     match path {
         [] => mem::replace(t, node),

@@ -1,4 +1,4 @@
-ghost use Rattle.std.specs.Prelude.{◌≡◌, ◌+◌, [], List, Some, IfOk, IfErr, OnOk};
+ghost use Rattle.std.specs.Prelude.{◌≡◌, ◌+◌, [], List, Some, IfOk, OnOk};
 ghost use Rattle.task_model.specs.Basic.{BasicTerm};
 ghost use Rattle.task_model.specs.Value.{ValueTerm, value_term};
 ghost use Rattle.task_model.specs.Env.{EnvTerm, empty_env};
@@ -8,26 +8,13 @@ ghost use Rattle.task_model.specs.Tree.{tree_term, at};
 ghost use Rattle.task_model.specs.Checked.{CheckedTerm, checked_term, nodes_of, task_named};
 ghost use Rattle.task_model.specs.Plan.{gives_value, evaluates};
 ghost use Rattle.task_model.specs.Rules.{evaluate_rule};
-ghost use Rattle.task_model.specs.Calls.{Asked, Ran};
+ghost use Rattle.task_model.specs.Calls.{RunsJudgement, RunsPlan};
 ghost use Rattle.task_model.specs.Accepted.{PlainType, main_name, IsAccepted};
 ghost use Rattle.task_model.specs.PlainTree.{PlainTree, IsSmallTree};
-ghost use Rattle.world_core.specs.PlainTree.{IsNumber, HasNumber, IsInt, IsSmallTask, plain_env, MayEvaluate};
+ghost use Rattle.world_core.specs.InnerTree.{IsNumberExpression, HasNumber, IsInt, IsSmallTask, plain_env, MayEvaluate};
 
 use std::alloc::Global;
-use task_model::{
-    Checked, DefBody, Host, OutOfMemory, Purse, Stop, Task, Tree, Value, boxed, copy_basic,
-};
-
-/// Want of memory as a stop.
-pub(crate) fn memory<T>(made: Result<T, OutOfMemory>) -> Result<T, Stop>
-    ensures ok { IfOk result (λ x. made ≡ Ok x) }
-    ensures err { IfErr result (λ s. s ≡ Stop.Memory) }
-{
-    match made {
-        Ok(x) => Ok(x),
-        Err(_) => Err(Stop::Memory),
-    }
-}
+use task_model::{Checked, DefBody, Host, Purse, Stop, Task, Tree, Value, boxed, copy_basic};
 
 /// The tree of the call `main()`, by its rule.
 pub(crate) fn call_main(alloc: Global, c: &Checked, purse: &mut Purse) -> Result<Tree, Stop>
@@ -35,7 +22,7 @@ pub(crate) fn call_main(alloc: Global, c: &Checked, purse: &mut Purse) -> Result
     ensures height { OnOk result (purse.new.height ≡ purse.old.height) }
     ensures plain { IfOk result (λ t. IsSmallTree (tree_term t)) }
     ensures asked { (σ : List ValueTerm) →
-        Asked (checked_term c.now) (evaluates (call_task main_name []) empty_env σ) (λ t. at (tree_term t) σ) purse.old purse.new result }
+        RunsJudgement (checked_term c.now) (evaluates (call_task main_name []) empty_env σ) (λ t. at (tree_term t) σ) purse.old purse.new result }
 {
     let task = main_task(c);
     let height = purse.height_left();
@@ -77,7 +64,7 @@ fn evaluate_at(
     ensures counted { OnOk result (first.new ≡ first.old + nodes_of (checked_term c.now).program (task_term t.now)) }
     ensures plain { IfOk result (λ u. (b : BasicTerm) → PlainType (task_term t.now) b → PlainTree (tree_term u) b) }
     ensures asked { (σ : List ValueTerm) →
-        Asked (checked_term c.now) (evaluates (task_term t.now) (plain_env first.old) σ) (λ u. at (tree_term u) σ) purse.old purse.new result }
+        RunsJudgement (checked_term c.now) (evaluates (task_term t.now) (plain_env first.old) σ) (λ u. at (tree_term u) σ) purse.old purse.new result }
 {
     let height = purse.height_left();
     purse.enter()?;
@@ -100,21 +87,21 @@ fn evaluate_form(
     ensures counted { OnOk result (first.new ≡ first.old + nodes_of (checked_term c.now).program (task_term t.now)) }
     ensures plain { IfOk result (λ u. (b : BasicTerm) → PlainType (task_term t.now) b → PlainTree (tree_term u) b) }
     ensures ran { (σ : List ValueTerm) →
-        Ran (checked_term c.now) (evaluate_rule (checked_term c.now) (task_term t.now) (plain_env first.old) σ) (λ u. at (tree_term u) σ) purse.old purse.new result }
+        RunsPlan (checked_term c.now) (evaluate_rule (checked_term c.now) (task_term t.now) (plain_env first.old) σ) (λ u. at (tree_term u) σ) purse.old purse.new result }
 {
     match t {
         Task::Edit(e) => {
-            let b = memory(copy_basic(alloc, &c.types()[*first]))?;
+            let b = copy_basic(&c.types()[*first])?;
             *first += 1;
             let v = number_at(e, purse)?;
             Ok(Tree::Edit(b, v))
         }
-        Task::Enter(b) => Ok(Tree::Enter(memory(copy_basic(alloc, b))?)),
+        Task::Enter(b) => Ok(Tree::Enter(copy_basic(b)?)),
         Task::And(a, b) => {
             let a = evaluate_at(alloc, c, a, first, purse)?;
             let b = evaluate_at(alloc, c, b, first, purse)?;
-            let a = memory(boxed(alloc, a))?;
-            let b = memory(boxed(alloc, b))?;
+            let a = boxed(alloc, a)?;
+            let b = boxed(alloc, b)?;
             Ok(Tree::And(a, b))
         }
         _ => unreachable!(),
@@ -123,11 +110,11 @@ fn evaluate_form(
 
 // The value of a number's expression.
 fn number_at(e: &Host, purse: &mut Purse) -> Result<Value, Stop>
-    requires { IsNumber (host_term e.now) }
+    requires { IsNumberExpression (host_term e.now) }
     ensures height { OnOk result (purse.new.height ≡ purse.old.height) }
     ensures plain { IfOk result (λ v. IsInt (value_term v)) }
     ensures asked { (c : CheckedTerm) (env : EnvTerm) (σ : List ValueTerm) →
-        Asked c (gives_value (host_term e.now) env σ) value_term purse.old purse.new result }
+        RunsJudgement c (gives_value (host_term e.now) env σ) value_term purse.old purse.new result }
 {
     let height = purse.height_left();
     purse.enter()?;
@@ -137,7 +124,7 @@ fn number_at(e: &Host, purse: &mut Purse) -> Result<Value, Stop>
 }
 
 fn number_of(e: &Host) -> Value
-    requires { IsNumber (host_term e.now) }
+    requires { IsNumberExpression (host_term e.now) }
     ensures { HasNumber (host_term e.now) (value_term result) }
 {
     match e {

@@ -9,7 +9,7 @@ ghost use Rattle.task_model.specs.Plan.{strides, settles, normal};
 ghost use Rattle.task_model.specs.Rules.{stride_rule};
 ghost use Rattle.task_model.specs.Judgements.{Settles, Normal};
 ghost use Rattle.task_model.specs.Spends.{Spends};
-ghost use Rattle.task_model.specs.Calls.{Asked, Ran};
+ghost use Rattle.task_model.specs.Calls.{RunsJudgement, RunsPlan};
 ghost use Rattle.task_model.specs.Accepted.{main_name, IsAccepted};
 ghost use Rattle.task_model.specs.PlainTree.{PlainTree, IsSmallTree};
 
@@ -37,7 +37,7 @@ pub(crate) fn settle(t: &Tree, purse: &mut Purse) -> Result<(), Stop>
 fn normal_at(alloc: Global, c: &Checked, purse: &mut Purse) -> Result<Tree, Stop>
     requires { IsAccepted (checked_term c.now) }
     ensures plain { IfOk result (λ t. IsSmallTree (tree_term t)) }
-    ensures asked { Asked (checked_term c.now) (normal (call_task main_name []) empty_env []) (λ t. at (tree_term t) []) purse.old purse.new result }
+    ensures asked { RunsJudgement (checked_term c.now) (normal (call_task main_name []) empty_env []) (λ t. at (tree_term t) []) purse.old purse.new result }
 {
     let height = purse.height_left();
     purse.enter()?;
@@ -50,7 +50,7 @@ fn normal_at(alloc: Global, c: &Checked, purse: &mut Purse) -> Result<Tree, Stop
 
 fn settle_at(t: &Tree, purse: &mut Purse) -> Result<(), Stop>
     requires { (b : BasicTerm) × PlainTree (tree_term t.now) b }
-    ensures { (c : CheckedTerm) (σ : List ValueTerm) → Asked c (settles (at (tree_term t.now) σ)) (λ _. at (tree_term t.now) σ) purse.old purse.new result }
+    ensures { (c : CheckedTerm) (σ : List ValueTerm) → RunsJudgement c (settles (at (tree_term t.now) σ)) (λ _. at (tree_term t.now) σ) purse.old purse.new result }
 {
     let height = purse.height_left();
     purse.enter()?;
@@ -65,7 +65,7 @@ fn settle_at(t: &Tree, purse: &mut Purse) -> Result<(), Stop>
 fn stride_at(t: &Tree, purse: &mut Purse) -> Result<(), Stop>
     requires { (b : BasicTerm) × PlainTree (tree_term t.now) b }
     ensures height { OnOk result (purse.new.height ≡ purse.old.height) }
-    ensures asked { (c : CheckedTerm) (σ : List ValueTerm) → Asked c (strides (at (tree_term t.now) σ)) (λ _. at (tree_term t.now) σ) purse.old purse.new result }
+    ensures asked { (c : CheckedTerm) (σ : List ValueTerm) → RunsJudgement c (strides (at (tree_term t.now) σ)) (λ _. at (tree_term t.now) σ) purse.old purse.new result }
 {
     let height = purse.height_left();
     purse.enter()?;
@@ -79,7 +79,7 @@ fn stride_at(t: &Tree, purse: &mut Purse) -> Result<(), Stop>
 fn stride_form(t: &Tree, purse: &mut Purse) -> Result<(), Stop>
     requires { (b : BasicTerm) × PlainTree (tree_term t.now) b }
     ensures height { OnOk result (purse.new.height ≡ purse.old.height) }
-    ensures ran { (c : CheckedTerm) (σ : List ValueTerm) → Ran c (stride_rule c (tree_term t.now) σ) (λ _. at (tree_term t.now) σ) purse.old purse.new result }
+    ensures ran { (c : CheckedTerm) (σ : List ValueTerm) → RunsPlan c (stride_rule c (tree_term t.now) σ) (λ _. at (tree_term t.now) σ) purse.old purse.new result }
 {
     match t {
         Tree::Edit(..) => Ok(()),

@@ -6,8 +6,8 @@ ghost use Rattle.task_model.specs.Item.{opened, history_term};
 ghost use Rattle.task_model.specs.Checked.{checked_term};
 ghost use Rattle.task_model.specs.State.{IsOpening, IsState, IsLegal, IsTerminal, IsSeat, IsBudget, version_of};
 ghost use Rattle.task_model.specs.PlainTree.{IsSmallTree};
-ghost use Rattle.world_core.specs.PlainTree.{tree_nodes};
-ghost use Rattle.world_core.specs.World.{SeenWorld, world_term, IsStanding, Replies, IsPage};
+ghost use Rattle.world_core.specs.InnerTree.{tree_nodes};
+ghost use Rattle.world_core.specs.World.{SeenWorld, world_term, IsStanding, Replies, IsWorldPage};
 
 use crate::acting::act;
 use crate::answers::{OpenStop, Taken};
@@ -80,7 +80,7 @@ impl World {
     /// Takes an input of a seat, 1 to 64, if the tree offers it and the budget holds. A refusal changes nothing.
     pub fn handle<L: Ledger>(
         &mut self,
-        alloc: Global,
+        _alloc: Global,
         seat: u8,
         input: Input,
         _steps: &mut Steps<L>,
@@ -92,7 +92,7 @@ impl World {
             Ok(()) => {}
             Err(OutOfMemory) => return Err(ActStop::Memory),
         }
-        act(alloc, &mut self.tree, self.budget, &input)?;
+        act(&mut self.tree, self.budget, &input)?;
         match self.history.push(Item::Took(Entry { seat, input })) {
             Ok(()) => {}
             Err(OutOfMemory) => unreachable!(),
@@ -138,7 +138,7 @@ impl World {
     /// The terminal page for a seat, 1 to 64 (docs/FORMATS.md, "Pages").
     pub fn text(&self, alloc: Global, seat: u8) -> Result<TaskText, OutOfMemory>
         requires { IsSeat seat }
-        ensures page { IfOk result (λ text. IsPage (world_term self.now) seat text) }
+        ensures page { IfOk result (λ text. IsWorldPage (world_term self.now) seat text) }
         ensures terminal { IfOk result (λ text. IsTerminal (history_term self.now.history) seat text) }
     {
         draw_page(alloc, self.version(), seat, &self.tree)

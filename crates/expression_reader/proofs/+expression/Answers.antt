@@ -1,10 +1,10 @@
 use Rattle.std.proofs.Common.{◌≡◌, ◌+◌, ◌-◌, ◌≤◌, max, refl, sym, ap, subst, arith}
-use Rattle.std.proofs.lemmas.Result.{err_from_is_err_and}
+use Rattle.program_grammar.proofs.Exits.{handed_on, below}
 use Rattle.exact_reading.proofs.Symbols.{seq_one, seq_one_stop, seq_part, seq_part_stop, seq_done}
 use Rattle.exact_reading.proofs.Productions.{at_tokens}
-use Rattle.program_grammar.specs.Grammar.{arguments, comparison, listed, atom, enclosed, uncompared, unlisted, nothing, named}
+use Rattle.task_model.specs.Grammar.{arguments, comparison, listed, atom, enclosed, uncompared, unlisted, nothing, named}
 use Rattle.task_model.specs.Host.{let_expr, if_expr, case_expr, list_expr, call_expr, pair_expr, as_exprs}
-use Rattle.program_grammar.specs.Meaning.{prefix_of}
+use Rattle.task_model.specs.Meaning.{unary_expression}
 use Rattle.program_grammar.specs.Prefixes.{prefix_term}
 use Rattle.program_grammar.specs.Parts.{lexemes, shown, shown_host}
 use Rattle.program_grammar.proofs.GrammarLemmas.{grammar, least_levels, stops_within}
@@ -13,15 +13,16 @@ use Rattle.program_grammar.proofs.RuleLemmas.{by_rule, too_deep}
 use Rattle.program_grammar.proofs.ExpressionRules.{prefix_rule, as_atom, as_series, comparisons, listings}
 use Rattle.program_grammar.proofs.ExpressionRules as rules
 use Rattle.program_grammar.proofs.OptionalLemmas.{all_stop, all_found, led, led_too_deep, bare_found}
+use Rattle.program_grammar.proofs.StartLemmas.{start_compared, start_cons, start_prefixed}
 use Rattle.program_grammar.proofs.OperatorLemmas as operators
 use Rattle.program_grammar.proofs.AtomRules as atoms
 use Rattle.program_grammar.proofs.EnclosedRules as enclosing
 use Rattle.expression_reader.proofs.ReadingLemmas.{at_reading, counted_at, sign_read, part_within, at_level, passed, no_room, fewer, no_more}
-use Rattle.expression_reader.proofs.ShownLemmas.{over_list_is, over_one_is, over_two_is, over_three_is, operated_is, grouped_is}
+use Rattle.program_grammar.proofs.ParsedLemmas.{over_list_is, over_two_is, over_three_is, operated_is, behind_is, grouped_is, group_shown}
 use Rattle.expression_reader.proofs.ListingLemmas as gathering
 use Rattle.expression_reader.proofs.AtomLemmas.{no_atom}
 use Rattle.std.specs.Prelude.{Ok}
-use Rattle.expression_reader.specs.Literals.{ReadsSimple, seen_simple}
+use Rattle.expression_reader.specs.LiteralTokens.{ReadsSimple, seen_simple}
 use Rattle.expression_reader.proofs.+expression.Goals as goal
 
 -- ---- expression
@@ -36,274 +37,424 @@ expressions::expression-returns-in-Some t c =
 
 pub expressions::expression-returns-then-room-lt2-2 : goal.expressions::expression-returns-then-room-lt2-2
 expressions::expression-returns-then-room-lt2-2 t c =
-    rw c.too_nested-then-room-lt2-2.ensures (record { by = counted _ (too_deep (rules.if_rule _) c.in-Some-strip_word.ensures (omega arith)) })
+    rw c.too_nested-then-room-lt2-2.ensures
+    (record { by = counted _ (too_deep (rules.if_rule _) c.in-Some-strip_keyword.ensures (omega arith)) })
 
-pub expressions::expression-returns-in-Some-strip_word : goal.expressions::expression-returns-in-Some-strip_word
-expressions::expression-returns-in-Some-strip_word t c =
-    at_reading c.in-Some-strip_word.ensures c.tested.ensures
+pub expressions::expression-returns-in-Some-strip_keyword : goal.expressions::expression-returns-in-Some-strip_keyword
+expressions::expression-returns-in-Some-strip_keyword t c =
+    at_reading c.in-Some-strip_keyword.ensures c.tested.ensures
 
 pub expressions::expression-returns-then-room-lt2-3 : goal.expressions::expression-returns-then-room-lt2-3
 expressions::expression-returns-then-room-lt2-3 t c =
-    rw c.too_nested-then-room-lt2-3.ensures (record { by = counted _ (too_deep (rules.case_rule _) c.in-Some-strip_word-2.ensures (omega arith)) })
+    rw c.too_nested-then-room-lt2-3.ensures
+    (record { by = counted _ (too_deep (rules.case_rule _) c.in-Some-strip_keyword-2.ensures (omega arith)) })
 
-pub expressions::expression-returns-in-Some-strip_word-2 : goal.expressions::expression-returns-in-Some-strip_word-2
-expressions::expression-returns-in-Some-strip_word-2 t c =
-    at_reading c.in-Some-strip_word-2.ensures c.cased.ensures
+pub expressions::expression-returns-in-Some-strip_keyword-2 : goal.expressions::expression-returns-in-Some-strip_keyword-2
+expressions::expression-returns-in-Some-strip_keyword-2 t c =
+    at_reading c.in-Some-strip_keyword-2.ensures c.cased.ensures
 
 pub expressions::expression-returns : goal.expressions::expression-returns
 expressions::expression-returns t c =
-    passed (as_series _ c.in_default.ensures c.in_default-strip_word.ensures c.in_default-strip_word-2.ensures) shown shown (λ d. refl) _ c.operators.ensures
+    passed (as_series _ c.in_default.ensures c.in_default-strip_keyword.ensures c.in_default-strip_keyword-2.ensures) shown shown
+    (λ d. refl) _ c.operators.ensures
 
 -- ---- bound
 
 pub expressions::bound-returns-in_err-name : goal.expressions::bound-returns-in_err-name
 expressions::bound-returns-in_err-name t c =
-    let p = err_from_is_err_and c.from_residual.result c.from_residual.ensures.1 in
-    let le : 2 ≤ c.args.room = c.requires in
-    let up : 1 + (c.args.room - 1) ≡ c.args.room = omega (arith, le) in
-    rw (p.1, p.2) (record { by = by_rule (rules.let_rule c.args.place) refl le (seq_one_stop grammar 1 (omega (arith, le)) c.in_err-name.ensures) })
+    rw (handed_on c.from_residual.result c.from_residual.ensures.1)
+    (record {
+      by = by_rule (rules.let_rule c.args.place) refl c.requires
+          (seq_one_stop grammar 1 (omega (arith, c.requires)) c.in_err-name.ensures);
+    })
 
 pub expressions::bound-returns-in_err-rest : goal.expressions::bound-returns-in_err-rest
 expressions::bound-returns-in_err-rest t c =
-    let p = err_from_is_err_and c.from_residual-in_err-rest.result c.from_residual-in_err-rest.ensures.1 in
-    let le : 2 ≤ c.args.room = c.requires in
-    let up : 1 + (c.args.room - 1) ≡ c.args.room = omega (arith, le) in
-    rw (p.1, p.2) (record { by = by_rule (rules.let_rule c.args.place) refl le (seq_one grammar 1 (omega (arith, le)) c.in_ok-name.ensures (seq_one_stop grammar 1 (omega (arith, le)) c.in_err-rest.ensures)) })
+    rw (handed_on c.from_residual-in_err-rest.result c.from_residual-in_err-rest.ensures.1)
+    (record {
+      by = by_rule (rules.let_rule c.args.place) refl c.requires
+          (seq_one grammar 1 (omega (arith, c.requires)) c.in_ok-name.ensures
+          (seq_one_stop grammar 1 (omega (arith, c.requires)) c.in_err-rest.ensures));
+    })
 
 pub expressions::bound-returns-in_err-value : goal.expressions::bound-returns-in_err-value
 expressions::bound-returns-in_err-value t c =
-    let p = err_from_is_err_and c.from_residual-in_err-value.result c.from_residual-in_err-value.ensures.1 in
-    let le : 2 ≤ c.args.room = c.requires in
-    let up : 1 + (c.args.room - 1) ≡ c.args.room = omega (arith, le) in
-    rw (p.1, p.2) (record { by = by_rule (rules.let_rule c.args.place) refl le (seq_one grammar 1 (omega (arith, le)) c.in_ok-name.ensures (seq_one grammar 1 (omega (arith, le)) c.in_ok-rest.ensures (seq_part_stop grammar 1 (λ p z. refl) (omega (arith, le)) up c.in_err-value.ensures.by))) })
+    rw (handed_on c.from_residual-in_err-value.result c.from_residual-in_err-value.ensures.1)
+    (record {
+      by = by_rule (rules.let_rule c.args.place) refl c.requires
+          (seq_one grammar 1 (omega (arith, c.requires)) c.in_ok-name.ensures
+          (seq_one grammar 1 (omega (arith, c.requires)) c.in_ok-rest.ensures
+          (seq_part_stop grammar 1 (λ p z. refl) (omega (arith, c.requires)) (below c.requires) c.in_err-value.ensures.by)));
+    })
 
 pub expressions::bound-returns-in_err-rest-2 : goal.expressions::bound-returns-in_err-rest-2
 expressions::bound-returns-in_err-rest-2 t c =
-    let p = err_from_is_err_and c.from_residual-in_err-rest-2.result c.from_residual-in_err-rest-2.ensures.1 in
-    let le : 2 ≤ c.args.room = c.requires in
-    let up : 1 + (c.args.room - 1) ≡ c.args.room = omega (arith, le) in
     let (x1, s1, f1) = c.in_ok-value.ensures.by in
     let fits1 = f1.by.fits in
-    rw (p.1, p.2) (record { by = by_rule (rules.let_rule c.args.place) refl le (seq_one grammar 1 (omega (arith, le)) c.in_ok-name.ensures (seq_one grammar 1 (omega (arith, le)) c.in_ok-rest.ensures (seq_part grammar 1 (λ p z. refl) (omega (arith, le)) up f1 (seq_one_stop grammar 1 (omega (arith, le, fits1)) c.in_err-rest-2.ensures)))) })
+    rw (handed_on c.from_residual-in_err-rest-2.result c.from_residual-in_err-rest-2.ensures.1)
+    (record {
+      by = by_rule (rules.let_rule c.args.place) refl c.requires
+          (seq_one grammar 1 (omega (arith, c.requires)) c.in_ok-name.ensures
+          (seq_one grammar 1 (omega (arith, c.requires)) c.in_ok-rest.ensures
+          (seq_part grammar 1 (λ p z. refl) (omega (arith, c.requires)) (below c.requires) f1
+          (seq_one_stop grammar 1 (omega (arith, c.requires, fits1)) c.in_err-rest-2.ensures))));
+    })
 
 pub expressions::bound-returns-in_err-body : goal.expressions::bound-returns-in_err-body
 expressions::bound-returns-in_err-body t c =
-    let p = err_from_is_err_and c.from_residual-in_err-body.result c.from_residual-in_err-body.ensures.1 in
-    let le : 2 ≤ c.args.room = c.requires in
-    let up : 1 + (c.args.room - 1) ≡ c.args.room = omega (arith, le) in
     let (x1, s1, f1) = c.in_ok-value.ensures.by in
     let fits1 = f1.by.fits in
-    rw (p.1, p.2) (record { by = by_rule (rules.let_rule c.args.place) refl le (seq_one grammar 1 (omega (arith, le)) c.in_ok-name.ensures (seq_one grammar 1 (omega (arith, le)) c.in_ok-rest.ensures (seq_part grammar 1 (λ p z. refl) (omega (arith, le)) up f1 (seq_one grammar 1 (omega (arith, le, fits1)) c.in_ok-rest-2.ensures (seq_part_stop grammar 1 (λ z h. h) (omega (arith, le, fits1)) up c.in_err-body.ensures.by))))) })
+    rw (handed_on c.from_residual-in_err-body.result c.from_residual-in_err-body.ensures.1)
+    (record {
+      by = by_rule (rules.let_rule c.args.place) refl c.requires
+          (seq_one grammar 1 (omega (arith, c.requires)) c.in_ok-name.ensures
+          (seq_one grammar 1 (omega (arith, c.requires)) c.in_ok-rest.ensures
+          (seq_part grammar 1 (λ p z. refl) (omega (arith, c.requires)) (below c.requires) f1
+          (seq_one grammar 1 (omega (arith, c.requires, fits1)) c.in_ok-rest-2.ensures
+          (seq_part_stop grammar 1 (λ z h. h) (omega (arith, c.requires, fits1)) (below c.requires) c.in_err-body.ensures.by)))));
+    })
 
 pub expressions::bound-returns : goal.expressions::bound-returns
 expressions::bound-returns t c =
-    let le : 2 ≤ c.args.room = c.requires in
-    let up : 1 + (c.args.room - 1) ≡ c.args.room = omega (arith, le) in
     let (x1, s1, f1) = c.in_ok-value.ensures.by in
     let fits1 = f1.by.fits in
     let (x2, s2, f2) = c.in_ok-body.ensures.by in
     let fits2 = f2.by.fits in
-    record { by = (_, over_two_is (let_expr c.in_ok-name.name.now) s1 s2 c.in_ok-bound.ensures.shown, by_rule (rules.let_rule c.args.place) refl le (seq_one grammar 1 (omega (arith, le)) c.in_ok-name.ensures (seq_one grammar 1 (omega (arith, le)) c.in_ok-rest.ensures (seq_part grammar 1 (λ p z. refl) (omega (arith, le)) up f1 (seq_one grammar 1 (omega (arith, le, fits1)) c.in_ok-rest-2.ensures (seq_part grammar 1 (λ z h. h) (omega (arith, le, fits1)) up f2 (seq_done grammar 1 (omega (arith, le, fits1, fits2))))))))) }
+    record {
+      by = (
+        _,
+        over_two_is (let_expr c.in_ok-name.name.now) s1 s2 c.in_ok-bound.ensures.shown,
+        by_rule
+            (rules.let_rule c.args.place) refl c.requires
+            (seq_one grammar 1 (omega (arith, c.requires)) c.in_ok-name.ensures
+            (seq_one grammar 1 (omega (arith, c.requires)) c.in_ok-rest.ensures
+            (seq_part grammar 1 (λ p z. refl) (omega (arith, c.requires)) (below c.requires) f1
+            (seq_one grammar 1 (omega (arith, c.requires, fits1)) c.in_ok-rest-2.ensures
+            (seq_part grammar 1 (λ z h. h) (omega (arith, c.requires, fits1)) (below c.requires) f2
+            (seq_done grammar 1 (omega (arith, c.requires, fits1, fits2)))))))),
+      );
+    }
 
 -- ---- tested
 
 pub expressions::tested-returns-in_err-test : goal.expressions::tested-returns-in_err-test
 expressions::tested-returns-in_err-test t c =
-    let p = err_from_is_err_and c.from_residual.result c.from_residual.ensures.1 in
-    let le : 2 ≤ c.args.room = c.requires in
-    let up : 1 + (c.args.room - 1) ≡ c.args.room = omega (arith, le) in
-    rw (p.1, p.2) (record { by = by_rule (rules.if_rule c.args.place) refl le (seq_part_stop grammar 1 (λ p z. refl) (omega (arith, le)) up c.in_err-test.ensures.by) })
+    rw (handed_on c.from_residual.result c.from_residual.ensures.1)
+    (record {
+      by = by_rule (rules.if_rule c.args.place) refl c.requires
+          (seq_part_stop grammar 1 (λ p z. refl) (omega (arith, c.requires)) (below c.requires) c.in_err-test.ensures.by);
+    })
 
 pub expressions::tested-returns-in_err-rest : goal.expressions::tested-returns-in_err-rest
 expressions::tested-returns-in_err-rest t c =
-    let p = err_from_is_err_and c.from_residual-in_err-rest.result c.from_residual-in_err-rest.ensures.1 in
-    let le : 2 ≤ c.args.room = c.requires in
-    let up : 1 + (c.args.room - 1) ≡ c.args.room = omega (arith, le) in
     let (x1, s1, f1) = c.in_ok-test.ensures.by in
     let fits1 = f1.by.fits in
-    rw (p.1, p.2) (record { by = by_rule (rules.if_rule c.args.place) refl le (seq_part grammar 1 (λ p z. refl) (omega (arith, le)) up f1 (seq_one_stop grammar 1 (omega (arith, le, fits1)) c.in_err-rest.ensures)) })
+    rw (handed_on c.from_residual-in_err-rest.result c.from_residual-in_err-rest.ensures.1)
+    (record {
+      by = by_rule (rules.if_rule c.args.place) refl c.requires
+          (seq_part grammar 1 (λ p z. refl) (omega (arith, c.requires)) (below c.requires) f1
+          (seq_one_stop grammar 1 (omega (arith, c.requires, fits1)) c.in_err-rest.ensures));
+    })
 
 pub expressions::tested-returns-in_err-yes : goal.expressions::tested-returns-in_err-yes
 expressions::tested-returns-in_err-yes t c =
-    let p = err_from_is_err_and c.from_residual-in_err-yes.result c.from_residual-in_err-yes.ensures.1 in
-    let le : 2 ≤ c.args.room = c.requires in
-    let up : 1 + (c.args.room - 1) ≡ c.args.room = omega (arith, le) in
     let (x1, s1, f1) = c.in_ok-test.ensures.by in
     let fits1 = f1.by.fits in
-    rw (p.1, p.2) (record { by = by_rule (rules.if_rule c.args.place) refl le (seq_part grammar 1 (λ p z. refl) (omega (arith, le)) up f1 (seq_one grammar 1 (omega (arith, le, fits1)) c.in_ok-rest.ensures (seq_part_stop grammar 1 (λ p z. refl) (omega (arith, le, fits1)) up c.in_err-yes.ensures.by))) })
+    rw (handed_on c.from_residual-in_err-yes.result c.from_residual-in_err-yes.ensures.1)
+    (record {
+      by = by_rule (rules.if_rule c.args.place) refl c.requires
+          (seq_part grammar 1 (λ p z. refl) (omega (arith, c.requires)) (below c.requires) f1
+          (seq_one grammar 1 (omega (arith, c.requires, fits1)) c.in_ok-rest.ensures
+          (seq_part_stop grammar 1 (λ p z. refl) (omega (arith, c.requires, fits1)) (below c.requires) c.in_err-yes.ensures.by)));
+    })
 
 pub expressions::tested-returns-in_err-rest-2 : goal.expressions::tested-returns-in_err-rest-2
 expressions::tested-returns-in_err-rest-2 t c =
-    let p = err_from_is_err_and c.from_residual-in_err-rest-2.result c.from_residual-in_err-rest-2.ensures.1 in
-    let le : 2 ≤ c.args.room = c.requires in
-    let up : 1 + (c.args.room - 1) ≡ c.args.room = omega (arith, le) in
     let (x1, s1, f1) = c.in_ok-test.ensures.by in
     let fits1 = f1.by.fits in
     let (x2, s2, f2) = c.in_ok-yes.ensures.by in
     let fits2 = f2.by.fits in
-    rw (p.1, p.2) (record { by = by_rule (rules.if_rule c.args.place) refl le (seq_part grammar 1 (λ p z. refl) (omega (arith, le)) up f1 (seq_one grammar 1 (omega (arith, le, fits1)) c.in_ok-rest.ensures (seq_part grammar 1 (λ p z. refl) (omega (arith, le, fits1)) up f2 (seq_one_stop grammar 1 (omega (arith, le, fits1, fits2)) c.in_err-rest-2.ensures)))) })
+    rw (handed_on c.from_residual-in_err-rest-2.result c.from_residual-in_err-rest-2.ensures.1)
+    (record {
+      by = by_rule (rules.if_rule c.args.place) refl c.requires
+          (seq_part grammar 1 (λ p z. refl) (omega (arith, c.requires)) (below c.requires) f1
+          (seq_one grammar 1 (omega (arith, c.requires, fits1)) c.in_ok-rest.ensures
+          (seq_part grammar 1 (λ p z. refl) (omega (arith, c.requires, fits1)) (below c.requires) f2
+          (seq_one_stop grammar 1 (omega (arith, c.requires, fits1, fits2)) c.in_err-rest-2.ensures))));
+    })
 
 pub expressions::tested-returns-in_err-no : goal.expressions::tested-returns-in_err-no
 expressions::tested-returns-in_err-no t c =
-    let p = err_from_is_err_and c.from_residual-in_err-no.result c.from_residual-in_err-no.ensures.1 in
-    let le : 2 ≤ c.args.room = c.requires in
-    let up : 1 + (c.args.room - 1) ≡ c.args.room = omega (arith, le) in
     let (x1, s1, f1) = c.in_ok-test.ensures.by in
     let fits1 = f1.by.fits in
     let (x2, s2, f2) = c.in_ok-yes.ensures.by in
     let fits2 = f2.by.fits in
-    rw (p.1, p.2) (record { by = by_rule (rules.if_rule c.args.place) refl le (seq_part grammar 1 (λ p z. refl) (omega (arith, le)) up f1 (seq_one grammar 1 (omega (arith, le, fits1)) c.in_ok-rest.ensures (seq_part grammar 1 (λ p z. refl) (omega (arith, le, fits1)) up f2 (seq_one grammar 1 (omega (arith, le, fits1, fits2)) c.in_ok-rest-2.ensures (seq_part_stop grammar 1 (λ z h. h) (omega (arith, le, fits1, fits2)) up c.in_err-no.ensures.by))))) })
+    rw (handed_on c.from_residual-in_err-no.result c.from_residual-in_err-no.ensures.1)
+    (record {
+      by = by_rule (rules.if_rule c.args.place) refl c.requires
+          (seq_part grammar 1 (λ p z. refl) (omega (arith, c.requires)) (below c.requires) f1
+          (seq_one grammar 1 (omega (arith, c.requires, fits1)) c.in_ok-rest.ensures
+          (seq_part grammar 1 (λ p z. refl) (omega (arith, c.requires, fits1)) (below c.requires) f2
+          (seq_one grammar 1 (omega (arith, c.requires, fits1, fits2)) c.in_ok-rest-2.ensures
+          (seq_part_stop grammar 1 (λ z h. h) (omega (arith, c.requires, fits1, fits2)) (below c.requires) c.in_err-no.ensures.by)))));
+    })
 
 pub expressions::tested-returns : goal.expressions::tested-returns
 expressions::tested-returns t c =
-    let le : 2 ≤ c.args.room = c.requires in
-    let up : 1 + (c.args.room - 1) ≡ c.args.room = omega (arith, le) in
     let (x1, s1, f1) = c.in_ok-test.ensures.by in
     let fits1 = f1.by.fits in
     let (x2, s2, f2) = c.in_ok-yes.ensures.by in
     let fits2 = f2.by.fits in
     let (x3, s3, f3) = c.in_ok-no.ensures.by in
     let fits3 = f3.by.fits in
-    record { by = (_, over_three_is if_expr s1 s2 s3 c.in_ok-tested.ensures.shown, by_rule (rules.if_rule c.args.place) refl le (seq_part grammar 1 (λ p z. refl) (omega (arith, le)) up f1 (seq_one grammar 1 (omega (arith, le, fits1)) c.in_ok-rest.ensures (seq_part grammar 1 (λ p z. refl) (omega (arith, le, fits1)) up f2 (seq_one grammar 1 (omega (arith, le, fits1, fits2)) c.in_ok-rest-2.ensures (seq_part grammar 1 (λ z h. h) (omega (arith, le, fits1, fits2)) up f3 (seq_done grammar 1 (omega (arith, le, fits1, fits2, fits3))))))))) }
+    record {
+      by = (
+        _,
+        over_three_is if_expr s1 s2 s3 c.in_ok-tested.ensures.shown,
+        by_rule (rules.if_rule c.args.place) refl c.requires
+            (seq_part grammar 1 (λ p z. refl) (omega (arith, c.requires)) (below c.requires) f1
+            (seq_one grammar 1 (omega (arith, c.requires, fits1)) c.in_ok-rest.ensures
+            (seq_part grammar 1 (λ p z. refl) (omega (arith, c.requires, fits1)) (below c.requires) f2
+            (seq_one grammar 1 (omega (arith, c.requires, fits1, fits2)) c.in_ok-rest-2.ensures
+            (seq_part grammar 1 (λ z h. h) (omega (arith, c.requires, fits1, fits2)) (below c.requires) f3
+            (seq_done grammar 1 (omega (arith, c.requires, fits1, fits2, fits3)))))))),
+      );
+    }
 
 -- ---- cased
 
 pub expressions::cased-returns-in_err-list : goal.expressions::cased-returns-in_err-list
 expressions::cased-returns-in_err-list t c =
-    let p = err_from_is_err_and c.from_residual.result c.from_residual.ensures.1 in
-    let le : 2 ≤ c.args.room = c.requires in
-    let up : 1 + (c.args.room - 1) ≡ c.args.room = omega (arith, le) in
-    rw (p.1, p.2) (record { by = by_rule (rules.case_rule c.args.place) refl le (seq_part_stop grammar 1 (λ p z. refl) (omega (arith, le)) up c.in_err-list.ensures.by) })
+    rw (handed_on c.from_residual.result c.from_residual.ensures.1)
+    (record {
+      by = by_rule (rules.case_rule c.args.place) refl c.requires
+          (seq_part_stop grammar 1 (λ p z. refl) (omega (arith, c.requires)) (below c.requires) c.in_err-list.ensures.by);
+    })
 
 pub expressions::cased-returns-in_err-rest : goal.expressions::cased-returns-in_err-rest
 expressions::cased-returns-in_err-rest t c =
-    let p = err_from_is_err_and c.from_residual-in_err-rest.result c.from_residual-in_err-rest.ensures.1 in
-    let le : 2 ≤ c.args.room = c.requires in
-    let up : 1 + (c.args.room - 1) ≡ c.args.room = omega (arith, le) in
     let (x1, s1, f1) = c.in_ok-list.ensures.by in
     let fits1 = f1.by.fits in
-    rw (p.1, p.2) (record { by = by_rule (rules.case_rule c.args.place) refl le (seq_part grammar 1 (λ p z. refl) (omega (arith, le)) up f1 (seq_one_stop grammar 1 (omega (arith, le, fits1)) c.in_err-rest.ensures)) })
+    rw (handed_on c.from_residual-in_err-rest.result c.from_residual-in_err-rest.ensures.1)
+    (record {
+      by = by_rule (rules.case_rule c.args.place) refl c.requires
+          (seq_part grammar 1 (λ p z. refl) (omega (arith, c.requires)) (below c.requires) f1
+          (seq_one_stop grammar 1 (omega (arith, c.requires, fits1)) c.in_err-rest.ensures));
+    })
 
 pub expressions::cased-returns-in_err-rest-2 : goal.expressions::cased-returns-in_err-rest-2
 expressions::cased-returns-in_err-rest-2 t c =
-    let p = err_from_is_err_and c.from_residual-in_err-rest-2.result c.from_residual-in_err-rest-2.ensures.1 in
-    let le : 2 ≤ c.args.room = c.requires in
-    let up : 1 + (c.args.room - 1) ≡ c.args.room = omega (arith, le) in
     let (x1, s1, f1) = c.in_ok-list.ensures.by in
     let fits1 = f1.by.fits in
-    rw (p.1, p.2) (record { by = by_rule (rules.case_rule c.args.place) refl le (seq_part grammar 1 (λ p z. refl) (omega (arith, le)) up f1 (seq_one grammar 1 (omega (arith, le, fits1)) c.in_ok-rest.ensures (seq_one_stop grammar 1 (omega (arith, le, fits1)) c.in_err-rest-2.ensures))) })
+    rw (handed_on c.from_residual-in_err-rest-2.result c.from_residual-in_err-rest-2.ensures.1)
+    (record {
+      by = by_rule (rules.case_rule c.args.place) refl c.requires
+          (seq_part grammar 1 (λ p z. refl) (omega (arith, c.requires)) (below c.requires) f1
+          (seq_one grammar 1 (omega (arith, c.requires, fits1)) c.in_ok-rest.ensures
+          (seq_one_stop grammar 1 (omega (arith, c.requires, fits1)) c.in_err-rest-2.ensures)));
+    })
 
 pub expressions::cased-returns-in_err-rest-3 : goal.expressions::cased-returns-in_err-rest-3
 expressions::cased-returns-in_err-rest-3 t c =
-    let p = err_from_is_err_and c.from_residual-in_err-rest-3.result c.from_residual-in_err-rest-3.ensures.1 in
-    let le : 2 ≤ c.args.room = c.requires in
-    let up : 1 + (c.args.room - 1) ≡ c.args.room = omega (arith, le) in
     let (x1, s1, f1) = c.in_ok-list.ensures.by in
     let fits1 = f1.by.fits in
-    rw (p.1, p.2) (record { by = by_rule (rules.case_rule c.args.place) refl le (seq_part grammar 1 (λ p z. refl) (omega (arith, le)) up f1 (seq_one grammar 1 (omega (arith, le, fits1)) c.in_ok-rest.ensures (seq_one grammar 1 (omega (arith, le, fits1)) c.in_ok-rest-2.ensures (seq_one_stop grammar 1 (omega (arith, le, fits1)) c.in_err-rest-3.ensures)))) })
+    rw (handed_on c.from_residual-in_err-rest-3.result c.from_residual-in_err-rest-3.ensures.1)
+    (record {
+      by = by_rule (rules.case_rule c.args.place) refl c.requires
+          (seq_part grammar 1 (λ p z. refl) (omega (arith, c.requires)) (below c.requires) f1
+          (seq_one grammar 1 (omega (arith, c.requires, fits1)) c.in_ok-rest.ensures
+          (seq_one grammar 1 (omega (arith, c.requires, fits1)) c.in_ok-rest-2.ensures
+          (seq_one_stop grammar 1 (omega (arith, c.requires, fits1)) c.in_err-rest-3.ensures))));
+    })
 
 pub expressions::cased-returns-in_err-rest-4 : goal.expressions::cased-returns-in_err-rest-4
 expressions::cased-returns-in_err-rest-4 t c =
-    let p = err_from_is_err_and c.from_residual-in_err-rest-4.result c.from_residual-in_err-rest-4.ensures.1 in
-    let le : 2 ≤ c.args.room = c.requires in
-    let up : 1 + (c.args.room - 1) ≡ c.args.room = omega (arith, le) in
     let (x1, s1, f1) = c.in_ok-list.ensures.by in
     let fits1 = f1.by.fits in
-    rw (p.1, p.2) (record { by = by_rule (rules.case_rule c.args.place) refl le (seq_part grammar 1 (λ p z. refl) (omega (arith, le)) up f1 (seq_one grammar 1 (omega (arith, le, fits1)) c.in_ok-rest.ensures (seq_one grammar 1 (omega (arith, le, fits1)) c.in_ok-rest-2.ensures (seq_one grammar 1 (omega (arith, le, fits1)) c.in_ok-rest-3.ensures (seq_one_stop grammar 1 (omega (arith, le, fits1)) c.in_err-rest-4.ensures))))) })
+    rw (handed_on c.from_residual-in_err-rest-4.result c.from_residual-in_err-rest-4.ensures.1)
+    (record {
+      by = by_rule (rules.case_rule c.args.place) refl c.requires
+          (seq_part grammar 1 (λ p z. refl) (omega (arith, c.requires)) (below c.requires) f1
+          (seq_one grammar 1 (omega (arith, c.requires, fits1)) c.in_ok-rest.ensures
+          (seq_one grammar 1 (omega (arith, c.requires, fits1)) c.in_ok-rest-2.ensures
+          (seq_one grammar 1 (omega (arith, c.requires, fits1)) c.in_ok-rest-3.ensures
+          (seq_one_stop grammar 1 (omega (arith, c.requires, fits1)) c.in_err-rest-4.ensures)))));
+    })
 
 pub expressions::cased-returns-in_err-empty : goal.expressions::cased-returns-in_err-empty
 expressions::cased-returns-in_err-empty t c =
-    let p = err_from_is_err_and c.from_residual-in_err-empty.result c.from_residual-in_err-empty.ensures.1 in
-    let le : 2 ≤ c.args.room = c.requires in
-    let up : 1 + (c.args.room - 1) ≡ c.args.room = omega (arith, le) in
     let (x1, s1, f1) = c.in_ok-list.ensures.by in
     let fits1 = f1.by.fits in
-    rw (p.1, p.2) (record { by = by_rule (rules.case_rule c.args.place) refl le (seq_part grammar 1 (λ p z. refl) (omega (arith, le)) up f1 (seq_one grammar 1 (omega (arith, le, fits1)) c.in_ok-rest.ensures (seq_one grammar 1 (omega (arith, le, fits1)) c.in_ok-rest-2.ensures (seq_one grammar 1 (omega (arith, le, fits1)) c.in_ok-rest-3.ensures (seq_one grammar 1 (omega (arith, le, fits1)) c.in_ok-rest-4.ensures (seq_part_stop grammar 1 (λ p z. refl) (omega (arith, le, fits1)) up c.in_err-empty.ensures.by)))))) })
+    rw (handed_on c.from_residual-in_err-empty.result c.from_residual-in_err-empty.ensures.1)
+    (record {
+      by = by_rule (rules.case_rule c.args.place) refl c.requires
+          (seq_part grammar 1 (λ p z. refl) (omega (arith, c.requires)) (below c.requires) f1
+          (seq_one grammar 1 (omega (arith, c.requires, fits1)) c.in_ok-rest.ensures
+          (seq_one grammar 1 (omega (arith, c.requires, fits1)) c.in_ok-rest-2.ensures
+          (seq_one grammar 1 (omega (arith, c.requires, fits1)) c.in_ok-rest-3.ensures
+          (seq_one grammar 1 (omega (arith, c.requires, fits1)) c.in_ok-rest-4.ensures
+          (seq_part_stop grammar 1 (λ p z. refl) (omega (arith, c.requires, fits1)) (below c.requires) c.in_err-empty.ensures.by))))));
+    })
 
 pub expressions::cased-returns-in_err-rest-5 : goal.expressions::cased-returns-in_err-rest-5
 expressions::cased-returns-in_err-rest-5 t c =
-    let p = err_from_is_err_and c.from_residual-in_err-rest-5.result c.from_residual-in_err-rest-5.ensures.1 in
-    let le : 2 ≤ c.args.room = c.requires in
-    let up : 1 + (c.args.room - 1) ≡ c.args.room = omega (arith, le) in
     let (x1, s1, f1) = c.in_ok-list.ensures.by in
     let fits1 = f1.by.fits in
     let (x2, s2, f2) = c.in_ok-empty.ensures.by in
     let fits2 = f2.by.fits in
-    rw (p.1, p.2) (record { by = by_rule (rules.case_rule c.args.place) refl le (seq_part grammar 1 (λ p z. refl) (omega (arith, le)) up f1 (seq_one grammar 1 (omega (arith, le, fits1)) c.in_ok-rest.ensures (seq_one grammar 1 (omega (arith, le, fits1)) c.in_ok-rest-2.ensures (seq_one grammar 1 (omega (arith, le, fits1)) c.in_ok-rest-3.ensures (seq_one grammar 1 (omega (arith, le, fits1)) c.in_ok-rest-4.ensures (seq_part grammar 1 (λ p z. refl) (omega (arith, le, fits1)) up f2 (seq_one_stop grammar 1 (omega (arith, le, fits1, fits2)) c.in_err-rest-5.ensures))))))) })
+    rw (handed_on c.from_residual-in_err-rest-5.result c.from_residual-in_err-rest-5.ensures.1)
+    (record {
+      by = by_rule (rules.case_rule c.args.place) refl c.requires
+          (seq_part grammar 1 (λ p z. refl) (omega (arith, c.requires)) (below c.requires) f1
+          (seq_one grammar 1 (omega (arith, c.requires, fits1)) c.in_ok-rest.ensures
+          (seq_one grammar 1 (omega (arith, c.requires, fits1)) c.in_ok-rest-2.ensures
+          (seq_one grammar 1 (omega (arith, c.requires, fits1)) c.in_ok-rest-3.ensures
+          (seq_one grammar 1 (omega (arith, c.requires, fits1)) c.in_ok-rest-4.ensures
+          (seq_part grammar 1 (λ p z. refl) (omega (arith, c.requires, fits1)) (below c.requires) f2
+          (seq_one_stop grammar 1 (omega (arith, c.requires, fits1, fits2)) c.in_err-rest-5.ensures)))))));
+    })
 
 pub expressions::cased-returns-in_err-head : goal.expressions::cased-returns-in_err-head
 expressions::cased-returns-in_err-head t c =
-    let p = err_from_is_err_and c.from_residual-in_err-head.result c.from_residual-in_err-head.ensures.1 in
-    let le : 2 ≤ c.args.room = c.requires in
-    let up : 1 + (c.args.room - 1) ≡ c.args.room = omega (arith, le) in
     let (x1, s1, f1) = c.in_ok-list.ensures.by in
     let fits1 = f1.by.fits in
     let (x2, s2, f2) = c.in_ok-empty.ensures.by in
     let fits2 = f2.by.fits in
-    rw (p.1, p.2) (record { by = by_rule (rules.case_rule c.args.place) refl le (seq_part grammar 1 (λ p z. refl) (omega (arith, le)) up f1 (seq_one grammar 1 (omega (arith, le, fits1)) c.in_ok-rest.ensures (seq_one grammar 1 (omega (arith, le, fits1)) c.in_ok-rest-2.ensures (seq_one grammar 1 (omega (arith, le, fits1)) c.in_ok-rest-3.ensures (seq_one grammar 1 (omega (arith, le, fits1)) c.in_ok-rest-4.ensures (seq_part grammar 1 (λ p z. refl) (omega (arith, le, fits1)) up f2 (seq_one grammar 1 (omega (arith, le, fits1, fits2)) c.in_ok-rest-5.ensures (seq_one_stop grammar 1 (omega (arith, le, fits1, fits2)) c.in_err-head.ensures)))))))) })
+    rw (handed_on c.from_residual-in_err-head.result c.from_residual-in_err-head.ensures.1)
+    (record {
+      by = by_rule (rules.case_rule c.args.place) refl c.requires
+          (seq_part grammar 1 (λ p z. refl) (omega (arith, c.requires)) (below c.requires) f1
+          (seq_one grammar 1 (omega (arith, c.requires, fits1)) c.in_ok-rest.ensures
+          (seq_one grammar 1 (omega (arith, c.requires, fits1)) c.in_ok-rest-2.ensures
+          (seq_one grammar 1 (omega (arith, c.requires, fits1)) c.in_ok-rest-3.ensures
+          (seq_one grammar 1 (omega (arith, c.requires, fits1)) c.in_ok-rest-4.ensures
+          (seq_part grammar 1 (λ p z. refl) (omega (arith, c.requires, fits1)) (below c.requires) f2
+          (seq_one grammar 1 (omega (arith, c.requires, fits1, fits2)) c.in_ok-rest-5.ensures
+          (seq_one_stop grammar 1 (omega (arith, c.requires, fits1, fits2)) c.in_err-head.ensures))))))));
+    })
 
 pub expressions::cased-returns-in_err-rest-6 : goal.expressions::cased-returns-in_err-rest-6
 expressions::cased-returns-in_err-rest-6 t c =
-    let p = err_from_is_err_and c.from_residual-in_err-rest-6.result c.from_residual-in_err-rest-6.ensures.1 in
-    let le : 2 ≤ c.args.room = c.requires in
-    let up : 1 + (c.args.room - 1) ≡ c.args.room = omega (arith, le) in
     let (x1, s1, f1) = c.in_ok-list.ensures.by in
     let fits1 = f1.by.fits in
     let (x2, s2, f2) = c.in_ok-empty.ensures.by in
     let fits2 = f2.by.fits in
-    rw (p.1, p.2) (record { by = by_rule (rules.case_rule c.args.place) refl le (seq_part grammar 1 (λ p z. refl) (omega (arith, le)) up f1 (seq_one grammar 1 (omega (arith, le, fits1)) c.in_ok-rest.ensures (seq_one grammar 1 (omega (arith, le, fits1)) c.in_ok-rest-2.ensures (seq_one grammar 1 (omega (arith, le, fits1)) c.in_ok-rest-3.ensures (seq_one grammar 1 (omega (arith, le, fits1)) c.in_ok-rest-4.ensures (seq_part grammar 1 (λ p z. refl) (omega (arith, le, fits1)) up f2 (seq_one grammar 1 (omega (arith, le, fits1, fits2)) c.in_ok-rest-5.ensures (seq_one grammar 1 (omega (arith, le, fits1, fits2)) c.in_ok-head.ensures (seq_one_stop grammar 1 (omega (arith, le, fits1, fits2)) c.in_err-rest-6.ensures))))))))) })
+    rw (handed_on c.from_residual-in_err-rest-6.result c.from_residual-in_err-rest-6.ensures.1)
+    (record {
+      by = by_rule (rules.case_rule c.args.place) refl c.requires
+          (seq_part grammar 1 (λ p z. refl) (omega (arith, c.requires)) (below c.requires) f1
+          (seq_one grammar 1 (omega (arith, c.requires, fits1)) c.in_ok-rest.ensures
+          (seq_one grammar 1 (omega (arith, c.requires, fits1)) c.in_ok-rest-2.ensures
+          (seq_one grammar 1 (omega (arith, c.requires, fits1)) c.in_ok-rest-3.ensures
+          (seq_one grammar 1 (omega (arith, c.requires, fits1)) c.in_ok-rest-4.ensures
+          (seq_part grammar 1 (λ p z. refl) (omega (arith, c.requires, fits1)) (below c.requires) f2
+          (seq_one grammar 1 (omega (arith, c.requires, fits1, fits2)) c.in_ok-rest-5.ensures
+          (seq_one grammar 1 (omega (arith, c.requires, fits1, fits2)) c.in_ok-head.ensures
+          (seq_one_stop grammar 1 (omega (arith, c.requires, fits1, fits2)) c.in_err-rest-6.ensures)))))))));
+    })
 
 pub expressions::cased-returns-in_err-tail : goal.expressions::cased-returns-in_err-tail
 expressions::cased-returns-in_err-tail t c =
-    let p = err_from_is_err_and c.from_residual-in_err-tail.result c.from_residual-in_err-tail.ensures.1 in
-    let le : 2 ≤ c.args.room = c.requires in
-    let up : 1 + (c.args.room - 1) ≡ c.args.room = omega (arith, le) in
     let (x1, s1, f1) = c.in_ok-list.ensures.by in
     let fits1 = f1.by.fits in
     let (x2, s2, f2) = c.in_ok-empty.ensures.by in
     let fits2 = f2.by.fits in
-    rw (p.1, p.2) (record { by = by_rule (rules.case_rule c.args.place) refl le (seq_part grammar 1 (λ p z. refl) (omega (arith, le)) up f1 (seq_one grammar 1 (omega (arith, le, fits1)) c.in_ok-rest.ensures (seq_one grammar 1 (omega (arith, le, fits1)) c.in_ok-rest-2.ensures (seq_one grammar 1 (omega (arith, le, fits1)) c.in_ok-rest-3.ensures (seq_one grammar 1 (omega (arith, le, fits1)) c.in_ok-rest-4.ensures (seq_part grammar 1 (λ p z. refl) (omega (arith, le, fits1)) up f2 (seq_one grammar 1 (omega (arith, le, fits1, fits2)) c.in_ok-rest-5.ensures (seq_one grammar 1 (omega (arith, le, fits1, fits2)) c.in_ok-head.ensures (seq_one grammar 1 (omega (arith, le, fits1, fits2)) c.in_ok-rest-6.ensures (seq_one_stop grammar 1 (omega (arith, le, fits1, fits2)) c.in_err-tail.ensures)))))))))) })
+    rw (handed_on c.from_residual-in_err-tail.result c.from_residual-in_err-tail.ensures.1)
+    (record {
+      by = by_rule (rules.case_rule c.args.place) refl c.requires
+          (seq_part grammar 1 (λ p z. refl) (omega (arith, c.requires)) (below c.requires) f1
+          (seq_one grammar 1 (omega (arith, c.requires, fits1)) c.in_ok-rest.ensures
+          (seq_one grammar 1 (omega (arith, c.requires, fits1)) c.in_ok-rest-2.ensures
+          (seq_one grammar 1 (omega (arith, c.requires, fits1)) c.in_ok-rest-3.ensures
+          (seq_one grammar 1 (omega (arith, c.requires, fits1)) c.in_ok-rest-4.ensures
+          (seq_part grammar 1 (λ p z. refl) (omega (arith, c.requires, fits1)) (below c.requires) f2
+          (seq_one grammar 1 (omega (arith, c.requires, fits1, fits2)) c.in_ok-rest-5.ensures
+          (seq_one grammar 1 (omega (arith, c.requires, fits1, fits2)) c.in_ok-head.ensures
+          (seq_one grammar 1 (omega (arith, c.requires, fits1, fits2)) c.in_ok-rest-6.ensures
+          (seq_one_stop grammar 1 (omega (arith, c.requires, fits1, fits2)) c.in_err-tail.ensures))))))))));
+    })
 
 pub expressions::cased-returns-in_err-rest-7 : goal.expressions::cased-returns-in_err-rest-7
 expressions::cased-returns-in_err-rest-7 t c =
-    let p = err_from_is_err_and c.from_residual-in_err-rest-7.result c.from_residual-in_err-rest-7.ensures.1 in
-    let le : 2 ≤ c.args.room = c.requires in
-    let up : 1 + (c.args.room - 1) ≡ c.args.room = omega (arith, le) in
     let (x1, s1, f1) = c.in_ok-list.ensures.by in
     let fits1 = f1.by.fits in
     let (x2, s2, f2) = c.in_ok-empty.ensures.by in
     let fits2 = f2.by.fits in
-    rw (p.1, p.2) (record { by = by_rule (rules.case_rule c.args.place) refl le (seq_part grammar 1 (λ p z. refl) (omega (arith, le)) up f1 (seq_one grammar 1 (omega (arith, le, fits1)) c.in_ok-rest.ensures (seq_one grammar 1 (omega (arith, le, fits1)) c.in_ok-rest-2.ensures (seq_one grammar 1 (omega (arith, le, fits1)) c.in_ok-rest-3.ensures (seq_one grammar 1 (omega (arith, le, fits1)) c.in_ok-rest-4.ensures (seq_part grammar 1 (λ p z. refl) (omega (arith, le, fits1)) up f2 (seq_one grammar 1 (omega (arith, le, fits1, fits2)) c.in_ok-rest-5.ensures (seq_one grammar 1 (omega (arith, le, fits1, fits2)) c.in_ok-head.ensures (seq_one grammar 1 (omega (arith, le, fits1, fits2)) c.in_ok-rest-6.ensures (seq_one grammar 1 (omega (arith, le, fits1, fits2)) c.in_ok-tail.ensures (seq_one_stop grammar 1 (omega (arith, le, fits1, fits2)) c.in_err-rest-7.ensures))))))))))) })
+    rw (handed_on c.from_residual-in_err-rest-7.result c.from_residual-in_err-rest-7.ensures.1)
+    (record {
+      by = by_rule (rules.case_rule c.args.place) refl c.requires
+          (seq_part grammar 1 (λ p z. refl) (omega (arith, c.requires)) (below c.requires) f1
+          (seq_one grammar 1 (omega (arith, c.requires, fits1)) c.in_ok-rest.ensures
+          (seq_one grammar 1 (omega (arith, c.requires, fits1)) c.in_ok-rest-2.ensures
+          (seq_one grammar 1 (omega (arith, c.requires, fits1)) c.in_ok-rest-3.ensures
+          (seq_one grammar 1 (omega (arith, c.requires, fits1)) c.in_ok-rest-4.ensures
+          (seq_part grammar 1 (λ p z. refl) (omega (arith, c.requires, fits1)) (below c.requires) f2
+          (seq_one grammar 1 (omega (arith, c.requires, fits1, fits2)) c.in_ok-rest-5.ensures
+          (seq_one grammar 1 (omega (arith, c.requires, fits1, fits2)) c.in_ok-head.ensures
+          (seq_one grammar 1 (omega (arith, c.requires, fits1, fits2)) c.in_ok-rest-6.ensures
+          (seq_one grammar 1 (omega (arith, c.requires, fits1, fits2)) c.in_ok-tail.ensures
+          (seq_one_stop grammar 1 (omega (arith, c.requires, fits1, fits2)) c.in_err-rest-7.ensures)))))))))));
+    })
 
 pub expressions::cased-returns-in_err-more : goal.expressions::cased-returns-in_err-more
 expressions::cased-returns-in_err-more t c =
-    let p = err_from_is_err_and c.from_residual-in_err-more.result c.from_residual-in_err-more.ensures.1 in
-    let le : 2 ≤ c.args.room = c.requires in
-    let up : 1 + (c.args.room - 1) ≡ c.args.room = omega (arith, le) in
     let (x1, s1, f1) = c.in_ok-list.ensures.by in
     let fits1 = f1.by.fits in
     let (x2, s2, f2) = c.in_ok-empty.ensures.by in
     let fits2 = f2.by.fits in
-    rw (p.1, p.2) (record { by = by_rule (rules.case_rule c.args.place) refl le (seq_part grammar 1 (λ p z. refl) (omega (arith, le)) up f1 (seq_one grammar 1 (omega (arith, le, fits1)) c.in_ok-rest.ensures (seq_one grammar 1 (omega (arith, le, fits1)) c.in_ok-rest-2.ensures (seq_one grammar 1 (omega (arith, le, fits1)) c.in_ok-rest-3.ensures (seq_one grammar 1 (omega (arith, le, fits1)) c.in_ok-rest-4.ensures (seq_part grammar 1 (λ p z. refl) (omega (arith, le, fits1)) up f2 (seq_one grammar 1 (omega (arith, le, fits1, fits2)) c.in_ok-rest-5.ensures (seq_one grammar 1 (omega (arith, le, fits1, fits2)) c.in_ok-head.ensures (seq_one grammar 1 (omega (arith, le, fits1, fits2)) c.in_ok-rest-6.ensures (seq_one grammar 1 (omega (arith, le, fits1, fits2)) c.in_ok-tail.ensures (seq_one grammar 1 (omega (arith, le, fits1, fits2)) c.in_ok-rest-7.ensures (seq_part_stop grammar 1 (λ z h. h) (omega (arith, le, fits1, fits2)) up c.in_err-more.ensures.by)))))))))))) })
+    rw (handed_on c.from_residual-in_err-more.result c.from_residual-in_err-more.ensures.1)
+    (record {
+      by = by_rule (rules.case_rule c.args.place) refl c.requires
+          (seq_part grammar 1 (λ p z. refl) (omega (arith, c.requires)) (below c.requires) f1
+          (seq_one grammar 1 (omega (arith, c.requires, fits1)) c.in_ok-rest.ensures
+          (seq_one grammar 1 (omega (arith, c.requires, fits1)) c.in_ok-rest-2.ensures
+          (seq_one grammar 1 (omega (arith, c.requires, fits1)) c.in_ok-rest-3.ensures
+          (seq_one grammar 1 (omega (arith, c.requires, fits1)) c.in_ok-rest-4.ensures
+          (seq_part grammar 1 (λ p z. refl) (omega (arith, c.requires, fits1)) (below c.requires) f2
+          (seq_one grammar 1 (omega (arith, c.requires, fits1, fits2)) c.in_ok-rest-5.ensures
+          (seq_one grammar 1 (omega (arith, c.requires, fits1, fits2)) c.in_ok-head.ensures
+          (seq_one grammar 1 (omega (arith, c.requires, fits1, fits2)) c.in_ok-rest-6.ensures
+          (seq_one grammar 1 (omega (arith, c.requires, fits1, fits2)) c.in_ok-tail.ensures
+          (seq_one grammar 1 (omega (arith, c.requires, fits1, fits2)) c.in_ok-rest-7.ensures
+          (seq_part_stop grammar 1 (λ z h. h) (omega (arith, c.requires, fits1, fits2))
+          (below c.requires) c.in_err-more.ensures.by))))))))))));
+    })
 
 pub expressions::cased-returns : goal.expressions::cased-returns
 expressions::cased-returns t c =
-    let le : 2 ≤ c.args.room = c.requires in
-    let up : 1 + (c.args.room - 1) ≡ c.args.room = omega (arith, le) in
     let (x1, s1, f1) = c.in_ok-list.ensures.by in
     let fits1 = f1.by.fits in
     let (x2, s2, f2) = c.in_ok-empty.ensures.by in
     let fits2 = f2.by.fits in
     let (x3, s3, f3) = c.in_ok-more.ensures.by in
     let fits3 = f3.by.fits in
-    record { by = (_, over_three_is (λ l a b. case_expr l a c.in_ok-head.head.now c.in_ok-tail.tail.now b) s1 s2 s3 c.in_ok-cased.ensures.shown, by_rule (rules.case_rule c.args.place) refl le (seq_part grammar 1 (λ p z. refl) (omega (arith, le)) up f1 (seq_one grammar 1 (omega (arith, le, fits1)) c.in_ok-rest.ensures (seq_one grammar 1 (omega (arith, le, fits1)) c.in_ok-rest-2.ensures (seq_one grammar 1 (omega (arith, le, fits1)) c.in_ok-rest-3.ensures (seq_one grammar 1 (omega (arith, le, fits1)) c.in_ok-rest-4.ensures (seq_part grammar 1 (λ p z. refl) (omega (arith, le, fits1)) up f2 (seq_one grammar 1 (omega (arith, le, fits1, fits2)) c.in_ok-rest-5.ensures (seq_one grammar 1 (omega (arith, le, fits1, fits2)) c.in_ok-head.ensures (seq_one grammar 1 (omega (arith, le, fits1, fits2)) c.in_ok-rest-6.ensures (seq_one grammar 1 (omega (arith, le, fits1, fits2)) c.in_ok-tail.ensures (seq_one grammar 1 (omega (arith, le, fits1, fits2)) c.in_ok-rest-7.ensures (seq_part grammar 1 (λ z h. h) (omega (arith, le, fits1, fits2)) up f3 (seq_done grammar 1 (omega (arith, le, fits1, fits2, fits3)))))))))))))))) }
+    record {
+      by = (
+        _,
+        over_three_is (λ l a b. case_expr l a c.in_ok-head.head.now c.in_ok-tail.tail.now b)
+            s1 s2 s3 c.in_ok-cased.ensures.shown,
+        by_rule (rules.case_rule c.args.place) refl c.requires
+            (seq_part grammar 1 (λ p z. refl) (omega (arith, c.requires)) (below c.requires) f1
+            (seq_one grammar 1 (omega (arith, c.requires, fits1)) c.in_ok-rest.ensures
+            (seq_one grammar 1 (omega (arith, c.requires, fits1)) c.in_ok-rest-2.ensures
+            (seq_one grammar 1 (omega (arith, c.requires, fits1)) c.in_ok-rest-3.ensures
+            (seq_one grammar 1 (omega (arith, c.requires, fits1)) c.in_ok-rest-4.ensures
+            (seq_part grammar 1 (λ p z. refl) (omega (arith, c.requires, fits1)) (below c.requires) f2
+            (seq_one grammar 1 (omega (arith, c.requires, fits1, fits2)) c.in_ok-rest-5.ensures
+            (seq_one grammar 1 (omega (arith, c.requires, fits1, fits2)) c.in_ok-head.ensures
+            (seq_one grammar 1 (omega (arith, c.requires, fits1, fits2)) c.in_ok-rest-6.ensures
+            (seq_one grammar 1 (omega (arith, c.requires, fits1, fits2)) c.in_ok-tail.ensures
+            (seq_one grammar 1 (omega (arith, c.requires, fits1, fits2)) c.in_ok-rest-7.ensures
+            (seq_part grammar 1 (λ z h. h) (omega (arith, c.requires, fits1, fits2)) (below c.requires) f3
+            (seq_done grammar 1 (omega (arith, c.requires, fits1, fits2, fits3))))))))))))))),
+      );
+    }
 
 -- ---- operators
 
 pub operators::operators-returns-in_err-left : goal.operators::operators-returns-in_err-left
 operators::operators-returns-in_err-left t c =
-    let p = err_from_is_err_and c.from_residual.result c.from_residual.ensures.1 in
-    rw (p.1, p.2) (operators.begin_stop c.args.level c.in_err-left.ensures)
+    rw (handed_on c.from_residual.result c.from_residual.ensures.1) (operators.begin_stop c.args.level c.in_err-left.ensures)
 
 pub operators::operators-loop-op-init : goal.operators::operators-loop-op-init
 operators::operators-loop-op-init t c =
@@ -316,9 +467,9 @@ operators::operators-returns-then-left-room t c =
 
 pub operators::operators-returns-in_err-right : goal.operators::operators-returns-in_err-right
 operators::operators-returns-in_err-right t c =
-    let p = err_from_is_err_and c.from_residual-in_err-right.result c.from_residual-in_err-right.ensures.1 in
     let (o, q, e, is) = c.in-Some.ensures in
-    rw (p.1, p.2) (operators.next_stop c.args.level c.loop-op.invariant o q e (omega arith) c.in_err-right.ensures)
+    rw (handed_on c.from_residual-in_err-right.result c.from_residual-in_err-right.ensures.1)
+    (operators.next_stop c.args.level c.loop-op.invariant o q e (omega arith) c.in_err-right.ensures)
 
 pub operators::operators-loop-op-preserved : goal.operators::operators-loop-op-preserved
 operators::operators-loop-op-preserved t c =
@@ -350,13 +501,20 @@ operators::part-returns-in-Product t c = at_level c.in-Product.is c.operand.ensu
 
 pub operators::comparison-returns-in_err-left : goal.operators::comparison-returns-in_err-left
 operators::comparison-returns-in_err-left t c =
-    let p = err_from_is_err_and c.from_residual.result c.from_residual.ensures.1 in
-    rw (p.1, p.2) (record { by = all_stop comparisons (λ _. tt) c.in_err-left.ensures.by })
+    rw (handed_on c.from_residual.result c.from_residual.ensures.1)
+    (record { by = all_stop comparisons (λ _. tt) c.in_err-left.ensures.by })
 
 pub operators::comparison-returns-in_default : goal.operators::comparison-returns-in_default
 operators::comparison-returns-in_default t c =
     let (x, sx, fx) = c.in_ok-left.ensures.by in
-    record { by = ((uncompared x.0, x.1), sx, all_found comparisons (λ _. tt) fx (bare_found comparisons (λ l s e. c.in_default.ensures l.0 l.1 s e) fx.by.fits)) }
+    record {
+      by = (
+        (uncompared x.0, x.1),
+        sx,
+        all_found comparisons (λ _. tt) fx
+            (bare_found comparisons (λ l s e. c.in_default.ensures l.0 l.1 s e) fx.by.fits),
+      );
+    }
 
 pub operators::comparison-returns-then-left-room : goal.operators::comparison-returns-then-left-room
 operators::comparison-returns-then-left-room t c =
@@ -366,11 +524,14 @@ operators::comparison-returns-then-left-room t c =
     let few = least_levels x.0 in
     let count = ap (λ q. q.levels) sx in
     let (o, q, e, is) = c.in-Some.ensures in
-    rw c.too_nested.ensures (record { by = all_found comparisons (λ _. tt) fx (counted _ (led_too_deep comparisons (o, q) e (omega (arith, same, few, count)))) })
+    rw c.too_nested.ensures
+    (record {
+      by = all_found comparisons (λ _. tt) fx
+          (counted _ (led_too_deep comparisons (o, q) e (omega (arith, same, few, count))));
+    })
 
 pub operators::comparison-returns-in_err-right : goal.operators::comparison-returns-in_err-right
 operators::comparison-returns-in_err-right t c =
-    let p = err_from_is_err_and c.from_residual-in_err-right.result c.from_residual-in_err-right.ensures.1 in
     let (x, sx, fx) = c.in_ok-left.ensures.by in
     let fits = fx.by.fits in
     let same = fx.by.found.1 in
@@ -379,7 +540,12 @@ operators::comparison-returns-in_err-right t c =
     let (o, q, e, is) = c.in-Some.ensures in
     let le : 1 + max x.1 1 ≤ c.args.room = omega (arith, same, few, count) in
     let up : 1 + (c.args.room - 1) ≡ c.args.room = omega (arith, le) in
-    rw (p.1, p.2) (record { by = all_found comparisons (λ _. tt) fx (led comparisons (o, q) e le (seq_part_stop grammar 1 (λ z h. stops_within listed comparison (omega arith) z h) (omega (arith, le)) up c.in_err-right.ensures.by)) })
+    rw (handed_on c.from_residual-in_err-right.result c.from_residual-in_err-right.ensures.1)
+    (record {
+      by = all_found comparisons (λ _. tt) fx
+          (led comparisons (o, q) e le (seq_part_stop grammar 1 (λ z h. stops_within listed comparison (omega arith) z h)
+          (omega (arith, le)) up c.in_err-right.ensures.by));
+    })
 
 pub operators::comparison-returns : goal.operators::comparison-returns
 operators::comparison-returns t c =
@@ -393,14 +559,22 @@ operators::comparison-returns t c =
     let up : 1 + (c.args.room - 1) ≡ c.args.room = omega (arith, le) in
     let (y, sy, fy) = c.in_ok-right.ensures.by in
     let fits' = fy.by.fits in
-    record { by = (_, operated_is is sx sy c.in_ok-operated.ensures.shown, all_found comparisons (λ _. tt) fx (led comparisons (o, q) e le (seq_part grammar 1 (λ z h. stops_within listed comparison (omega arith) z h) (omega (arith, le)) up fy (seq_done grammar 1 (omega (arith, le, fits, fits')))))) }
+    record {
+      by = (
+        _,
+        operated_is (start_compared x.0 o q y.0) is sx sy c.in_ok-operated.ensures.shown,
+        all_found comparisons (λ _. tt) fx
+            (led comparisons (o, q) e le (seq_part grammar 1 (λ z h. stops_within listed comparison (omega arith) z h)
+            (omega (arith, le)) up fy
+            (seq_done grammar 1 (omega (arith, le, fits, fits'))))),
+      );
+    }
 
 -- ---- listed
 
 pub operators::listed-returns-in_err-left : goal.operators::listed-returns-in_err-left
 operators::listed-returns-in_err-left t c =
-    let p = err_from_is_err_and c.from_residual.result c.from_residual.ensures.1 in
-    rw (p.1, p.2) (record { by = all_stop listings (λ _. tt) c.in_err-left.ensures.by })
+    rw (handed_on c.from_residual.result c.from_residual.ensures.1) (record { by = all_stop listings (λ _. tt) c.in_err-left.ensures.by })
 
 pub operators::listed-returns-in_default : goal.operators::listed-returns-in_default
 operators::listed-returns-in_default t c =
@@ -414,11 +588,14 @@ operators::listed-returns-then-left-room t c =
     let same = fx.by.found.1 in
     let few = least_levels x.0 in
     let count = ap (λ q. q.levels) sx in
-    rw c.too_nested.ensures (record { by = all_found listings (λ _. tt) fx (counted _ (led_too_deep listings _ c.in-Some.ensures (omega (arith, same, few, count)))) })
+    rw c.too_nested.ensures
+    (record {
+      by = all_found listings (λ _. tt) fx
+          (counted _ (led_too_deep listings _ c.in-Some.ensures (omega (arith, same, few, count))));
+    })
 
 pub operators::listed-returns-in_err-right : goal.operators::listed-returns-in_err-right
 operators::listed-returns-in_err-right t c =
-    let p = err_from_is_err_and c.from_residual-in_err-right.result c.from_residual-in_err-right.ensures.1 in
     let (x, sx, fx) = c.in_ok-left.ensures.by in
     let fits = fx.by.fits in
     let same = fx.by.found.1 in
@@ -426,7 +603,11 @@ operators::listed-returns-in_err-right t c =
     let count = ap (λ q. q.levels) sx in
     let le : 1 + max x.1 1 ≤ c.args.room = omega (arith, same, few, count) in
     let up : 1 + (c.args.room - 1) ≡ c.args.room = omega (arith, le) in
-    rw (p.1, p.2) (record { by = all_found listings (λ _. tt) fx (led listings _ c.in-Some.ensures le (seq_part_stop grammar 1 (λ z h. h) (omega (arith, le)) up c.in_err-right.ensures.by)) })
+    rw (handed_on c.from_residual-in_err-right.result c.from_residual-in_err-right.ensures.1)
+    (record {
+      by = all_found listings (λ _. tt) fx
+          (led listings _ c.in-Some.ensures le (seq_part_stop grammar 1 (λ z h. h) (omega (arith, le)) up c.in_err-right.ensures.by));
+    })
 
 pub operators::listed-returns : goal.operators::listed-returns
 operators::listed-returns t c =
@@ -439,7 +620,15 @@ operators::listed-returns t c =
     let up : 1 + (c.args.room - 1) ≡ c.args.room = omega (arith, le) in
     let (y, sy, fy) = c.in_ok-right.ensures.by in
     let fits' = fy.by.fits in
-    record { by = (_, operated_is refl sx sy c.in_ok-operated.ensures.shown, all_found listings (λ _. tt) fx (led listings _ c.in-Some.ensures le (seq_part grammar 1 (λ z h. h) (omega (arith, le)) up fy (seq_done grammar 1 (omega (arith, le, fits, fits')))))) }
+    record {
+      by = (
+        _,
+        operated_is (start_cons x.0 _ y.0) refl sx sy c.in_ok-operated.ensures.shown,
+        all_found listings (λ _. tt) fx
+            (led listings _ c.in-Some.ensures le (seq_part grammar 1 (λ z h. h) (omega (arith, le)) up fy
+            (seq_done grammar 1 (omega (arith, le, fits, fits'))))),
+      );
+    }
 
 -- ---- operand
 
@@ -453,25 +642,34 @@ operators::operand-returns-then-room-lt2 t c =
 
 pub operators::operand-returns-in_err-inner : goal.operators::operand-returns-in_err-inner
 operators::operand-returns-in_err-inner t c =
-    let p = err_from_is_err_and c.from_residual.result c.from_residual.ensures.1 in
     let le : 2 ≤ c.args.room = omega arith in
-    let up : 1 + (c.args.room - 1) ≡ c.args.room = omega (arith, le) in
-    rw (p.1, p.2) (record { by = by_rule (prefix_rule _ _) c.in-Some.ensures le (seq_part_stop grammar 1 (λ z h. h) (omega (arith, le)) up c.in_err-inner.ensures.by) })
+    rw (handed_on c.from_residual.result c.from_residual.ensures.1)
+    (record {
+      by = by_rule (prefix_rule _ _) c.in-Some.ensures le
+          (seq_part_stop grammar 1 (λ z h. h) (omega (arith, le)) (below le) c.in_err-inner.ensures.by);
+    })
 
 pub operators::operand-returns : goal.operators::operand-returns
 operators::operand-returns t c =
     let le : 2 ≤ c.args.room = omega arith in
-    let up : 1 + (c.args.room - 1) ≡ c.args.room = omega (arith, le) in
     let (x, sx, fx) = c.in_ok-inner.ensures.by in
     let fits = fx.by.fits in
-    record { by = (_, over_one_is (prefix_of (prefix_term c.in-Some.op)) sx c.in_ok-prefixed.ensures.shown, by_rule (prefix_rule _ _) c.in-Some.ensures le (seq_part grammar 1 (λ z h. h) (omega (arith, le)) up fx (seq_done grammar 1 (omega (arith, le, fits))))) }
+    record {
+      by = (
+        _,
+        behind_is (unary_expression (prefix_term c.in-Some.op))
+            (start_prefixed (prefix_term c.in-Some.op) c.in-Some.place x.0) sx c.in_ok-prefixed.ensures.shown,
+        by_rule
+            (prefix_rule _ _) c.in-Some.ensures le (seq_part grammar 1 (λ z h. h) (omega (arith, le)) (below le) fx
+            (seq_done grammar 1 (omega (arith, le, fits)))),
+      );
+    }
 
 -- ---- atom
 
 pub atoms::atom-returns-in_err-found : goal.atoms::atom-returns-in_err-found
 atoms::atom-returns-in_err-found t c =
-    let p = err_from_is_err_and c.from_residual.result c.from_residual.ensures.1 in
-    rw (p.1, p.2) (c.in_err-found.ensures)
+    rw (handed_on c.from_residual.result c.from_residual.ensures.1) (c.in_err-found.ensures)
 
 pub atoms::atom-returns-then-room-lt1 : goal.atoms::atom-returns-then-room-lt1
 atoms::atom-returns-then-room-lt1 t c =
@@ -483,23 +681,31 @@ atoms::atom-returns-in-Some-strip_name t c =
 
 pub atoms::atom-returns-then-room-lt1-2 : goal.atoms::atom-returns-then-room-lt1-2
 atoms::atom-returns-then-room-lt1-2 t c =
-    rw c.too_nested-then-room-lt1-2.ensures (record { by = counted _ (no_room (nothing _ 0) tt c.in-Some-strip_sign.ensures (omega arith)) })
+    rw c.too_nested-then-room-lt1-2.ensures
+    (record { by = counted _ (no_room (nothing _ 0) tt c.in-Some-strip_symbol.ensures (omega arith)) })
 
-pub atoms::atom-returns-in-Some-strip_sign : goal.atoms::atom-returns-in-Some-strip_sign
-atoms::atom-returns-in-Some-strip_sign t c =
-    at_reading c.in-Some-strip_sign.ensures c.opened.ensures
+pub atoms::atom-returns-in-Some-strip_symbol : goal.atoms::atom-returns-in-Some-strip_symbol
+atoms::atom-returns-in-Some-strip_symbol t c =
+    at_reading c.in-Some-strip_symbol.ensures c.opened.ensures
 
 pub atoms::atom-returns-then-room-lt2 : goal.atoms::atom-returns-then-room-lt2
 atoms::atom-returns-then-room-lt2 t c =
-    rw c.too_nested-then-room-lt2.ensures (record { by = counted _ (too_deep (rules.elements_rule _) c.in-Some-strip_sign-2.ensures (omega arith)) })
+    rw c.too_nested-then-room-lt2.ensures
+    (record { by = counted _ (too_deep (rules.elements_rule _) c.in-Some-strip_symbol-2.ensures (omega arith)) })
 
-pub atoms::atom-returns-in-Some-strip_sign-2 : goal.atoms::atom-returns-in-Some-strip_sign-2
-atoms::atom-returns-in-Some-strip_sign-2 t c =
-    at_reading c.in-Some-strip_sign-2.ensures c.elements.ensures
+pub atoms::atom-returns-in-Some-strip_symbol-2 : goal.atoms::atom-returns-in-Some-strip_symbol-2
+atoms::atom-returns-in-Some-strip_symbol-2 t c =
+    at_reading c.in-Some-strip_symbol-2.ensures c.elements.ensures
 
 pub atoms::atom-returns : goal.atoms::atom-returns
 atoms::atom-returns t c =
-    rw c.unexpected.ensures (record { by = counted _ (no_atom _ (subst (λ o. ReadsSimple c.args.room (lexemes c.args.tokens.now) (seen_simple (λ r. (shown_host r.0, lexemes r.1.now)) (Ok o))) c.in_default.is c.in_ok-found.ensures) c.in_default-strip_name.ensures c.in_default-strip_sign.ensures c.in_default-strip_sign-2.ensures) })
+    rw c.unexpected.ensures
+    (record {
+      by = counted _
+          (no_atom _ (subst (λ o. ReadsSimple c.args.room (lexemes c.args.tokens.now)
+          (seen_simple (λ r. (shown_host r.0, lexemes r.1.now)) (Ok o))) c.in_default.is c.in_ok-found.ensures)
+          c.in_default-strip_name.ensures c.in_default-strip_symbol.ensures c.in_default-strip_symbol-2.ensures);
+    })
 
 -- ---- named
 
@@ -510,18 +716,27 @@ atoms::named-returns-in_default t c =
 
 pub atoms::named-returns-in_err-items : goal.atoms::named-returns-in_err-items
 atoms::named-returns-in_err-items t c =
-    let p = err_from_is_err_and c.from_residual-in_err-items.result c.from_residual-in_err-items.ensures.1 in
     let le : 1 ≤ c.args.room = omega arith in
-    let up : 1 + (c.args.room - 1) ≡ c.args.room = omega (arith, le) in
-    rw (p.1, p.2) (record { by = atoms.called _ _ c.in-Some.ensures le (seq_part_stop grammar 1 (λ z h. stops_within (enclosed arguments) atom (omega arith) z h) (omega (arith, le)) up c.in_err-items.ensures.by) })
+    rw (handed_on c.from_residual-in_err-items.result c.from_residual-in_err-items.ensures.1)
+    (record {
+      by = atoms.called _ _ c.in-Some.ensures le
+          (seq_part_stop grammar 1 (λ z h. stops_within (enclosed arguments) atom (omega arith) z h) (omega (arith, le))
+          (below le) c.in_err-items.ensures.by);
+    })
 
 pub atoms::named-returns : goal.atoms::named-returns
 atoms::named-returns t c =
     let le : 1 ≤ c.args.room = omega arith in
-    let up : 1 + (c.args.room - 1) ≡ c.args.room = omega (arith, le) in
     let (x, sx, fx) = c.in_ok-items.ensures.by in
     let fits = fx.by.fits in
-    record { by = (_, over_list_is (λ l. call_expr c.args.name.now (as_exprs l)) sx c.in_ok-call.ensures.shown, atoms.called _ _ c.in-Some.ensures le (seq_part grammar 1 (λ z h. stops_within (enclosed arguments) atom (omega arith) z h) (omega (arith, le)) up fx (seq_done grammar 1 (omega (arith, le, fits))))) }
+    record {
+      by = (
+        _,
+        over_list_is (λ l. call_expr c.args.name.now (as_exprs l)) sx c.in_ok-call.ensures.shown,
+        atoms.called _ _ c.in-Some.ensures le (seq_part grammar 1 (λ z h. stops_within (enclosed arguments) atom (omega arith) z h)
+            (omega (arith, le)) (below le) fx (seq_done grammar 1 (omega (arith, le, fits)))),
+      );
+    }
 
 -- ---- opened
 
@@ -531,96 +746,134 @@ atoms::opened-returns-in-Some t c =
 
 pub atoms::opened-returns-in_err-first : goal.atoms::opened-returns-in_err-first
 atoms::opened-returns-in_err-first t c =
-    let p = err_from_is_err_and c.from_residual-in_err-first.result c.from_residual-in_err-first.ensures.1 in
-    rw (p.1, p.2) (record { by = atoms.inside _ c.in_default.ensures c.requires (atoms.inside_stop _ c.requires c.in_err-first.ensures.by) })
+    rw (handed_on c.from_residual-in_err-first.result c.from_residual-in_err-first.ensures.1)
+    (record { by = atoms.inside _ c.in_default.ensures c.requires (atoms.inside_stop _ c.requires c.in_err-first.ensures.by) })
 
-pub atoms::opened-returns-in-Some-strip_sign : goal.atoms::opened-returns-in-Some-strip_sign
-atoms::opened-returns-in-Some-strip_sign t c =
-    let le : 1 ≤ c.args.room = c.requires in
-    let up : 1 + (c.args.room - 1) ≡ c.args.room = omega (arith, le) in
+pub atoms::opened-returns-in-Some-strip_symbol : goal.atoms::opened-returns-in-Some-strip_symbol
+atoms::opened-returns-in-Some-strip_symbol t c =
     let (x, sx, fx) = c.in_ok-first.ensures.by in
     let fits = fx.by.fits in
-    record { by = (_, grouped_is sx c.group.ensures, atoms.inside _ c.in_default.ensures le (atoms.inside_found _ le fx (atoms.group_right _ c.in-Some-strip_sign.ensures (seq_one grammar 1 (omega (arith, le, fits)) (sign_read c.in-Some-strip_sign.ensures) (seq_done grammar 1 (omega (arith, le, fits))))))) }
+    record {
+      by = (
+        _,
+        grouped_is sx
+            (group_shown c.in_ok-first.first c.group.result c.group.ensures.term c.group.ensures.levels c.group.ensures.start
+            c.group.ensures.places c.group.ensures.bodies),
+        atoms.inside _ c.in_default.ensures c.requires
+            (atoms.inside_found _ c.requires fx (atoms.group_right _ c.in-Some-strip_symbol.ensures
+            (seq_one grammar 1 (omega (arith, c.requires, fits)) (sign_read c.in-Some-strip_symbol.ensures)
+            (seq_done grammar 1 (omega (arith, c.requires, fits)))))),
+      );
+    }
 
 pub atoms::opened-returns-in_err-rest : goal.atoms::opened-returns-in_err-rest
 atoms::opened-returns-in_err-rest t c =
-    let p = err_from_is_err_and c.from_residual-in_err-rest.result c.from_residual-in_err-rest.ensures.1 in
-    let le : 1 ≤ c.args.room = c.requires in
-    let up : 1 + (c.args.room - 1) ≡ c.args.room = omega (arith, le) in
     let (x, sx, fx) = c.in_ok-first.ensures.by in
     let fits = fx.by.fits in
     let few = least_levels x.0 in
     let same = fx.by.found.1 in
-    rw (p.1, p.2) (record { by = atoms.inside _ c.in_default.ensures le (atoms.inside_found _ le fx (atoms.pair_right _ c.in_default-strip_sign.ensures (seq_one_stop grammar 1 (omega (arith, le, fits, few, same)) c.in_err-rest.ensures))) })
+    rw (handed_on c.from_residual-in_err-rest.result c.from_residual-in_err-rest.ensures.1)
+    (record {
+      by = atoms.inside _ c.in_default.ensures c.requires
+          (atoms.inside_found _ c.requires fx (atoms.pair_right _ c.in_default-strip_symbol.ensures
+          (seq_one_stop grammar 1 (omega (arith, c.requires, fits, few, same)) c.in_err-rest.ensures)));
+    })
 
 pub atoms::opened-returns-in_err-second : goal.atoms::opened-returns-in_err-second
 atoms::opened-returns-in_err-second t c =
-    let p = err_from_is_err_and c.from_residual-in_err-second.result c.from_residual-in_err-second.ensures.1 in
-    let le : 1 ≤ c.args.room = c.requires in
-    let up : 1 + (c.args.room - 1) ≡ c.args.room = omega (arith, le) in
     let (x, sx, fx) = c.in_ok-first.ensures.by in
     let fits = fx.by.fits in
     let few = least_levels x.0 in
     let same = fx.by.found.1 in
-    rw (p.1, p.2) (record { by = atoms.inside _ c.in_default.ensures le (atoms.inside_found _ le fx (atoms.pair_right _ c.in_default-strip_sign.ensures (seq_one grammar 1 (omega (arith, le, fits, few, same)) c.in_ok-rest.ensures (seq_part_stop grammar 1 (λ p z. refl) (omega (arith, le, fits, few, same)) up c.in_err-second.ensures.by)))) })
+    rw (handed_on c.from_residual-in_err-second.result c.from_residual-in_err-second.ensures.1)
+    (record {
+      by = atoms.inside _ c.in_default.ensures c.requires
+          (atoms.inside_found _ c.requires fx (atoms.pair_right _ c.in_default-strip_symbol.ensures
+          (seq_one grammar 1 (omega (arith, c.requires, fits, few, same)) c.in_ok-rest.ensures
+          (seq_part_stop grammar 1 (λ p z. refl) (omega (arith, c.requires, fits, few, same))
+          (below c.requires) c.in_err-second.ensures.by))));
+    })
 
 pub atoms::opened-returns-in_err-rest-2 : goal.atoms::opened-returns-in_err-rest-2
 atoms::opened-returns-in_err-rest-2 t c =
-    let p = err_from_is_err_and c.from_residual-in_err-rest-2.result c.from_residual-in_err-rest-2.ensures.1 in
-    let le : 1 ≤ c.args.room = c.requires in
-    let up : 1 + (c.args.room - 1) ≡ c.args.room = omega (arith, le) in
     let (x, sx, fx) = c.in_ok-first.ensures.by in
     let fits = fx.by.fits in
     let few = least_levels x.0 in
     let same = fx.by.found.1 in
     let (y, sy, fy) = c.in_ok-second.ensures.by in
     let fits' = fy.by.fits in
-    rw (p.1, p.2) (record { by = atoms.inside _ c.in_default.ensures le (atoms.inside_found _ le fx (atoms.pair_right _ c.in_default-strip_sign.ensures (seq_one grammar 1 (omega (arith, le, fits, few, same)) c.in_ok-rest.ensures (seq_part grammar 1 (λ p z. refl) (omega (arith, le, fits, few, same)) up fy (seq_one_stop grammar 1 (omega (arith, le, fits, few, same, fits')) c.in_err-rest-2.ensures))))) })
+    rw (handed_on c.from_residual-in_err-rest-2.result c.from_residual-in_err-rest-2.ensures.1)
+    (record {
+      by = atoms.inside _ c.in_default.ensures c.requires
+          (atoms.inside_found _ c.requires fx (atoms.pair_right _ c.in_default-strip_symbol.ensures
+          (seq_one grammar 1 (omega (arith, c.requires, fits, few, same)) c.in_ok-rest.ensures
+          (seq_part grammar 1 (λ p z. refl) (omega (arith, c.requires, fits, few, same)) (below c.requires) fy
+          (seq_one_stop grammar 1 (omega (arith, c.requires, fits, few, same, fits')) c.in_err-rest-2.ensures)))));
+    })
 
 pub atoms::opened-returns : goal.atoms::opened-returns
 atoms::opened-returns t c =
-    let le : 1 ≤ c.args.room = c.requires in
-    let up : 1 + (c.args.room - 1) ≡ c.args.room = omega (arith, le) in
     let (x, sx, fx) = c.in_ok-first.ensures.by in
     let fits = fx.by.fits in
     let few = least_levels x.0 in
     let same = fx.by.found.1 in
     let (y, sy, fy) = c.in_ok-second.ensures.by in
     let fits' = fy.by.fits in
-    record { by = (_, over_two_is pair_expr sx sy c.in_ok-pair.ensures.shown, atoms.inside _ c.in_default.ensures le (atoms.inside_found _ le fx (atoms.pair_right _ c.in_default-strip_sign.ensures (seq_one grammar 1 (omega (arith, le, fits, few, same)) c.in_ok-rest.ensures (seq_part grammar 1 (λ p z. refl) (omega (arith, le, fits, few, same)) up fy (seq_one grammar 1 (omega (arith, le, fits, few, same, fits')) c.in_ok-rest-2.ensures (seq_done grammar 1 (omega (arith, le, fits, few, same, fits'))))))))) }
+    record {
+      by = (
+        _,
+        over_two_is pair_expr sx sy c.in_ok-pair.ensures.shown,
+        atoms.inside _ c.in_default.ensures c.requires
+            (atoms.inside_found _ c.requires fx (atoms.pair_right _ c.in_default-strip_symbol.ensures
+            (seq_one grammar 1 (omega (arith, c.requires, fits, few, same)) c.in_ok-rest.ensures
+            (seq_part grammar 1 (λ p z. refl) (omega (arith, c.requires, fits, few, same)) (below c.requires) fy
+            (seq_one grammar 1 (omega (arith, c.requires, fits, few, same, fits')) c.in_ok-rest-2.ensures
+            (seq_done grammar 1 (omega (arith, c.requires, fits, few, same, fits')))))))),
+      );
+    }
 
 -- ---- elements
 
 pub atoms::elements-returns-in_err-items : goal.atoms::elements-returns-in_err-items
 atoms::elements-returns-in_err-items t c =
-    let p = err_from_is_err_and c.from_residual.result c.from_residual.ensures.1 in
-    let le : 2 ≤ c.args.room = c.requires in
-    let up : 1 + (c.args.room - 1) ≡ c.args.room = omega (arith, le) in
-    rw (p.1, p.2) (record { by = by_rule (rules.elements_rule c.args.place) refl le (seq_part_stop grammar 1 (λ p z. refl) (omega (arith, le)) up c.in_err-items.ensures.by) })
+    rw (handed_on c.from_residual.result c.from_residual.ensures.1)
+    (record {
+      by = by_rule (rules.elements_rule c.args.place) refl c.requires
+          (seq_part_stop grammar 1 (λ p z. refl) (omega (arith, c.requires)) (below c.requires) c.in_err-items.ensures.by);
+    })
 
 pub atoms::elements-returns-in_err-rest : goal.atoms::elements-returns-in_err-rest
 atoms::elements-returns-in_err-rest t c =
-    let p = err_from_is_err_and c.from_residual-in_err-rest.result c.from_residual-in_err-rest.ensures.1 in
-    let le : 2 ≤ c.args.room = c.requires in
-    let up : 1 + (c.args.room - 1) ≡ c.args.room = omega (arith, le) in
     let (x1, s1, f1) = c.in_ok-items.ensures.by in
     let fits1 = f1.by.fits in
-    rw (p.1, p.2) (record { by = by_rule (rules.elements_rule c.args.place) refl le (seq_part grammar 1 (λ p z. refl) (omega (arith, le)) up f1 (seq_one_stop grammar 1 (omega (arith, le, fits1)) c.in_err-rest.ensures)) })
+    rw (handed_on c.from_residual-in_err-rest.result c.from_residual-in_err-rest.ensures.1)
+    (record {
+      by = by_rule (rules.elements_rule c.args.place) refl c.requires
+          (seq_part grammar 1 (λ p z. refl) (omega (arith, c.requires)) (below c.requires) f1
+          (seq_one_stop grammar 1 (omega (arith, c.requires, fits1)) c.in_err-rest.ensures));
+    })
 
 pub atoms::elements-returns : goal.atoms::elements-returns
 atoms::elements-returns t c =
-    let le : 2 ≤ c.args.room = c.requires in
-    let up : 1 + (c.args.room - 1) ≡ c.args.room = omega (arith, le) in
     let (x1, s1, f1) = c.in_ok-items.ensures.by in
     let fits1 = f1.by.fits in
-    record { by = (_, over_list_is (λ l. list_expr (as_exprs l)) s1 c.in_ok-elements.ensures.shown, by_rule (rules.elements_rule c.args.place) refl le (seq_part grammar 1 (λ p z. refl) (omega (arith, le)) up f1 (seq_one grammar 1 (omega (arith, le, fits1)) c.in_ok-rest.ensures (seq_done grammar 1 (omega (arith, le, fits1)))))) }
+    record {
+      by = (
+        _,
+        over_list_is (λ l. list_expr (as_exprs l)) s1 c.in_ok-elements.ensures.shown,
+        by_rule
+            (rules.elements_rule c.args.place) refl c.requires
+            (seq_part grammar 1 (λ p z. refl) (omega (arith, c.requires)) (below c.requires) f1
+            (seq_one grammar 1 (omega (arith, c.requires, fits1)) c.in_ok-rest.ensures
+            (seq_done grammar 1 (omega (arith, c.requires, fits1))))),
+      );
+    }
 
 -- ---- arguments
 
 pub listings::arguments-returns-in_err-first : goal.listings::arguments-returns-in_err-first
 listings::arguments-returns-in_err-first t c =
-    let p = err_from_is_err_and c.from_residual.result c.from_residual.ensures.1 in
-    rw (p.1, p.2) (gathering.begin_stop c.in_err-first.ensures)
+    rw (handed_on c.from_residual.result c.from_residual.ensures.1) (gathering.begin_stop c.in_err-first.ensures)
 
 pub listings::arguments-loop-after-init : goal.listings::arguments-loop-after-init
 listings::arguments-loop-after-init t c =
@@ -628,8 +881,8 @@ listings::arguments-loop-after-init t c =
 
 pub listings::arguments-returns-in_err-next : goal.listings::arguments-returns-in_err-next
 listings::arguments-returns-in_err-next t c =
-    let p = err_from_is_err_and c.from_residual-in_err-next.result c.from_residual-in_err-next.ensures.1 in
-    rw (p.1, p.2) (gathering.next_stop c.loop-after.invariant _ c.in-Some.ensures c.in_err-next.ensures)
+    rw (handed_on c.from_residual-in_err-next.result c.from_residual-in_err-next.ensures.1)
+    (gathering.next_stop c.loop-after.invariant _ c.in-Some.ensures c.in_err-next.ensures)
 
 pub listings::arguments-loop-after-preserved : goal.listings::arguments-loop-after-preserved
 listings::arguments-loop-after-preserved t c =
@@ -651,25 +904,32 @@ pub listings::enclosed-returns-in_default : goal.listings::enclosed-returns-in_d
 listings::enclosed-returns-in_default t c =
     rw c.unexpected.ensures (record { by = counted _ (gathering.no_enclosed _ c.in_default.ensures) })
 
-pub listings::enclosed-returns-in-Some-strip_sign : goal.listings::enclosed-returns-in-Some-strip_sign
-listings::enclosed-returns-in-Some-strip_sign t c =
-    record { by = (_, sym c.none.ensures, at_tokens c.in-Some.ensures (enclosing.closed arguments _ c.in-Some-strip_sign.ensures)) }
+pub listings::enclosed-returns-in-Some-strip_symbol : goal.listings::enclosed-returns-in-Some-strip_symbol
+listings::enclosed-returns-in-Some-strip_symbol t c =
+    record { by = (_, sym c.none.ensures, at_tokens c.in-Some.ensures (enclosing.closed arguments _ c.in-Some-strip_symbol.ensures)) }
 
 pub listings::enclosed-returns-in_err-items : goal.listings::enclosed-returns-in_err-items
 listings::enclosed-returns-in_err-items t c =
-    let p = err_from_is_err_and c.from_residual.result c.from_residual.ensures.1 in
-    rw (p.1, p.2) (record { by = at_tokens c.in-Some.ensures (enclosing.inside arguments _ c.in_default-strip_sign.ensures (gathering.full_stop c.in_err-items.ensures.by)) })
+    rw (handed_on c.from_residual.result c.from_residual.ensures.1)
+    (record {
+      by = at_tokens c.in-Some.ensures (enclosing.inside arguments _ c.in_default-strip_symbol.ensures
+          (gathering.full_stop c.in_err-items.ensures.by));
+    })
 
 pub listings::enclosed-returns-in_err-rest : goal.listings::enclosed-returns-in_err-rest
 listings::enclosed-returns-in_err-rest t c =
-    let p = err_from_is_err_and c.from_residual-in_err-rest.result c.from_residual-in_err-rest.ensures.1 in
     let (x, sx, fx) = c.in_ok-items.ensures.by in
     let fits = fx.by.fits in
     let few = least_levels x.0 in
     let same = fx.by.found.1 in
     let le : 1 ≤ c.args.room = omega (arith, fits, few, same) in
     let up : 0 + c.args.room ≡ c.args.room = omega arith in
-    rw (p.1, p.2) (record { by = at_tokens c.in-Some.ensures (enclosing.inside arguments _ c.in_default-strip_sign.ensures (seq_part grammar 0 (λ p z. refl) (omega (arith, le)) up fx (seq_one_stop grammar 0 (omega (arith, fits)) c.in_err-rest.ensures))) })
+    rw (handed_on c.from_residual-in_err-rest.result c.from_residual-in_err-rest.ensures.1)
+    (record {
+      by = at_tokens c.in-Some.ensures (enclosing.inside arguments _ c.in_default-strip_symbol.ensures
+          (seq_part grammar 0 (λ p z. refl) (omega (arith, le)) up fx
+          (seq_one_stop grammar 0 (omega (arith, fits)) c.in_err-rest.ensures)));
+    })
 
 pub listings::enclosed-returns : goal.listings::enclosed-returns
 listings::enclosed-returns t c =
@@ -679,4 +939,13 @@ listings::enclosed-returns t c =
     let same = fx.by.found.1 in
     let le : 1 ≤ c.args.room = omega (arith, fits, few, same) in
     let up : 0 + c.args.room ≡ c.args.room = omega arith in
-    record { by = (_, sx, at_tokens c.in-Some.ensures (enclosing.inside arguments _ c.in_default-strip_sign.ensures (seq_part grammar 0 (λ p z. refl) (omega (arith, le)) up fx (seq_one grammar 0 (omega (arith, fits)) c.in_ok-rest.ensures (seq_done grammar 0 (omega (arith, fits))))))) }
+    record {
+      by = (
+        _,
+        sx,
+        at_tokens c.in-Some.ensures
+            (enclosing.inside arguments _ c.in_default-strip_symbol.ensures
+            (seq_part grammar 0 (λ p z. refl) (omega (arith, le)) up fx
+            (seq_one grammar 0 (omega (arith, fits)) c.in_ok-rest.ensures (seq_done grammar 0 (omega (arith, fits)))))),
+      );
+    }

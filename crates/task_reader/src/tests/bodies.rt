@@ -4,7 +4,7 @@ use crate::print_program;
 use std::alloc::Global;
 use std::process::Abort;
 use std::test::Fail;
-use task_model::{Basic, Body, Def, DefBody, OutOfMemory, Program, Row, Task, TaskText};
+use task_model::{Basic, Body, Def, DefBody, OutOfMemory, Program, Row, Scope, Task, TaskText};
 
 // A program of one task.
 fn program(alloc: Global, task: Task, bodies: Row<Body>) -> Result<Program, OutOfMemory> {
@@ -28,7 +28,7 @@ fn bodies(alloc: Global, choices: &[Option<(u32, u32)>]) -> Result<Row<Body>, Ou
             None => Task::Fail(Basic::Unit),
         };
         bodies.push(Body {
-            scope: Row::new(alloc),
+            scope: Scope::empty(alloc)?,
             binder: None,
             task,
         })?;

@@ -2,18 +2,17 @@
 
 use super::{FUNCTION, TASK};
 use crate::read_program;
-use program_grammar::{ReadKind, ReadStop};
 use std::alloc::{AllocError, Global};
 use std::process::Abort;
 use std::test::Fail;
 use std::thread;
-
-const MOST_BYTES: usize = 1_048_576;
+use task_model::PROGRAM_BYTE_LIMIT;
+use task_syntax::{ReadKind, ReadStop};
 
 // A head, and as many parentheses behind it as have room.
 fn parentheses(alloc: Global, head: &str) -> Result<String, AllocError> {
     let mut source = String::from_str(alloc, head)?;
-    for _ in head.len()..MOST_BYTES {
+    for _ in head.len()..PROGRAM_BYTE_LIMIT {
         source.push('(')?;
     }
     Ok(source)

@@ -1,11 +1,10 @@
 //! Where a text ends too early, and tokens in place of others.
 
-use super::{FUNCTION, TASK, assert_fault, assert_read, tokens};
+use super::{FUNCTION, TASK, assert_fault, assert_read};
 use crate::read_program;
-use program_grammar::{ReadKind, ReadStop};
 use std::process::Abort;
 use std::test::Fail;
-use task_syntax::LexKind;
+use task_syntax::{LexKind, ReadKind, ReadStop, lex};
 
 type Cut = (&'static str, &'static str);
 
@@ -130,7 +129,7 @@ fn assert_cut(
 ) -> Result<(), Fail> {
     let (piece, rest) = cut;
     let early = format!(in rt.alloc(); "{head}{piece}")?;
-    let many = tokens(rt.alloc(), early.as_str())?.list.as_slice().len();
+    let many = lex(rt.alloc(), early.as_str())?.list.as_slice().len();
     let token = many as u64;
     assert_fault(rt, early.as_str(), many, ReadKind::Unexpected { token })?;
     let whole = format!(in rt.alloc(); "{head}{piece}{rest}{end}")?;

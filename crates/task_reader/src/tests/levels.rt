@@ -1,10 +1,10 @@
 //! Programs of 200 levels and of one more, by each kind of nesting.
 
 use super::{FUNCTION, TASK, assert_fault, assert_read};
-use program_grammar::ReadKind;
 use std::alloc::{AllocError, Global};
 use std::process::Abort;
 use std::test::Fail;
+use task_syntax::ReadKind;
 
 // What stands in front, what opens a level, what stands inside, what closes a level, and what stands behind.
 #[derive(Clone, Copy)]

@@ -1,8 +1,8 @@
 use Rattle.std.proofs.Common.{rules, pos, ◌≡◌, true, false, sym, ap, ◌∙◌}
 use Rattle.task_model.specs.Host.{int_expr, text_expr}
-use Rattle.program_grammar.specs.Parts.{leaf_host, shown_host}
+use Rattle.program_grammar.specs.Parts.{leaf, shown_host}
 use Rattle.task_model.specs.Token.{number_from}
-use Rattle.expression_reader.specs.Literals.{a_number, a_text, a_truth}
+use Rattle.expression_reader.specs.LiteralTokens.{a_number, a_text, a_truth}
 use Rattle.expression_reader.proofs.AtomLemmas.{no_literal}
 use Rattle.expression_reader.proofs.literals.literal.Goals as goal
 
@@ -10,17 +10,33 @@ pub returns-in-Some-clause-found : goal.returns-in-Some-clause-found
 returns-in-Some-clause-found c =
     let right = c.in-Some.number.right in
     let node = c.in_ok-node.ensures.shown in
-    let same : leaf_host (int_expr (pos (number_from 0 c.in-Some.number.digits.now))) c.in-Some.place ≡ shown_host c.in_ok-node.node = search (rules, right, node) in
+    let same : leaf (int_expr (pos (number_from 0 c.in-Some.number.digits.now))) c.in-Some.place ≡ shown_host c.in_ok-node.node =
+    search (rules, right, node) in
     (a_number _, c.in-Some.place, c.in-Some.ensures, same)
 
-pub returns-in-Some-strip_quote-clause-found : goal.returns-in-Some-strip_quote-clause-found
-returns-in-Some-strip_quote-clause-found c = (a_text _ _, c.in-Some-strip_quote.place, c.in-Some-strip_quote.ensures, ap (λ t. leaf_host (text_expr t) c.in-Some-strip_quote.place) (sym (c.in_ok-text.ensures.text ∙ c.as_str.ensures)) ∙ sym c.in_ok-node-2.ensures.shown)
+pub returns-in-Some-strip_text-clause-found : goal.returns-in-Some-strip_text-clause-found
+returns-in-Some-strip_text-clause-found c = (
+  a_text _ _,
+  c.in-Some-strip_text.place,
+  c.in-Some-strip_text.ensures,
+  ap
+      (λ t. leaf (text_expr t) c.in-Some-strip_text.place) (sym (c.in_ok-text.ensures.text ∙ c.as_str.ensures))
+      ∙ sym c.in_ok-node-2.ensures.shown,
+)
 
-pub returns-in-Some-strip_word-clause-found : goal.returns-in-Some-strip_word-clause-found
-returns-in-Some-strip_word-clause-found c = (a_truth true, c.in-Some-strip_word.place, c.in-Some-strip_word.ensures, sym c.in_ok-node-3.ensures.shown)
+pub returns-in-Some-strip_keyword-clause-found : goal.returns-in-Some-strip_keyword-clause-found
+returns-in-Some-strip_keyword-clause-found c = (
+  a_truth true,
+  c.in-Some-strip_keyword.place,
+  c.in-Some-strip_keyword.ensures,
+  sym c.in_ok-node-3.ensures.shown,
+)
 
-pub returns-in-Some-strip_word-2-clause-found : goal.returns-in-Some-strip_word-2-clause-found
-returns-in-Some-strip_word-2-clause-found c = (a_truth false, c.in-Some-strip_word-2.place, c.in-Some-strip_word-2.ensures, sym c.in_ok-node-4.ensures.shown)
+pub returns-in-Some-strip_keyword-2-clause-found : goal.returns-in-Some-strip_keyword-2-clause-found
+returns-in-Some-strip_keyword-2-clause-found c =
+    (a_truth false, c.in-Some-strip_keyword-2.place, c.in-Some-strip_keyword-2.ensures, sym c.in_ok-node-4.ensures.shown)
 
 pub returns-clause-found : goal.returns-clause-found
-returns-clause-found c = no_literal _ c.in_default.ensures c.in_default-strip_quote.ensures c.in_default-strip_word.ensures c.in_default-strip_word-2.ensures
+returns-clause-found c =
+    no_literal _ c.in_default.ensures c.in_default-strip_text.ensures c.in_default-strip_keyword.ensures
+    c.in_default-strip_keyword-2.ensures

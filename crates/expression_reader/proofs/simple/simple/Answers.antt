@@ -1,56 +1,86 @@
-use Rattle.std.proofs.Common.{◌≡◌, ◌+◌, ◌-◌, ◌≤◌, sym, subst, arith}
-use Rattle.std.proofs.lemmas.Result.{err_from_is_err_and}
+use Rattle.std.proofs.Common.{◌≤◌, sym, subst, arith}
+use Rattle.program_grammar.proofs.Exits.{handed_on, below}
 use Rattle.exact_reading.proofs.Symbols.{seq_one, seq_one_stop, seq_part, seq_part_stop, seq_done}
 use Rattle.task_model.specs.Host.{nil_expr}
-use Rattle.program_grammar.specs.Grammar.{basic, atom}
+use Rattle.task_model.specs.Grammar.{basic, atom}
 use Rattle.program_grammar.proofs.GrammarLemmas.{grammar, stops_within}
 use Rattle.program_grammar.proofs.CountLemmas.{counted}
 use Rattle.program_grammar.proofs.RuleLemmas.{by_rule, too_deep}
 use Rattle.program_grammar.proofs.ExpressionRules.{content_rule, nil_rule}
 use Rattle.std.specs.Prelude.{MatchOption}
 use Rattle.program_grammar.specs.Parts.{lexemes, shown_host}
-use Rattle.expression_reader.specs.Literals.{NoLiteral, IsLiteral}
-use Rattle.expression_reader.proofs.ShownLemmas.{over_type_is}
+use Rattle.expression_reader.specs.LiteralTokens.{NoLiteral, BeginsWithLiteral}
+use Rattle.program_grammar.proofs.ParsedLemmas.{over_type_is}
 use Rattle.expression_reader.proofs.AtomLemmas.{literal_read, literal_deep}
 use Rattle.expression_reader.proofs.simple.simple.Goals as goal
 
 pub returns-then-room-lt1 : goal.returns-then-room-lt1
-returns-then-room-lt1 c = let (l, p, e, is) = subst (λ o. MatchOption o (NoLiteral (lexemes c.args.tokens.now)) (λ r. IsLiteral (lexemes c.args.tokens.now) (shown_host r.0) (lexemes r.1.now))) c.in-Some.is c.in_ok-node.ensures.found in rw c.too_nested.ensures (record { by = counted _ (literal_deep l p e (omega arith)) })
+returns-then-room-lt1 c =
+    let (l, p, e, is) = subst (λ o. MatchOption o (NoLiteral (lexemes c.args.tokens.now))
+    (λ r. BeginsWithLiteral (lexemes c.args.tokens.now) (shown_host r.0) (lexemes r.1.now))) c.in-Some.is c.in_ok-node.ensures.found in
+    rw c.too_nested.ensures (record { by = counted _ (literal_deep l p e (omega arith)) })
 
 pub returns-in-Some : goal.returns-in-Some
-returns-in-Some c = let (l, p, e, is) = subst (λ o. MatchOption o (NoLiteral (lexemes c.args.tokens.now)) (λ r. IsLiteral (lexemes c.args.tokens.now) (shown_host r.0) (lexemes r.1.now))) c.in-Some.is c.in_ok-node.ensures.found in record { by = (_, is, literal_read l p e (omega arith)) }
+returns-in-Some c =
+    let (l, p, e, is) = subst (λ o. MatchOption o (NoLiteral (lexemes c.args.tokens.now))
+    (λ r. BeginsWithLiteral (lexemes c.args.tokens.now) (shown_host r.0) (lexemes r.1.now))) c.in-Some.is c.in_ok-node.ensures.found in
+    record { by = (_, is, literal_read l p e (omega arith)) }
 
 pub returns-then-room-lt1-2 : goal.returns-then-room-lt1-2
-returns-then-room-lt1-2 c = rw c.too_nested-then-room-lt1-2.ensures (record { by = counted _ (too_deep (content_rule _) c.in-Some-strip_sign.ensures (omega arith)) })
+returns-then-room-lt1-2 c = rw c.too_nested-then-room-lt1-2.ensures
+    (record { by = counted _ (too_deep (content_rule _) c.in-Some-strip_symbol.ensures (omega arith)) })
 
 pub returns-in_err-name : goal.returns-in_err-name
 returns-in_err-name c =
-    let p = err_from_is_err_and c.from_residual-in_err-name.result c.from_residual-in_err-name.ensures.1 in
     let le : 1 ≤ c.args.room = omega arith in
-    rw (p.1, p.2) (record { by = by_rule (content_rule _) c.in-Some-strip_sign.ensures le (seq_one_stop grammar 1 le c.in_err-name.ensures) })
+    rw (handed_on c.from_residual-in_err-name.result c.from_residual-in_err-name.ensures.1)
+    (record { by = by_rule (content_rule _) c.in-Some-strip_symbol.ensures le (seq_one_stop grammar 1 le c.in_err-name.ensures) })
 
-pub returns-in-Some-strip_sign : goal.returns-in-Some-strip_sign
-returns-in-Some-strip_sign c =
+pub returns-in-Some-strip_symbol : goal.returns-in-Some-strip_symbol
+returns-in-Some-strip_symbol c =
     let le : 1 ≤ c.args.room = omega arith in
-    record { by = (_, sym c.in_ok-content.ensures.shown, by_rule (content_rule _) c.in-Some-strip_sign.ensures le (seq_one grammar 1 le c.in_ok-name.ensures (seq_done grammar 1 le))) }
+    record {
+      by = (
+        _,
+        sym c.in_ok-content.ensures.shown,
+        by_rule (content_rule _) c.in-Some-strip_symbol.ensures le
+            (seq_one grammar 1 le c.in_ok-name.ensures (seq_done grammar 1 le)),
+      );
+    }
 
 pub returns-then-room-lt2 : goal.returns-then-room-lt2
-returns-then-room-lt2 c = rw c.too_nested-then-room-lt2.ensures (record { by = counted _ (too_deep (nil_rule _) c.in-Some-strip_word.ensures (omega arith)) })
+returns-then-room-lt2 c = rw c.too_nested-then-room-lt2.ensures
+    (record { by = counted _ (too_deep (nil_rule _) c.in-Some-strip_keyword.ensures (omega arith)) })
 
 pub returns-in_err-item : goal.returns-in_err-item
 returns-in_err-item c =
-    let p = err_from_is_err_and c.from_residual-in_err-item.result c.from_residual-in_err-item.ensures.1 in
     let le : 2 ≤ c.args.room = omega arith in
-    let up : 1 + (c.args.room - 1) ≡ c.args.room = omega (arith, le) in
-    rw (p.1, p.2) (record { by = by_rule (nil_rule _) c.in-Some-strip_word.ensures le (seq_part_stop grammar 1 (λ z h. stops_within basic atom (omega arith) z h) (omega (arith, le)) up c.in_err-item.ensures.by) })
+    rw (handed_on c.from_residual-in_err-item.result c.from_residual-in_err-item.ensures.1)
+    (record {
+      by = by_rule (nil_rule _) c.in-Some-strip_keyword.ensures le
+          (seq_part_stop grammar 1 (λ z h. stops_within basic atom (omega arith) z h) (omega (arith, le))
+          (below le) c.in_err-item.ensures.by);
+    })
 
-pub returns-in-Some-strip_word : goal.returns-in-Some-strip_word
-returns-in-Some-strip_word c =
+pub returns-in-Some-strip_keyword : goal.returns-in-Some-strip_keyword
+returns-in-Some-strip_keyword c =
     let le : 2 ≤ c.args.room = omega arith in
-    let up : 1 + (c.args.room - 1) ≡ c.args.room = omega (arith, le) in
     let (x, sx, fx) = c.in_ok-item.ensures.by in
     let fits = fx.by.fits in
-    record { by = (_, over_type_is nil_expr sx c.in_ok-nil.ensures.shown, by_rule (nil_rule _) c.in-Some-strip_word.ensures le (seq_part grammar 1 (λ z h. stops_within basic atom (omega arith) z h) (omega (arith, le)) up fx (seq_done grammar 1 (omega (arith, le, fits))))) }
+    record {
+      by = (
+        _,
+        over_type_is nil_expr sx c.in_ok-nil.ensures.shown,
+        by_rule (nil_rule _) c.in-Some-strip_keyword.ensures le
+            (seq_part grammar 1 (λ z h. stops_within basic atom (omega arith) z h) (omega (arith, le)) (below le) fx
+            (seq_done grammar 1 (omega (arith, le, fits)))),
+      );
+    }
 
 pub returns : goal.returns
-returns c = record { no_literal = subst (λ o. MatchOption o (NoLiteral (lexemes c.args.tokens.now)) (λ r. IsLiteral (lexemes c.args.tokens.now) (shown_host r.0) (lexemes r.1.now))) c.in_default.is c.in_ok-node.ensures.found; no_content = c.in_default-strip_sign.ensures; no_nil = c.in_default-strip_word.ensures }
+returns c = record {
+  no_literal = subst (λ o. MatchOption o (NoLiteral (lexemes c.args.tokens.now))
+      (λ r. BeginsWithLiteral (lexemes c.args.tokens.now) (shown_host r.0) (lexemes r.1.now))) c.in_default.is c.in_ok-node.ensures.found;
+  no_content = c.in_default-strip_symbol.ensures;
+  no_nil = c.in_default-strip_keyword.ensures;
+}

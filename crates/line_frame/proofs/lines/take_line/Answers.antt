@@ -11,28 +11,35 @@ with_lf bytes n lt lf = sym (take_more bytes n 0 lt ∙ ap (λ z. take n bytes +
 pub returns-in-Some-clause-goes : goal.returns-in-Some-clause-goes
 returns-in-Some-clause-goes g c =
     let bytes = c.args.bytes.now in
-    goes_stop (g.M.Machine.tells c.args.machine.now) (g.M.Machine.tells c.args.machine.now) _ _ _ _ _ c.take_run.new.self _ _ _ _ (take-append-drop c.run_length-run.result bytes)
-    (λ whole first bytes at. stops_leaving at (g.met.M.Machine.no_lines c.args.machine.now) _ _ c.run_length-run.ensures.no_lf c.in-Some.ensures)
+    goes_stop g.M.Machine.tells c.args.machine.now c.args.machine.now _ _ _ _ _ c.take_run.new.self _ _ _ _
+    (take-append-drop c.run_length-run.result bytes)
+    (λ start first bytes at. stops_leaving at (g.met.M.Machine.no_lines c.args.machine.now) _ _ c.run_length-run.ensures.no_lf
+    c.in-Some.ensures)
 
 pub returns-then-run-bytes-clause-goes : goal.returns-then-run-bytes-clause-goes
-returns-then-run-bytes-clause-goes g c = λ whole first bytes at. stands_run at _ c.LONGEST.ensures c.run_length-run.ensures.no_lf c.in_default.ensures
+returns-then-run-bytes-clause-goes g c = λ start first bytes at. stands_run at _ c.LONGEST.ensures c.run_length-run.ensures.no_lf
+    c.in_default.ensures
 
 pub returns-in-Some-take_lf-clause-goes : goal.returns-in-Some-take_lf-clause-goes
 returns-in-Some-take_lf-clause-goes g c =
     let bytes = c.args.bytes.now in
     let run = c.run_length-run.result in
-    let before = g.M.Machine.tells c.args.machine.now in
-    let later = g.M.Machine.tells c.take_lf.new.machine in
+    let before = c.args.machine.now in
+    let later = c.take_lf.new.machine in
     let lt : run < length bytes = omega arith in
-    goes_stop before later _ _ _ _ _ c.take_lf.new.reading _ (take (run + 1) bytes) (drop (run + 1) bytes) _ (take-append-drop (run + 1) bytes)
-    (goes_then before before later _ (g.O.Sink.taken c.args.out.now) _ _ _ _ c.take_run.new.self c.take_lf.new.reading (Some c.in-Some-take_lf.finish) _ _ _ (with_lf bytes run lt (c.run_length-run.ensures.lf lt))
-    (λ whole first bytes at. stands_run at _ c.LONGEST.ensures c.run_length-run.ensures.no_lf c.in_default.ensures) c.in-Some-take_lf.ensures.goes)
+    goes_stop g.M.Machine.tells before later _ _ _ _ _ c.take_lf.new.cursor _ (take (run + 1) bytes) (drop (run + 1) bytes) _
+    (take-append-drop (run + 1) bytes)
+    (goes_then g.M.Machine.tells before before later _ (g.O.Sink.taken c.args.out.now) _ _ _ _ c.take_run.new.self c.take_lf.new.cursor
+    (Some c.in-Some-take_lf.finish) _ _ _ (with_lf bytes run lt (c.run_length-run.ensures.lf lt))
+    (λ start first bytes at. stands_run at _ c.LONGEST.ensures c.run_length-run.ensures.no_lf c.in_default.ensures)
+    c.in-Some-take_lf.ensures.goes)
 
 pub returns-in-None-clause-goes : goal.returns-in-None-clause-goes
 returns-in-None-clause-goes g c =
     let bytes = c.args.bytes.now in
     let run = c.run_length-run.result in
-    let before = g.M.Machine.tells c.args.machine.now in
+    let before = c.args.machine.now in
     let lt : run < length bytes = omega arith in
-    goes_then before before (g.M.Machine.tells c.take_lf.new.machine) _ (g.O.Sink.taken c.args.out.now) _ _ _ _ c.take_run.new.self c.take_lf.new.reading None _ _ _ (with_lf bytes run lt (c.run_length-run.ensures.lf lt))
-    (λ whole first bytes at. stands_run at _ c.LONGEST.ensures c.run_length-run.ensures.no_lf c.in_default.ensures) c.in-None.ensures.goes
+    goes_then g.M.Machine.tells before before c.take_lf.new.machine _ (g.O.Sink.taken c.args.out.now) _ _ _ _ c.take_run.new.self
+    c.take_lf.new.cursor None _ _ _ (with_lf bytes run lt (c.run_length-run.ensures.lf lt))
+    (λ start first bytes at. stands_run at _ c.LONGEST.ensures c.run_length-run.ensures.no_lf c.in_default.ensures) c.in-None.ensures.goes

@@ -24,7 +24,8 @@ pub returns-in_ok-number-in-Some : goal.returns-in_ok-number-in-Some
 returns-in_ok-number-in-Some c =
     let found = c.in_ok-number-in-Some.ensures in
     let fits = signed_fits true c.in_ok-number-in-Some.number found.by.found.within in
-    same_answer (ap int_value (sym (ap (λ z. to_z w64 (of_z w64 z)) c.negative.ensures ∙ to_z-of_z w64 (signed true c.in_ok-number-in-Some.number) fits)))
+    same_answer (ap int_value
+    (sym (ap (λ z. to_z w64 (of_z w64 z)) c.negative.ensures ∙ to_z-of_z w64 (signed true c.in_ok-number-in-Some.number) fits)))
     (int_minus c.in-Some.ensures (unsigned_right true found (gap_right c.skip.ensures.copies c.skip.ensures.ends)))
 
 pub returns-in_ok-number-in-None : goal.returns-in_ok-number-in-None

@@ -14,13 +14,15 @@ loop-digit-init c = let (byte, is, e, v) = c.in-Some.ensures in record {
 pub returns-then-number-limit : goal.returns-then-number-limit
 returns-then-number-limit c = let (byte, is, e, v) = c.in-Some-digit.ensures in
     let nine = c.requires in
-    let over = over_limit c.args.limit c.loop-digit.number c.in-Some-digit.digit (omega (arith, v, is.0, is.1)) nine c.if-number-limit.true in
+    let over = over_limit c.args.limit c.loop-digit.number c.in-Some-digit.digit (omega (arith, v, is.0, is.1)) nine c.if-number-limit.true
+    in
     rw c.unexpected-then-number-limit.ensures (c.loop-digit.invariant.goes_on _ (digits_over c.args.limit is e (rw (← v) over)))
 
 pub loop-digit-preserved : goal.loop-digit-preserved
 loop-digit-preserved c = let (byte, is, e, v) = c.in-Some-digit.ensures in
     let nine = c.requires in
-    let le = within_limit c.args.limit c.loop-digit.number c.in-Some-digit.digit (omega (arith, v, is.0, is.1)) nine c.if-number-limit.false in
+    let le = within_limit c.args.limit c.loop-digit.number c.in-Some-digit.digit (omega (arith, v, is.0, is.1)) nine c.if-number-limit.false
+    in
     record {
       within = le;
       goes_on = λ r h. c.loop-digit.invariant.goes_on r (digits_more c.args.limit is e (rw (← v) le) (rw v at h));

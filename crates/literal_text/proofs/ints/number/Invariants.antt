@@ -1,6 +1,6 @@
 use Rattle.std.proofs.Common.{ℕ, ◌≤◌, length}
 use Rattle.exact_reading.specs.Reading.{Right, Answer, Always}
-use Rattle.literal_text.specs.Reads.{Number, Digits, NoDigit}
+use Rattle.literal_text.specs.LiteralReading.{Number, Digits, NoDigit}
 use Rattle.literal_text.proofs.ints.number.Given as goal
 
 abbrev pub invariant-loop-digit : goal.invariant-loop-digit

@@ -1,5 +1,7 @@
 use Rattle.std.specs.Prelude.{OnOk, string_bytes}
 use Rattle.std.proofs.Common.{◌≡◌, ◌++◌, map, sym, ap, ◌∙◌, subst}
+use Rattle.task_model.specs.Rowed.{Rowed}
+use Rattle.task_model.specs.declared.value.Value as value
 use Rattle.task_model.specs.Value.{list_value, as_values, value_term}
 use Rattle.task_model.specs.Literal.{value_text}
 use Rattle.task_model.proofs.RowLemmas.{value_term-List}
@@ -8,10 +10,15 @@ use Rattle.literal_text.proofs.print.+write.Goals as goal
 
 pub write_value-returns-in-List-clause-text : goal.write_value-returns-in-List-clause-text
 write_value-returns-in-List-clause-text t c =
-    let e : list_value (as_values (map value_term c.as_slice.result.now)) ≡ value_term c.args.v.now = ap (λ l. list_value (as_values (map value_term l))) c.as_slice.ensures ∙ sym (value_term-List c.in-List.items) ∙ ap value_term (sym c.in-List.is) in
-    subst (λ v. OnOk c.write_list.result (string_bytes c.write_list.new.text ≡ string_bytes c.args.text.now ++ value_text v)) e c.write_list.ensures.text
+    let items = c.as_slice.ensures ∙ ap (λ (r : Rowed value.Value). r.list) c.deref-in-List.ensures in
+    let e = ap (λ l. list_value (as_values (map value_term l))) items ∙ sym (value_term-List c.in-List.items)
+    ∙ ap value_term (sym c.in-List.is) in
+    subst (λ v. OnOk c.write_list.result (string_bytes c.write_list.new.text ≡ string_bytes c.args.text.now ++ value_text v)) e
+    c.write_list.ensures.text
 
 pub write_value-returns-in-List-clause-held : goal.write_value-returns-in-List-clause-held
 write_value-returns-in-List-clause-held t c =
-    let e : list_value (as_values (map value_term c.as_slice.result.now)) ≡ value_term c.args.v.now = ap (λ l. list_value (as_values (map value_term l))) c.as_slice.ensures ∙ sym (value_term-List c.in-List.items) ∙ ap value_term (sym c.in-List.is) in
+    let items = c.as_slice.ensures ∙ ap (λ (r : Rowed value.Value). r.list) c.deref-in-List.ensures in
+    let e = ap (λ l. list_value (as_values (map value_term l))) items ∙ sym (value_term-List c.in-List.items)
+    ∙ ap value_term (sym c.in-List.is) in
     subst (λ v. OnOk c.write_list.result (IsHeld v)) e c.write_list.ensures.held

@@ -13,6 +13,7 @@ rest_of false vs = rest_text vs
 
 abbrev pub invariant-write_list-loop-item : goal.invariant-write_list-loop-item
 invariant-write_list-loop-item l = record {
-  text : string_bytes l.text ++ rest_of l.first (as_values (map value_term (drop l.item-index l.items))) ≡ string_bytes l.fn.text ++ value_text (list_value (as_values (map value_term l.items)));
+  text : string_bytes l.text ++ rest_of l.first (as_values (map value_term (drop l.item-index l.items))) ≡ string_bytes l.fn.text
+      ++ value_text (list_value (as_values (map value_term l.items)));
   held : AreHeld (as_values (map value_term (drop l.item-index l.items))) → AreHeld (as_values (map value_term l.items));
 }

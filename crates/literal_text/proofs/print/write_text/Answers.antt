@@ -16,6 +16,11 @@ loop-character-preserved c =
     let e = grown cs c.in-Some.character in
     let before = string_bytes c.put.new.text in
     record {
-      written = c.in_ok-write_character.ensures ∙ ap (λ l. l ++ escaped_all (encode_utf8 c.in-Some.character)) c.loop-character.invariant.written ∙ append_assoc before (escaped_all (encode_utf8_all cs)) (escaped_all (encode_utf8 c.in-Some.character)) ∙ ap (λ l. before ++ l) (sym (escaped_all-append (encode_utf8_all cs) (encode_utf8 c.in-Some.character)) ∙ ap escaped_all (sym e));
-      left = ap (λ l. l ++ c.next.new.self.rest.now) e ∙ append_assoc (encode_utf8_all cs) (encode_utf8 c.in-Some.character) c.next.new.self.rest.now ∙ ap (λ l. encode_utf8_all cs ++ l) (sym c.in-Some.ensures.steps.0) ∙ c.loop-character.invariant.left;
+      written = c.in_ok-write_character.ensures ∙ ap (λ l. l ++ escaped_all (encode_utf8 c.in-Some.character))
+          c.loop-character.invariant.written ∙ append_assoc before (escaped_all (encode_utf8_all cs))
+          (escaped_all (encode_utf8 c.in-Some.character))
+          ∙ ap (λ l. before ++ l) (sym (escaped_all-append (encode_utf8_all cs) (encode_utf8 c.in-Some.character))
+          ∙ ap escaped_all (sym e));
+      left = ap (λ l. l ++ c.next.new.self.rest.now) e ∙ append_assoc (encode_utf8_all cs) (encode_utf8 c.in-Some.character)
+          c.next.new.self.rest.now ∙ ap (λ l. encode_utf8_all cs ++ l) (sym c.in-Some.ensures.steps.0) ∙ c.loop-character.invariant.left;
     }

@@ -1,6 +1,6 @@
 use Rattle.std.proofs.Common.{None}
 use Rattle.literal_text.specs.Literals.{IsLiteral}
-use Rattle.literal_text.specs.Reads.{Whole}
+use Rattle.literal_text.specs.LiteralReading.{Whole}
 use Rattle.literal_text.proofs.ReadLemmas.{same_err, any_in, any_out}
 use Rattle.literal_text.proofs.read.read_any.Goals as goal
 

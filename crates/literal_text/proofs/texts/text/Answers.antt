@@ -17,4 +17,5 @@ returns-in_err-content c =
     rw (p.1, p.2) (inside_stop c.in_ok-rest.ensures c.in_err-content.ensures)
 
 pub returns : goal.returns
-returns c = same_answer (ap text_value (sym c.of_string.ensures)) (text_right c.in_ok-rest.ensures c.in_ok-content.ensures (gap_right c.skip.ensures.copies c.skip.ensures.ends))
+returns c = same_answer (ap text_value (sym c.in-Ok.ensures))
+    (text_right c.in_ok-rest.ensures c.in_ok-content.ensures (gap_right c.skip.ensures.copies c.skip.ensures.ends))

@@ -1,7 +1,7 @@
 use Rattle.std.proofs.Common.{ℕ, ◌+◌, ◌-◌, ◌*◌, ◌≤◌, map, length}
 use Rattle.task_model.specs.Value.{ValueTerm, value_term}
 use Rattle.exact_reading.specs.Reading.{Right, Answer, Always}
-use Rattle.literal_text.specs.Reads.{want_of, NoBlank, Further, Elements}
+use Rattle.literal_text.specs.LiteralReading.{want_of, NoBlank, Further, Elements}
 use Rattle.literal_text.proofs.values.+value.Given as goal
 
 abbrev pub decreases-value : goal.decreases-value
@@ -22,11 +22,12 @@ decreases-list l = 4 * l.room + 3
 abbrev pub decreases-elements : goal.decreases-elements
 decreases-elements l = 4 * l.room + 2
 
-abbrev pub invariant-elements-loop-alloc : goal.invariant-elements-loop-alloc
-invariant-elements-loop-alloc l = record {
-  few : length l.items.list ≤ 1024;
-  goes_on : (r : Answer ℕ ValueTerm) → Right (Further (want_of l.item) l.room (map value_term l.items.list)) Always NoBlank l.rest r → Right (Elements (want_of l.item) l.room) Always NoBlank l.bytes r;
+abbrev pub invariant-elements-loop-items : goal.invariant-elements-loop-items
+invariant-elements-loop-items l = record {
+  few : length l.items.items ≤ 1024;
+  goes_on : (r : Answer ℕ ValueTerm) → Right (Further (want_of l.item) l.room (map value_term l.items.items)) Always NoBlank l.rest r
+      → Right (Elements (want_of l.item) l.room) Always NoBlank l.bytes r;
 }
 
-abbrev pub decreases-elements-loop-alloc : goal.decreases-elements-loop-alloc
-decreases-elements-loop-alloc l = 1024 - length l.items.list
+abbrev pub decreases-elements-loop-items : goal.decreases-elements-loop-items
+decreases-elements-loop-items l = 1024 - length l.items.items

@@ -1,5 +1,7 @@
 use Rattle.std.proofs.Common.{ap, sym, ◌∙◌, map}
 use Rattle.std.proofs.lemmas.Result.{err_from_is_err_and}
+use Rattle.task_model.specs.Rowed.{Rowed}
+use Rattle.task_model.specs.declared.value.Value as value
 use Rattle.task_model.specs.Value.{value_term, list_value, as_values}
 use Rattle.task_model.proofs.RowLemmas.{value_term-List}
 use Rattle.exact_reading.proofs.Productions.{same_answer}
@@ -13,4 +15,7 @@ returns-in_err-rest c =
     rw (p.1, p.2) (no_elements (word_stop c.in_err-rest.ensures))
 
 pub returns : goal.returns
-returns c = same_answer (sym (value_term-List _ ∙ ap (λ l. list_value (as_values (map value_term l))) c.new.ensures.list)) (no_elements (word_right c.in_ok-rest.ensures))
+returns c =
+    let none = ap (λ (r : Rowed value.Value). r.list) c.in_ok-new.ensures.ok ∙ c.new.ensures.list in
+    same_answer (sym (value_term-List c.in_ok-new.field-0 ∙ ap (λ l. list_value (as_values (map value_term l))) none))
+    (no_elements (word_right c.in_ok-rest.ensures))

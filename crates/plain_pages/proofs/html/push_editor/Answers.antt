@@ -19,5 +19,6 @@ returns c =
     let form = more x start fields c.in_ok-push_form.ensures c.in_ok-push_fields.ensures in
     on_ok c.push_button.result
     (λ last. more c.args.text.now.list line (form_text path (codes "set") fields (codes "set")) c.in_ok-push_editor_line.ensures
-    (more x (start ++ fields) (form_end (codes "set")) form last ∙ ap (λ (l : Text). x ++ l) (form_parts path (codes "set") fields (codes "set"))))
+    (more x (start ++ fields) (form_end (codes "set")) form last
+    ∙ ap (λ (l : Text). x ++ l) (form_parts path (codes "set") fields (codes "set"))))
     c.push_button.ensures

@@ -7,4 +7,5 @@ returns-in_ok-push_bytes-in-Text c =
     let t = c.args.text.now.list in
     let before = codes "<input type=\"hidden\" name=\"as\" value=\"raw\"><textarea name=\"value\">\n" in
     let one = more t before c.args.shown.now c.in_ok-push-in-Text.ensures c.in_ok-push_bytes-in-Text.ensures in
-    rw c.in-Text.is (on_ok c.push-in-Text.result (λ last. more t (before ++ c.args.shown.now) (codes "</textarea>") one last) c.push-in-Text.ensures)
+    rw c.in-Text.is
+    (on_ok c.push-in-Text.result (λ last. more t (before ++ c.args.shown.now) (codes "</textarea>") one last) c.push-in-Text.ensures)

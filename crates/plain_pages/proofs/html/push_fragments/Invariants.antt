@@ -4,7 +4,8 @@ use Rattle.task_model.specs.Widget.{widget_term}
 use Rattle.plain_pages.proofs.html.push_fragments.Given as goal
 
 abbrev pub invariant-loop-rest : goal.invariant-loop-rest
-invariant-loop-rest l = l.text.list ++ widget_fragments (map widget_term l.rest) ≡ l.initial.text.list ++ widget_fragments (map widget_term l.widgets)
+invariant-loop-rest l = l.text.list ++ widget_fragments (map widget_term l.rest) ≡ l.initial.text.list
+    ++ widget_fragments (map widget_term l.widgets)
 
 abbrev pub decreases-loop-rest : goal.decreases-loop-rest
 decreases-loop-rest l = length l.rest

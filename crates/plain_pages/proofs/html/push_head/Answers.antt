@@ -6,4 +6,6 @@ pub returns : goal.returns
 returns c =
     let t = c.args.text.now.list in
     let numbers = codes "version " ++ decimal c.args.version ++ codes " seat " ++ decimal c.args.seat in
-    on_ok c.push-2.result (λ last. more t (codes "<p>" ++ numbers) (codes "</p>\n") (more t (codes "<p>") numbers c.in_ok-push.ensures c.in_ok-push_numbers.ensures) last) c.push-2.ensures
+    on_ok c.push-2.result
+    (λ last. more t (codes "<p>" ++ numbers) (codes "</p>\n")
+    (more t (codes "<p>") numbers c.in_ok-push.ensures c.in_ok-push_numbers.ensures) last) c.push-2.ensures

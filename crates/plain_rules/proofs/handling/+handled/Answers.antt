@@ -1,12 +1,11 @@
 use Rattle.std.proofs.Common.{map, refl, sym, ap}
-use Rattle.std.proofs.lemmas.Result.{IfOk-at_ok}
 use Rattle.task_model.specs.Basic.{basic_term}
 use Rattle.task_model.specs.Value.{value_term}
 use Rattle.task_model.specs.Tree.{TreeTerm, tree_term, cont_term, then_tree, next_tree, and_tree, or_tree}
 use Rattle.task_model.specs.Input.{act_term}
 use Rattle.task_model.specs.Handling.{handled, rebuilds, at_step}
-use Rattle.task_model.proofs.RanLemmas.{stopped, ran_give, ran_made, ran_after, ran_after_stops}
-use Rattle.plain_values.specs.Rules.{rules_term}
+use Rattle.task_model.proofs.RanLemmas.{stopped, ran_give, ran_after, ran_after_stops}
+use Rattle.plain_values.specs.GivenRules.{rules_term}
 use Rattle.plain_rules.specs.Handled.{edited}
 use Rattle.plain_values.proofs.ListLemmas.{empty}
 use Rattle.plain_values.proofs.RunLemmas.{ran_is}
@@ -14,28 +13,28 @@ use Rattle.plain_rules.proofs.HandlingLemmas.{editor_is, shared_is, ran_made_opt
 use Rattle.plain_rules.proofs.handling.+handled.Goals as goal
 
 -- ---- editors
-pub returns-in-Edit-clause-ran : goal.returns-in-Edit-clause-ran
-returns-in-Edit-clause-ran t c =
+pub returns-in_ok-edited-in-Edit-clause-ran : goal.returns-in_ok-edited-in-Edit-clause-ran
+returns-in_ok-edited-in-Edit-clause-ran t c =
     let σ = map value_term c.args.store.now.list in
     let path = c.args.path.now in
     let act = act_term c.args.act.now in
     let b = basic_term c.in-Edit.b in
-    rw c.in-Edit.is (ran_is (editor_is b σ path act) (ran_made_option (edited b path act) σ c.edited.result c.memory.result c.edited.ensures c.memory.ensures.ok c.memory.ensures.err))
+    rw c.in-Edit.is (ran_is (editor_is b σ path act) (ran_made_option (edited b path act) σ c.in_ok-edited-in-Edit.ensures))
 
-pub returns-in-Enter-clause-ran : goal.returns-in-Enter-clause-ran
-returns-in-Enter-clause-ran t c =
+pub returns-in_ok-edited-in-Enter-clause-ran : goal.returns-in_ok-edited-in-Enter-clause-ran
+returns-in_ok-edited-in-Enter-clause-ran t c =
     let σ = map value_term c.args.store.now.list in
     let path = c.args.path.now in
     let act = act_term c.args.act.now in
     let b = basic_term c.in-Enter.b in
-    rw c.in-Enter.is (ran_is (editor_is b σ path act) (ran_made_option (edited b path act) σ c.edited-in-Enter.result c.memory-in-Enter.result c.edited-in-Enter.ensures c.memory-in-Enter.ensures.ok c.memory-in-Enter.ensures.err))
+    rw c.in-Enter.is (ran_is (editor_is b σ path act) (ran_made_option (edited b path act) σ c.in_ok-edited-in-Enter.ensures))
 
-pub returns-in-Share-clause-ran : goal.returns-in-Share-clause-ran
-returns-in-Share-clause-ran t c =
+pub returns-in_ok-shared-in-Share-clause-ran : goal.returns-in_ok-shared-in-Share-clause-ran
+returns-in_ok-shared-in-Share-clause-ran t c =
     let σ = map value_term c.args.store.now.list in
     let path = c.args.path.now in
     let act = act_term c.args.act.now in
-    rw c.in-Share.is (ran_is (shared_is (basic_term c.in-Share.b) c.in-Share.place σ path act) (ran_made _ c.shared.result c.memory-in-Share.result c.shared.ensures c.memory-in-Share.ensures.ok c.memory-in-Share.ensures.err))
+    rw c.in-Share.is (ran_is (shared_is (basic_term c.in-Share.b) c.in-Share.place σ path act) (ran_give c.in_ok-shared-in-Share.ensures))
 
 pub returns-in-Fail-clause-ran : goal.returns-in-Fail-clause-ran
 returns-in-Fail-clause-ran t c = rw c.in-Fail.is (ran_give refl)
@@ -43,12 +42,13 @@ returns-in-Fail-clause-ran t c = rw c.in-Fail.is (ran_give refl)
 -- ---- steps
 pub returns-in_err-led-in-Then-clause-ran : goal.returns-in_err-led-in-Then-clause-ran
 returns-in_err-led-in-Then-clause-ran t c =
-    rw (stopped _ c.in_err-led-in-Then.field-0.0 c.from_residual.ensures.1, c.in-Then.is, ← c.deref.ensures) (ran_after_stops _ c.in_err-led-in-Then.ensures.ran)
+    rw (stopped _ c.in_err-led-in-Then.field-0.0 c.from_residual-in_err-led-in-Then.ensures.1, c.in-Then.is, ← c.deref.ensures)
+    (ran_after_stops _ c.in_err-led-in-Then.ensures.ran)
 
-pub returns-in_ok-led-in-Then-clause-ran : goal.returns-in_ok-led-in-Then-clause-ran
-returns-in_ok-led-in-Then-clause-ran t c =
+pub returns-in_ok-then_rebuilt-in-Then-clause-ran : goal.returns-in_ok-then_rebuilt-in-Then-clause-ran
+returns-in_ok-then_rebuilt-in-Then-clause-ran t c =
     rw (c.in-Then.is, ← c.deref.ensures) (ran_after _ c.in_ok-led-in-Then.ensures.ran
-    (ran_rebuilt (λ (u : TreeTerm). then_tree u (cont_term c.in-Then.k)) _ c.in_ok-led-in-Then.led c.then_rebuilt.result c.memory-in-Then.result c.then_rebuilt.ensures c.memory-in-Then.ensures.ok c.memory-in-Then.ensures.err))
+    (ran_rebuilt (λ (u : TreeTerm). then_tree u (cont_term c.in-Then.k)) _ c.in_ok-led-in-Then.led c.in_ok-then_rebuilt-in-Then.ensures))
 
 pub returns-in_err-led-in-None-clause-ran : goal.returns-in_err-led-in-None-clause-ran
 returns-in_err-led-in-None-clause-ran t c =
@@ -58,24 +58,26 @@ returns-in_err-led-in-None-clause-ran t c =
     let act = act_term c.args.act.now in
     let k = cont_term c.in-Next.k in
     let left = tree_term c.in-Next.left.value in
-    let is = IfOk-at_ok _ c.in_ok-stopped-in-Next.ensures.ok c.stopped.ensures in
+    let is = c.in_ok-stopped-in-Next.ensures in
     let none = rw (c.in-None.is, c.as_slice.ensures, c.deref-in-Next.ensures) at is in
     rw (stopped _ c.in_err-led-in-None.field-0.0 c.from_residual-in_err-led-in-None.ensures.1, c.in-Next.is)
-    (ran_is (ap (λ o. at_step rules o k σ (rebuilds (handled rules left σ path act) (λ t'. next_tree t' k))) (sym none)) (ran_after_stops _ (rw c.deref-in-None.ensures at c.in_err-led-in-None.ensures.ran)))
+    (ran_is (ap (λ o. at_step rules o k σ (rebuilds (handled rules left σ path act) (λ t'. next_tree t' k))) (sym none))
+    (ran_after_stops _ (rw c.deref-in-None.ensures at c.in_err-led-in-None.ensures.ran)))
 
-pub returns-in_ok-led-in-None-clause-ran : goal.returns-in_ok-led-in-None-clause-ran
-returns-in_ok-led-in-None-clause-ran t c =
+pub returns-in_ok-next_rebuilt-in-None-clause-ran : goal.returns-in_ok-next_rebuilt-in-None-clause-ran
+returns-in_ok-next_rebuilt-in-None-clause-ran t c =
     let rules = rules_term c.args.rules.now in
     let σ = map value_term c.args.store.now.list in
     let path = c.args.path.now in
     let act = act_term c.args.act.now in
     let k = cont_term c.in-Next.k in
     let left = tree_term c.in-Next.left.value in
-    let is = IfOk-at_ok _ c.in_ok-stopped-in-Next.ensures.ok c.stopped.ensures in
+    let is = c.in_ok-stopped-in-Next.ensures in
     let none = rw (c.in-None.is, c.as_slice.ensures, c.deref-in-Next.ensures) at is in
     rw c.in-Next.is
-    (ran_is (ap (λ o. at_step rules o k σ (rebuilds (handled rules left σ path act) (λ t'. next_tree t' k))) (sym none)) (ran_after _ (rw c.deref-in-None.ensures at c.in_ok-led-in-None.ensures.ran)
-    (ran_rebuilt (λ (u : TreeTerm). next_tree u k) _ c.in_ok-led-in-None.led c.next_rebuilt.result c.memory-in-None.result c.next_rebuilt.ensures c.memory-in-None.ensures.ok c.memory-in-None.ensures.err)))
+    (ran_is (ap (λ o. at_step rules o k σ (rebuilds (handled rules left σ path act) (λ t'. next_tree t' k))) (sym none))
+    (ran_after _ (rw c.deref-in-None.ensures at c.in_ok-led-in-None.ensures.ran)
+    (ran_rebuilt (λ (u : TreeTerm). next_tree u k) _ c.in_ok-led-in-None.led c.in_ok-next_rebuilt-in-None.ensures)))
 
 -- ---- nodes of two parts
 pub returns-in-empty-clause-ran : goal.returns-in-empty-clause-ran
@@ -92,10 +94,11 @@ returns-in_err-led-in-First-clause-ran t c =
     let left = tree_term c.in-And.a.value in
     let right = tree_term c.in-And.b.value in
     rw (stopped _ c.in_err-led-in-First.field-0.0 c.from_residual-in_err-led-in-First.ensures.1, c.in-And.is)
-    (ran_is (and_first rules left right σ path _ act c.in-len1-up.len_at_least c.in-First.is) (ran_after_stops _ (rw c.deref-in-First.ensures at c.in_err-led-in-First.ensures.ran)))
+    (ran_is (and_first rules left right σ path _ act c.in-len1-up.len_at_least c.in-First.is)
+    (ran_after_stops _ (rw c.deref-in-First.ensures at c.in_err-led-in-First.ensures.ran)))
 
-pub returns-in_ok-led-in-First-clause-ran : goal.returns-in_ok-led-in-First-clause-ran
-returns-in_ok-led-in-First-clause-ran t c =
+pub returns-in_ok-beside-in-First-clause-ran : goal.returns-in_ok-beside-in-First-clause-ran
+returns-in_ok-beside-in-First-clause-ran t c =
     let rules = rules_term c.args.rules.now in
     let σ = map value_term c.args.store.now.list in
     let path = c.args.path.now in
@@ -103,8 +106,10 @@ returns-in_ok-led-in-First-clause-ran t c =
     let left = tree_term c.in-And.a.value in
     let right = tree_term c.in-And.b.value in
     rw c.in-And.is
-    (ran_is (and_first rules left right σ path _ act c.in-len1-up.len_at_least c.in-First.is) (ran_after _ (rw c.deref-in-First.ensures at c.in_ok-led-in-First.ensures.ran)
-    (ran_rebuilt (λ (u : TreeTerm). and_tree u right) _ c.in_ok-led-in-First.led c.beside.result c.memory-in-First.result (rw c.deref-in-First-2.ensures at c.beside.ensures) c.memory-in-First.ensures.ok c.memory-in-First.ensures.err)))
+    (ran_is (and_first rules left right σ path _ act c.in-len1-up.len_at_least c.in-First.is)
+    (ran_after _ (rw c.deref-in-First.ensures at c.in_ok-led-in-First.ensures.ran)
+    (ran_rebuilt (λ (u : TreeTerm). and_tree u right) _ c.in_ok-led-in-First.led
+    (rw c.deref-in-First-2.ensures at c.in_ok-beside-in-First.ensures))))
 
 pub returns-in_err-led-in-Second-clause-ran : goal.returns-in_err-led-in-Second-clause-ran
 returns-in_err-led-in-Second-clause-ran t c =
@@ -115,10 +120,11 @@ returns-in_err-led-in-Second-clause-ran t c =
     let left = tree_term c.in-And.a.value in
     let right = tree_term c.in-And.b.value in
     rw (stopped _ c.in_err-led-in-Second.field-0.0 c.from_residual-in_err-led-in-Second.ensures.1, c.in-And.is)
-    (ran_is (and_second rules left right σ path _ act c.in-len1-up.len_at_least c.in-Second.is) (ran_after_stops _ (rw c.deref-in-Second.ensures at c.in_err-led-in-Second.ensures.ran)))
+    (ran_is (and_second rules left right σ path _ act c.in-len1-up.len_at_least c.in-Second.is)
+    (ran_after_stops _ (rw c.deref-in-Second.ensures at c.in_err-led-in-Second.ensures.ran)))
 
-pub returns-in_ok-led-in-Second-clause-ran : goal.returns-in_ok-led-in-Second-clause-ran
-returns-in_ok-led-in-Second-clause-ran t c =
+pub returns-in_ok-beside-in-Second-clause-ran : goal.returns-in_ok-beside-in-Second-clause-ran
+returns-in_ok-beside-in-Second-clause-ran t c =
     let rules = rules_term c.args.rules.now in
     let σ = map value_term c.args.store.now.list in
     let path = c.args.path.now in
@@ -126,8 +132,10 @@ returns-in_ok-led-in-Second-clause-ran t c =
     let left = tree_term c.in-And.a.value in
     let right = tree_term c.in-And.b.value in
     rw c.in-And.is
-    (ran_is (and_second rules left right σ path _ act c.in-len1-up.len_at_least c.in-Second.is) (ran_after _ (rw c.deref-in-Second.ensures at c.in_ok-led-in-Second.ensures.ran)
-    (ran_rebuilt (λ (u : TreeTerm). and_tree left u) _ c.in_ok-led-in-Second.led c.beside-in-Second.result c.memory-in-Second.result (rw c.deref-in-Second-2.ensures at c.beside-in-Second.ensures) c.memory-in-Second.ensures.ok c.memory-in-Second.ensures.err)))
+    (ran_is (and_second rules left right σ path _ act c.in-len1-up.len_at_least c.in-Second.is)
+    (ran_after _ (rw c.deref-in-Second.ensures at c.in_ok-led-in-Second.ensures.ran)
+    (ran_rebuilt (λ (u : TreeTerm). and_tree left u) _ c.in_ok-led-in-Second.led
+    (rw c.deref-in-Second-2.ensures at c.in_ok-beside-in-Second.ensures))))
 
 pub returns-in-empty-path-clause-ran : goal.returns-in-empty-path-clause-ran
 returns-in-empty-path-clause-ran t c =
@@ -143,10 +151,11 @@ returns-in_err-led-in-First-turn-clause-ran t c =
     let left = tree_term c.in-Or.a.value in
     let right = tree_term c.in-Or.b.value in
     rw (stopped _ c.in_err-led-in-First-turn.field-0.0 c.from_residual-in_err-led-in-First-turn.ensures.1, c.in-Or.is)
-    (ran_is (or_first rules left right σ path _ act c.in-len1-up-path.len_at_least c.in-First-turn.is) (ran_after_stops _ (rw c.deref-in-First-turn.ensures at c.in_err-led-in-First-turn.ensures.ran)))
+    (ran_is (or_first rules left right σ path _ act c.in-len1-up-path.len_at_least c.in-First-turn.is)
+    (ran_after_stops _ (rw c.deref-in-First-turn.ensures at c.in_err-led-in-First-turn.ensures.ran)))
 
-pub returns-in_ok-led-in-First-turn-clause-ran : goal.returns-in_ok-led-in-First-turn-clause-ran
-returns-in_ok-led-in-First-turn-clause-ran t c =
+pub returns-in_ok-beside-in-First-turn-clause-ran : goal.returns-in_ok-beside-in-First-turn-clause-ran
+returns-in_ok-beside-in-First-turn-clause-ran t c =
     let rules = rules_term c.args.rules.now in
     let σ = map value_term c.args.store.now.list in
     let path = c.args.path.now in
@@ -154,8 +163,10 @@ returns-in_ok-led-in-First-turn-clause-ran t c =
     let left = tree_term c.in-Or.a.value in
     let right = tree_term c.in-Or.b.value in
     rw c.in-Or.is
-    (ran_is (or_first rules left right σ path _ act c.in-len1-up-path.len_at_least c.in-First-turn.is) (ran_after _ (rw c.deref-in-First-turn.ensures at c.in_ok-led-in-First-turn.ensures.ran)
-    (ran_rebuilt (λ (u : TreeTerm). or_tree u right) _ c.in_ok-led-in-First-turn.led c.beside-in-First-turn.result c.memory-in-First-turn.result (rw c.deref-in-First-turn-2.ensures at c.beside-in-First-turn.ensures) c.memory-in-First-turn.ensures.ok c.memory-in-First-turn.ensures.err)))
+    (ran_is (or_first rules left right σ path _ act c.in-len1-up-path.len_at_least c.in-First-turn.is)
+    (ran_after _ (rw c.deref-in-First-turn.ensures at c.in_ok-led-in-First-turn.ensures.ran)
+    (ran_rebuilt (λ (u : TreeTerm). or_tree u right) _ c.in_ok-led-in-First-turn.led
+    (rw c.deref-in-First-turn-2.ensures at c.in_ok-beside-in-First-turn.ensures))))
 
 pub returns-in_err-led-in-Second-turn-clause-ran : goal.returns-in_err-led-in-Second-turn-clause-ran
 returns-in_err-led-in-Second-turn-clause-ran t c =
@@ -166,10 +177,11 @@ returns-in_err-led-in-Second-turn-clause-ran t c =
     let left = tree_term c.in-Or.a.value in
     let right = tree_term c.in-Or.b.value in
     rw (stopped _ c.in_err-led-in-Second-turn.field-0.0 c.from_residual-in_err-led-in-Second-turn.ensures.1, c.in-Or.is)
-    (ran_is (or_second rules left right σ path _ act c.in-len1-up-path.len_at_least c.in-Second-turn.is) (ran_after_stops _ (rw c.deref-in-Second-turn.ensures at c.in_err-led-in-Second-turn.ensures.ran)))
+    (ran_is (or_second rules left right σ path _ act c.in-len1-up-path.len_at_least c.in-Second-turn.is)
+    (ran_after_stops _ (rw c.deref-in-Second-turn.ensures at c.in_err-led-in-Second-turn.ensures.ran)))
 
-pub returns-in_ok-led-in-Second-turn-clause-ran : goal.returns-in_ok-led-in-Second-turn-clause-ran
-returns-in_ok-led-in-Second-turn-clause-ran t c =
+pub returns-in_ok-beside-in-Second-turn-clause-ran : goal.returns-in_ok-beside-in-Second-turn-clause-ran
+returns-in_ok-beside-in-Second-turn-clause-ran t c =
     let rules = rules_term c.args.rules.now in
     let σ = map value_term c.args.store.now.list in
     let path = c.args.path.now in
@@ -177,5 +189,7 @@ returns-in_ok-led-in-Second-turn-clause-ran t c =
     let left = tree_term c.in-Or.a.value in
     let right = tree_term c.in-Or.b.value in
     rw c.in-Or.is
-    (ran_is (or_second rules left right σ path _ act c.in-len1-up-path.len_at_least c.in-Second-turn.is) (ran_after _ (rw c.deref-in-Second-turn.ensures at c.in_ok-led-in-Second-turn.ensures.ran)
-    (ran_rebuilt (λ (u : TreeTerm). or_tree left u) _ c.in_ok-led-in-Second-turn.led c.beside-in-Second-turn.result c.memory-in-Second-turn.result (rw c.deref-in-Second-turn-2.ensures at c.beside-in-Second-turn.ensures) c.memory-in-Second-turn.ensures.ok c.memory-in-Second-turn.ensures.err)))
+    (ran_is (or_second rules left right σ path _ act c.in-len1-up-path.len_at_least c.in-Second-turn.is)
+    (ran_after _ (rw c.deref-in-Second-turn.ensures at c.in_ok-led-in-Second-turn.ensures.ran)
+    (ran_rebuilt (λ (u : TreeTerm). or_tree left u) _ c.in_ok-led-in-Second-turn.led
+    (rw c.deref-in-Second-turn-2.ensures at c.in_ok-beside-in-Second-turn.ensures))))

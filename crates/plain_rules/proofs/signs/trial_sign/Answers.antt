@@ -4,7 +4,7 @@ use Rattle.task_model.specs.Env.{plain_slot, slot_term}
 use Rattle.task_model.specs.Tree.{cont_term}
 use Rattle.task_model.specs.Rules.{trial}
 use Rattle.task_model.specs.declared.env.Slot.{Slot}
-use Rattle.plain_values.specs.Rules.{rules_term}
+use Rattle.plain_values.specs.GivenRules.{rules_term}
 use Rattle.plain_rules.proofs.HandlingLemmas.{sign_is, retested}
 use Rattle.plain_rules.proofs.signs.trial_sign.Goals as goal
 

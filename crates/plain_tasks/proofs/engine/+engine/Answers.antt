@@ -1,5 +1,4 @@
 use Rattle.std.proofs.Common.{◌≡◌, ◌++◌, ◌∷◌, [], Ok, List, map, sym, ap, ◌∙◌, refl, rules}
-use Rattle.std.proofs.lemmas.Result.{IfOk-at_ok}
 use Rattle.task_model.specs.Value.{value_term}
 use Rattle.task_model.specs.Env.{plain_slot, slot_term}
 use Rattle.task_model.specs.declared.env.Slot.{Slot}
@@ -10,7 +9,7 @@ use Rattle.task_model.specs.Plan.{fails, Plan, give, ask}
 use Rattle.task_model.specs.Rules.{branch, fired, value_of}
 use Rattle.task_model.specs.declared.purse.Stop.TheVariants.{Over}
 use Rattle.task_model.proofs.RanLemmas.{stopped, ran_give, ran_ask, ran_ask_stops, ran_last, ran_after, ran_after_stops, ran_last_stride, ran_more_strides, ran_stride_stops, ran_strides_unpaid, asked_rule, asked_rule_stops}
-use Rattle.plain_values.specs.Rules.{rules_term}
+use Rattle.plain_values.specs.GivenRules.{rules_term}
 use Rattle.plain_values.proofs.RunLemmas.{ran_is, ran_known_ok, ran_known_stops}
 use Rattle.plain_tasks.proofs.TaskLemmas.{ran_made_at, asked_normal}
 use Rattle.plain_tasks.proofs.EngineLemmas.{tells_same, tells_other, at_both, ran_tested, ran_tested_stops, ran_applied, ran_applied_stops, keeps, with_some, with_none}
@@ -19,27 +18,33 @@ use Rattle.plain_tasks.proofs.engine.+engine.Goals as goal
 -- ---- under a rule
 pub fails_at-returns-in_err-no-clause-asked : goal.fails_at-returns-in_err-no-clause-asked
 fails_at-returns-in_err-no-clause-asked t c =
-    rw (stopped _ c.in_err-no.field-0.0 c.from_residual-in_err-no.ensures.1) (asked_rule_stops c.in_ok-enter.ensures.ok c.in_err-no.ensures.ran)
+    rw (stopped _ c.in_err-no.field-0.0 c.from_residual-in_err-no.ensures.1)
+    (asked_rule_stops c.in_ok-enter.ensures.ok c.in_err-no.ensures.ran)
 
 pub fails_at-returns-clause-asked : goal.fails_at-returns-clause-asked
 fails_at-returns-clause-asked t c =
-    asked_rule c.in_ok-enter.ensures.ok (c.leave.ensures ∙ ap (λ h. record c.fails_form.new.purse { height = h }) c.height_left-height.ensures) c.in_ok-no.ensures.ran
+    asked_rule c.in_ok-enter.ensures.ok
+    (c.leave.ensures ∙ ap (λ h. record c.fails_form.new.purse { height = h }) c.height_left-height.ensures) c.in_ok-no.ensures.ran
 
 pub normal_at-returns-in_err-u-clause-asked : goal.normal_at-returns-in_err-u-clause-asked
 normal_at-returns-in_err-u-clause-asked t c =
-    rw (stopped _ c.in_err-u.field-0.0 c.from_residual-in_err-u.ensures.1) (asked_rule_stops c.in_ok-enter.ensures.ok c.in_err-u.ensures.ran)
+    rw (stopped _ c.in_err-u.field-0.0 c.from_residual-in_err-u.ensures.1)
+    (asked_rule_stops c.in_ok-enter.ensures.ok c.in_err-u.ensures.ran)
 
 pub normal_at-returns-clause-asked : goal.normal_at-returns-clause-asked
 normal_at-returns-clause-asked t c =
-    asked_rule c.in_ok-enter.ensures.ok (c.leave.ensures ∙ ap (λ h. record c.normal_form.new.purse { height = h }) c.height_left-height.ensures) c.in_ok-u.ensures.ran
+    asked_rule c.in_ok-enter.ensures.ok
+    (c.leave.ensures ∙ ap (λ h. record c.normal_form.new.purse { height = h }) c.height_left-height.ensures) c.in_ok-u.ensures.ran
 
 pub stride_at-returns-in_err-u-clause-asked : goal.stride_at-returns-in_err-u-clause-asked
 stride_at-returns-in_err-u-clause-asked t c =
-    rw (stopped _ c.in_err-u.field-0.0 c.from_residual-in_err-u.ensures.1) (asked_rule_stops c.in_ok-enter.ensures.ok c.in_err-u.ensures.ran)
+    rw (stopped _ c.in_err-u.field-0.0 c.from_residual-in_err-u.ensures.1)
+    (asked_rule_stops c.in_ok-enter.ensures.ok c.in_err-u.ensures.ran)
 
 pub stride_at-returns-clause-asked : goal.stride_at-returns-clause-asked
 stride_at-returns-clause-asked t c =
-    asked_rule c.in_ok-enter.ensures.ok (c.leave.ensures ∙ ap (λ h. record c.stride_form.new.purse { height = h }) c.height_left-height.ensures) c.in_ok-u.ensures.ran
+    asked_rule c.in_ok-enter.ensures.ok
+    (c.leave.ensures ∙ ap (λ h. record c.stride_form.new.purse { height = h }) c.height_left-height.ensures) c.in_ok-u.ensures.ran
 
 -- ---- failing
 pub fails_form-returns-in-Edit-clause-ran : goal.fails_form-returns-in-Edit-clause-ran
@@ -70,7 +75,8 @@ pub fails_form-returns-in-Xor-clause-ran : goal.fails_form-returns-in-Xor-clause
 fails_form-returns-in-Xor-clause-ran t c = rw c.in-Xor.is c.sides_fail.ensures.ran
 
 pub both_fail-returns-then-first-clause-ran : goal.both_fail-returns-then-first-clause-ran
-both_fail-returns-then-first-clause-ran t c = ran_ask _ c.in_ok-first.ensures.asked (rw c.if-first.true (ran_last _ c.fails_at-then-first.ensures.asked))
+both_fail-returns-then-first-clause-ran t c = ran_ask _ c.in_ok-first.ensures.asked
+    (rw c.if-first.true (ran_last _ c.fails_at-then-first.ensures.asked))
 
 pub both_fail-returns-else-first-clause-ran : goal.both_fail-returns-else-first-clause-ran
 both_fail-returns-else-first-clause-ran t c = ran_ask _ c.in_ok-first.ensures.asked (rw c.if-first.false (ran_give refl))
@@ -80,7 +86,8 @@ sides_fail-returns-in_err-first-clause-ran t c =
     rw (stopped _ c.in_err-first.field-0.0 c.from_residual.ensures.1) (ran_after_stops _ c.in_err-first.ensures.ran)
 
 pub sides_fail-returns-then-first-clause-ran : goal.sides_fail-returns-then-first-clause-ran
-sides_fail-returns-then-first-clause-ran t c = ran_after _ c.in_ok-first.ensures.ran (rw c.if-first.true c.side_fails-then-first.ensures.ran)
+sides_fail-returns-then-first-clause-ran t c = ran_after _ c.in_ok-first.ensures.ran
+    (rw c.if-first.true c.side_fails-then-first.ensures.ran)
 
 pub sides_fail-returns-else-first-clause-ran : goal.sides_fail-returns-else-first-clause-ran
 sides_fail-returns-else-first-clause-ran t c = ran_after _ c.in_ok-first.ensures.ran (rw c.if-first.false (ran_give refl))
@@ -88,16 +95,18 @@ sides_fail-returns-else-first-clause-ran t c = ran_after _ c.in_ok-first.ensures
 -- ---- a side
 pub side_fails-returns-in_err-t-clause-ran : goal.side_fails-returns-in_err-t-clause-ran
 side_fails-returns-in_err-t-clause-ran t c =
-    let slots = IfOk-at_ok _ c.in_ok-slots.ensures.ok c.copy_slots.ensures ∙ ap (map slot_term) c.as_slice.ensures in
-    let trial = IfOk-at_ok _ c.in_ok-trial.ensures.ok c.copy_values.ensures in
+    let slots = c.in_ok-slots.ensures ∙ ap (map slot_term) c.as_slice.ensures in
+    let trial = c.in_ok-trial.ensures in
     rw (stopped _ c.in_err-t.field-0.0 c.from_residual-in_err-t.ensures.1)
-    (ran_tested_stops (rules_term c.args.rules.now) c.args.k.now.body _ _ _ _ slots trial (λ u. at (tree_term u) (map value_term c.normal_body.new.store.list)) (λ b. b) (λ s no. give no) c.in_err-t.ensures.ran)
+    (ran_tested_stops (rules_term c.args.rules.now) c.args.k.now.body _ _ _ _ slots trial
+    (λ u. at (tree_term u) (map value_term c.normal_body.new.store.list)) (λ b. b) (λ s no. give no) c.in_err-t.ensures.ran)
 
 pub side_fails-returns-clause-ran : goal.side_fails-returns-clause-ran
 side_fails-returns-clause-ran t c =
-    let slots = IfOk-at_ok _ c.in_ok-slots.ensures.ok c.copy_slots.ensures ∙ ap (map slot_term) c.as_slice.ensures in
-    let trial = IfOk-at_ok _ c.in_ok-trial.ensures.ok c.copy_values.ensures in
-    ran_tested (rules_term c.args.rules.now) c.args.k.now.body _ _ _ _ slots trial (λ u. at (tree_term u) (map value_term c.normal_body.new.store.list)) (λ b. b) (λ s no. give no) c.in_ok-t.ensures.ran
+    let slots = c.in_ok-slots.ensures ∙ ap (map slot_term) c.as_slice.ensures in
+    let trial = c.in_ok-trial.ensures in
+    ran_tested (rules_term c.args.rules.now) c.args.k.now.body _ _ _ _ slots trial
+    (λ u. at (tree_term u) (map value_term c.normal_body.new.store.list)) (λ b. b) (λ s no. give no) c.in_ok-t.ensures.ran
     (ran_last _ (rw c.as_slice-2.ensures at c.fails_at.ensures.asked))
 
 -- ---- normalising
@@ -106,7 +115,7 @@ normal_body-returns-in-None-clause-ran t c = ran_known_stops {X = BodyTerm} _ (�
 
 pub normal_body-returns-in_ok-inner-in-Some-clause-ran : goal.normal_body-returns-in_ok-inner-in-Some-clause-ran
 normal_body-returns-in_ok-inner-in-Some-clause-ran t c =
-    let inner = IfOk-at_ok _ c.in_ok-inner-in-Some.ensures.ok c.opened_env.ensures in
+    let inner = c.in_ok-inner-in-Some.ensures in
     ran_known_ok _ c.in-Some.ensures (ran_last _ (asked_normal inner c.normal_at.ensures.asked))
 
 pub normal_form-returns-clause-ran : goal.normal_form-returns-clause-ran
@@ -123,44 +132,58 @@ stride_all-returns-in_err-spend-clause-ran t c =
 pub stride_all-returns-in_err-next-clause-ran : goal.stride_all-returns-in_err-next-clause-ran
 stride_all-returns-in_err-next-clause-ran t c =
     rw (stopped _ c.in_err-next.field-0.0 c.from_residual-in_err-next.ensures.1)
-    (c.strides.invariant.rest _ _ _ (ran_stride_stops _ give (λ u. at (tree_term u) (map value_term c.stride_at.new.store.list)) _ _ c.spend.new.self c.spend.new.self _ c.in_ok-spend.ensures.ok _ _ c.in_err-next.ensures.asked))
+    (c.strides.invariant.rest _ _ _
+    (ran_stride_stops _ give (λ u. at (tree_term u) (map value_term c.stride_at.new.store.list)) _ _ c.spend.new.self c.spend.new.self _
+    c.in_ok-spend.ensures.ok _ _ c.in_err-next.ensures.asked))
 
 pub stride_all-returns-then-same_state-clause-ran : goal.stride_all-returns-then-same_state-clause-ran
 stride_all-returns-then-same_state-clause-ran t c =
-    let held = IfOk-at_ok _ c.in_ok-held.ensures.ok c.copy_values.ensures in
-    let same = tells_same c.same_state.ensures (at_both refl (ap (map value_term) c.as_slice-in-strides.ensures)) (at_both refl (ap (map value_term) c.as_slice-in-strides-2.ensures ∙ held ∙ ap (map value_term) c.as_slice.ensures)) c.if-same_state.true in
+    let held = c.in_ok-held.ensures in
+    let same = tells_same c.same_state.ensures (at_both refl (ap (map value_term) c.as_slice-in-strides.ensures))
+    (at_both refl (ap (map value_term) c.as_slice-in-strides-2.ensures ∙ held ∙ ap (map value_term) c.as_slice.ensures))
+    c.if-same_state.true in
     c.strides.invariant.rest _ _ _
-    (ran_last_stride _ give (λ u. at (tree_term u) (map value_term c.stride_at.new.store.list)) _ _ c.spend.new.self c.stride_at.new.purse c.stride_at.new.purse c.in_ok-spend.ensures.ok _ c.in_ok-next.next (Ok c.in_ok-next.next) c.in_ok-next.ensures.asked same (ran_give refl))
+    (ran_last_stride _ give (λ u. at (tree_term u) (map value_term c.stride_at.new.store.list)) _ _ c.spend.new.self c.stride_at.new.purse
+    c.stride_at.new.purse c.in_ok-spend.ensures.ok _ c.in_ok-next.next (Ok c.in_ok-next.next) c.in_ok-next.ensures.asked same
+    (ran_give refl))
 
 pub stride_all-strides-preserved : goal.stride_all-strides-preserved
 stride_all-strides-preserved t c =
-    let held = IfOk-at_ok _ c.in_ok-held.ensures.ok c.copy_values.ensures in
-    let other = tells_other c.same_state.ensures (at_both refl (ap (map value_term) c.as_slice-in-strides.ensures)) (at_both refl (ap (map value_term) c.as_slice-in-strides-2.ensures ∙ held ∙ ap (map value_term) c.as_slice.ensures)) c.if-same_state.false in
+    let held = c.in_ok-held.ensures in
+    let other = tells_other c.same_state.ensures (at_both refl (ap (map value_term) c.as_slice-in-strides.ensures))
+    (at_both refl (ap (map value_term) c.as_slice-in-strides-2.ensures ∙ held ∙ ap (map value_term) c.as_slice.ensures))
+    c.if-same_state.false in
     record {
       height = search rules;
       rest = λ σ new r a. c.strides.invariant.rest σ new r
-          (ran_more_strides _ give (λ u. at (tree_term u) σ) _ _ c.spend.new.self c.stride_at.new.purse new c.in_ok-spend.ensures.ok _ c.in_ok-next.next r c.in_ok-next.ensures.asked other a);
+          (ran_more_strides _ give (λ u. at (tree_term u) σ) _ _ c.spend.new.self c.stride_at.new.purse new c.in_ok-spend.ensures.ok _
+          c.in_ok-next.next r c.in_ok-next.ensures.asked other a);
     }
 
-pub stride_form-returns-in-Edit-clause-ran : goal.stride_form-returns-in-Edit-clause-ran
-stride_form-returns-in-Edit-clause-ran t c =
-    ran_is (keeps (rules_term c.args.rules.now) (map value_term c.args.store.now.list) _ _ c.in-Edit.is refl) (ran_made_at _ _ c.copy_tree.result c.memory.result c.copy_tree.ensures c.memory.ensures.ok c.memory.ensures.err)
+pub stride_form-returns-in_ok-copy_tree-in-Edit-clause-ran : goal.stride_form-returns-in_ok-copy_tree-in-Edit-clause-ran
+stride_form-returns-in_ok-copy_tree-in-Edit-clause-ran t c =
+    ran_is (keeps (rules_term c.args.rules.now) (map value_term c.args.store.now.list) _ _ c.in-Edit.is refl)
+    (ran_made_at _ c.in_ok-copy_tree-in-Edit.ensures)
 
-pub stride_form-returns-in-Enter-clause-ran : goal.stride_form-returns-in-Enter-clause-ran
-stride_form-returns-in-Enter-clause-ran t c =
-    ran_is (keeps (rules_term c.args.rules.now) (map value_term c.args.store.now.list) _ _ c.in-Enter.is refl) (ran_made_at _ _ c.copy_tree-in-Enter.result c.memory-in-Enter.result c.copy_tree-in-Enter.ensures c.memory-in-Enter.ensures.ok c.memory-in-Enter.ensures.err)
+pub stride_form-returns-in_ok-copy_tree-in-Enter-clause-ran : goal.stride_form-returns-in_ok-copy_tree-in-Enter-clause-ran
+stride_form-returns-in_ok-copy_tree-in-Enter-clause-ran t c =
+    ran_is (keeps (rules_term c.args.rules.now) (map value_term c.args.store.now.list) _ _ c.in-Enter.is refl)
+    (ran_made_at _ c.in_ok-copy_tree-in-Enter.ensures)
 
-pub stride_form-returns-in-Share-clause-ran : goal.stride_form-returns-in-Share-clause-ran
-stride_form-returns-in-Share-clause-ran t c =
-    ran_is (keeps (rules_term c.args.rules.now) (map value_term c.args.store.now.list) _ _ c.in-Share.is refl) (ran_made_at _ _ c.copy_tree-in-Share.result c.memory-in-Share.result c.copy_tree-in-Share.ensures c.memory-in-Share.ensures.ok c.memory-in-Share.ensures.err)
+pub stride_form-returns-in_ok-copy_tree-in-Share-clause-ran : goal.stride_form-returns-in_ok-copy_tree-in-Share-clause-ran
+stride_form-returns-in_ok-copy_tree-in-Share-clause-ran t c =
+    ran_is (keeps (rules_term c.args.rules.now) (map value_term c.args.store.now.list) _ _ c.in-Share.is refl)
+    (ran_made_at _ c.in_ok-copy_tree-in-Share.ensures)
 
-pub stride_form-returns-in-Fail-clause-ran : goal.stride_form-returns-in-Fail-clause-ran
-stride_form-returns-in-Fail-clause-ran t c =
-    ran_is (keeps (rules_term c.args.rules.now) (map value_term c.args.store.now.list) _ _ c.in-Fail.is refl) (ran_made_at _ _ c.copy_tree-in-Fail.result c.memory-in-Fail.result c.copy_tree-in-Fail.ensures c.memory-in-Fail.ensures.ok c.memory-in-Fail.ensures.err)
+pub stride_form-returns-in_ok-copy_tree-in-Fail-clause-ran : goal.stride_form-returns-in_ok-copy_tree-in-Fail-clause-ran
+stride_form-returns-in_ok-copy_tree-in-Fail-clause-ran t c =
+    ran_is (keeps (rules_term c.args.rules.now) (map value_term c.args.store.now.list) _ _ c.in-Fail.is refl)
+    (ran_made_at _ c.in_ok-copy_tree-in-Fail.ensures)
 
-pub stride_form-returns-in-Xor-clause-ran : goal.stride_form-returns-in-Xor-clause-ran
-stride_form-returns-in-Xor-clause-ran t c =
-    ran_is (keeps (rules_term c.args.rules.now) (map value_term c.args.store.now.list) _ _ c.in-Xor.is refl) (ran_made_at _ _ c.copy_tree-in-Xor.result c.memory-in-Xor.result c.copy_tree-in-Xor.ensures c.memory-in-Xor.ensures.ok c.memory-in-Xor.ensures.err)
+pub stride_form-returns-in_ok-copy_tree-in-Xor-clause-ran : goal.stride_form-returns-in_ok-copy_tree-in-Xor-clause-ran
+stride_form-returns-in_ok-copy_tree-in-Xor-clause-ran t c =
+    ran_is (keeps (rules_term c.args.rules.now) (map value_term c.args.store.now.list) _ _ c.in-Xor.is refl)
+    (ran_made_at _ c.in_ok-copy_tree-in-Xor.ensures)
 
 pub stride_form-returns-in-Then-clause-ran : goal.stride_form-returns-in-Then-clause-ran
 stride_form-returns-in-Then-clause-ran t c = rw (c.in-Then.is, ← c.deref.ensures) c.then_form.ensures.ran
@@ -176,46 +199,53 @@ stride_form-returns-in-Or-clause-ran t c = rw (c.in-Or.is, ← c.deref-in-Or.ens
 
 pub next_form-returns-clause-ran : goal.next_form-returns-clause-ran
 next_form-returns-clause-ran t c =
-    ran_ask _ c.in_ok-left.ensures.asked (ran_made_at _ _ c.next_tree.result c.memory.result c.next_tree.ensures c.memory.ensures.ok c.memory.ensures.err)
+    ran_ask _ c.in_ok-left.ensures.asked (ran_made_at _ c.in_ok-next_tree.ensures)
 
 pub and_form-returns-in_err-u-clause-ran : goal.and_form-returns-in_err-u-clause-ran
 and_form-returns-in_err-u-clause-ran t c =
-    rw (stopped _ c.in_err-u.field-0.0 c.from_residual-in_err-u.ensures.1) (ran_ask _ c.in_ok-t.ensures.asked (ran_ask_stops _ c.in_err-u.ensures.asked))
+    rw (stopped _ c.in_err-u.field-0.0 c.from_residual-in_err-u.ensures.1)
+    (ran_ask _ c.in_ok-t.ensures.asked (ran_ask_stops _ c.in_err-u.ensures.asked))
 
 pub and_form-returns-clause-ran : goal.and_form-returns-clause-ran
 and_form-returns-clause-ran t c =
-    ran_ask _ c.in_ok-t.ensures.asked (ran_ask _ c.in_ok-u.ensures.asked (ran_made_at _ _ c.and_tree.result c.memory.result c.and_tree.ensures c.memory.ensures.ok c.memory.ensures.err))
+    ran_ask _ c.in_ok-t.ensures.asked (ran_ask _ c.in_ok-u.ensures.asked (ran_made_at _ c.in_ok-and_tree.ensures))
 
 pub or_form-returns-then-has_value-clause-ran : goal.or_form-returns-then-has_value-clause-ran
 or_form-returns-then-has_value-clause-ran t c =
     let has = rw c.as_slice.ensures at c.has_value.ensures in
-    ran_ask _ c.in_ok-t.ensures.asked (ran_is (with_some (value_of (tree_term c.in_ok-t.t) (map value_term c.stride_at.new.store.list)) _ _ (sym has ∙ c.if-has_value.true)) (ran_give refl))
+    ran_ask _ c.in_ok-t.ensures.asked
+    (ran_is (with_some (value_of (tree_term c.in_ok-t.t) (map value_term c.stride_at.new.store.list)) _ _
+    (sym has ∙ c.if-has_value.true)) (ran_give refl))
 
 pub or_form-returns-in_err-u-clause-ran : goal.or_form-returns-in_err-u-clause-ran
 or_form-returns-in_err-u-clause-ran t c =
     let has = rw c.as_slice.ensures at c.has_value.ensures in
     rw (stopped _ c.in_err-u.field-0.0 c.from_residual-in_err-u.ensures.1)
-    (ran_ask _ c.in_ok-t.ensures.asked (ran_is (with_none (value_of (tree_term c.in_ok-t.t) (map value_term c.stride_at.new.store.list)) _ _ (sym has ∙ c.if-has_value.false)) (ran_ask_stops _ c.in_err-u.ensures.asked)))
+    (ran_ask _ c.in_ok-t.ensures.asked
+    (ran_is (with_none (value_of (tree_term c.in_ok-t.t) (map value_term c.stride_at.new.store.list)) _ _
+    (sym has ∙ c.if-has_value.false)) (ran_ask_stops _ c.in_err-u.ensures.asked)))
 
-pub or_form-returns-in_ok-u-clause-ran : goal.or_form-returns-in_ok-u-clause-ran
-or_form-returns-in_ok-u-clause-ran t c =
+pub or_form-returns-in_ok-or_of-clause-ran : goal.or_form-returns-in_ok-or_of-clause-ran
+or_form-returns-in_ok-or_of-clause-ran t c =
     let has = rw c.as_slice.ensures at c.has_value.ensures in
-    ran_ask _ c.in_ok-t.ensures.asked (ran_is (with_none (value_of (tree_term c.in_ok-t.t) (map value_term c.stride_at.new.store.list)) _ _ (sym has ∙ c.if-has_value.false)) (ran_ask _ c.in_ok-u.ensures.asked
-    (ran_made_at _ _ c.or_of.result c.memory.result (rw c.as_slice-else-has_value.ensures at c.or_of.ensures) c.memory.ensures.ok c.memory.ensures.err)))
+    ran_ask _ c.in_ok-t.ensures.asked
+    (ran_is (with_none (value_of (tree_term c.in_ok-t.t) (map value_term c.stride_at.new.store.list)) _ _
+    (sym has ∙ c.if-has_value.false)) (ran_ask _ c.in_ok-u.ensures.asked
+    (ran_made_at _ (rw c.as_slice-else-has_value.ensures at c.in_ok-or_of.ensures))))
 
 pub then_form-returns-clause-ran : goal.then_form-returns-clause-ran
 then_form-returns-clause-ran t c = ran_ask _ c.in_ok-left.ensures.asked c.fired.ensures.ran
 
 -- ---- a trial
-pub fired-returns-in-None-clause-ran : goal.fired-returns-in-None-clause-ran
-fired-returns-in-None-clause-ran t c =
+pub fired-returns-in_ok-then_tree-in-None-clause-ran : goal.fired-returns-in_ok-then_tree-in-None-clause-ran
+fired-returns-in_ok-then_tree-in-None-clause-ran t c =
     let rules = rules_term c.args.rules.now in
     let σ = map value_term c.args.store.now.list in
     let k = cont_term c.args.k.now in
     let left = tree_term c.args.left in
-    let is = IfOk-at_ok _ c.in_ok-value.ensures.ok c.value_of.ensures in
+    let is = c.in_ok-value.ensures in
     let none = rw (c.in-None.is, c.as_slice.ensures) at is in
-    ran_is (ap (λ o. fired rules o k (at left σ)) (sym none)) (ran_made_at (then_tree left k) σ c.then_tree.result c.memory-in-None.result c.then_tree.ensures c.memory-in-None.ensures.ok c.memory-in-None.ensures.err)
+    ran_is (ap (λ o. fired rules o k (at left σ)) (sym none)) (ran_made_at _ c.in_ok-then_tree-in-None.ensures)
 
 pub fired-returns-in-Some-clause-ran : goal.fired-returns-in-Some-clause-ran
 fired-returns-in-Some-clause-ran t c =
@@ -223,7 +253,7 @@ fired-returns-in-Some-clause-ran t c =
     let σ = map value_term c.args.store.now.list in
     let k = cont_term c.args.k.now in
     let left = tree_term c.args.left in
-    let is = IfOk-at_ok _ c.in_ok-value.ensures.ok c.value_of.ensures in
+    let is = c.in_ok-value.ensures in
     let some = rw (c.in-Some.is, c.as_slice.ensures) at is in
     ran_is (ap (λ o. fired rules o k (at left σ)) (sym some)) c.tried.ensures.ran
 
@@ -234,12 +264,13 @@ tried-returns-in_err-t-clause-ran t c =
     let k = cont_term c.args.k.now in
     let left = tree_term c.args.left in
     let v = value_term c.args.v in
-    let slots = IfOk-at_ok _ c.in_ok-slots.ensures.ok c.with_value.ensures ∙ ap (λ (l : List Slot). map slot_term l ++ plain_slot v ∷ []) c.as_slice.ensures in
-    let trial = IfOk-at_ok _ c.in_ok-trial.ensures.ok c.copy_values.ensures ∙ ap (map value_term) c.as_slice-2.ensures in
+    let slots = c.in_ok-slots.ensures ∙ ap (λ (l : List Slot). map slot_term l ++ plain_slot v ∷ []) c.as_slice.ensures in
+    let trial = c.in_ok-trial.ensures ∙ ap (map value_term) c.as_slice-2.ensures in
     let f : State → Plan State = λ s. ask (fails s) (λ no. branch no (give (at (then_tree left k) σ)) (give s)) in
     let made : tree.Tree → State = λ u. at (tree_term u) (map value_term c.applied.new.store.list) in
     let kept : tree.Tree → State = λ u. at (tree_term u) σ in
-    rw (stopped _ c.in_err-t.field-0.0 c.from_residual-in_err-t.ensures.1) (ran_applied_stops rules c.args.k.now.body _ _ _ _ slots trial made kept f c.in_err-t.ensures.ran)
+    rw (stopped _ c.in_err-t.field-0.0 c.from_residual-in_err-t.ensures.1)
+    (ran_applied_stops rules c.args.k.now.body _ _ _ _ slots trial made kept f c.in_err-t.ensures.ran)
 
 pub tried-returns-in_err-failing-clause-ran : goal.tried-returns-in_err-failing-clause-ran
 tried-returns-in_err-failing-clause-ran t c =
@@ -248,28 +279,30 @@ tried-returns-in_err-failing-clause-ran t c =
     let k = cont_term c.args.k.now in
     let left = tree_term c.args.left in
     let v = value_term c.args.v in
-    let slots = IfOk-at_ok _ c.in_ok-slots.ensures.ok c.with_value.ensures ∙ ap (λ (l : List Slot). map slot_term l ++ plain_slot v ∷ []) c.as_slice.ensures in
-    let trial = IfOk-at_ok _ c.in_ok-trial.ensures.ok c.copy_values.ensures ∙ ap (map value_term) c.as_slice-2.ensures in
+    let slots = c.in_ok-slots.ensures ∙ ap (λ (l : List Slot). map slot_term l ++ plain_slot v ∷ []) c.as_slice.ensures in
+    let trial = c.in_ok-trial.ensures ∙ ap (map value_term) c.as_slice-2.ensures in
     let f : State → Plan State = λ s. ask (fails s) (λ no. branch no (give (at (then_tree left k) σ)) (give s)) in
     let made : tree.Tree → State = λ u. at (tree_term u) (map value_term c.applied.new.store.list) in
     let kept : tree.Tree → State = λ u. at (tree_term u) σ in
     rw (stopped _ c.in_err-failing.field-0.0 c.from_residual-in_err-failing.ensures.1)
-    (ran_applied rules c.args.k.now.body _ _ _ _ slots trial made kept f c.in_ok-t.ensures.ran (ran_ask_stops _ (rw c.as_slice-3.ensures at c.in_err-failing.ensures.asked)))
+    (ran_applied rules c.args.k.now.body _ _ _ _ slots trial made kept f c.in_ok-t.ensures.ran
+    (ran_ask_stops _ (rw c.as_slice-3.ensures at c.in_err-failing.ensures.asked)))
 
-pub tried-returns-then-failing-clause-ran : goal.tried-returns-then-failing-clause-ran
-tried-returns-then-failing-clause-ran t c =
+pub tried-returns-in_ok-then_tree-clause-ran : goal.tried-returns-in_ok-then_tree-clause-ran
+tried-returns-in_ok-then_tree-clause-ran t c =
     let rules = rules_term c.args.rules.now in
     let σ = map value_term c.args.store.now.list in
     let k = cont_term c.args.k.now in
     let left = tree_term c.args.left in
     let v = value_term c.args.v in
-    let slots = IfOk-at_ok _ c.in_ok-slots.ensures.ok c.with_value.ensures ∙ ap (λ (l : List Slot). map slot_term l ++ plain_slot v ∷ []) c.as_slice.ensures in
-    let trial = IfOk-at_ok _ c.in_ok-trial.ensures.ok c.copy_values.ensures ∙ ap (map value_term) c.as_slice-2.ensures in
+    let slots = c.in_ok-slots.ensures ∙ ap (λ (l : List Slot). map slot_term l ++ plain_slot v ∷ []) c.as_slice.ensures in
+    let trial = c.in_ok-trial.ensures ∙ ap (map value_term) c.as_slice-2.ensures in
     let f : State → Plan State = λ s. ask (fails s) (λ no. branch no (give (at (then_tree left k) σ)) (give s)) in
     let made : tree.Tree → State = λ u. at (tree_term u) (map value_term c.applied.new.store.list) in
     let kept : tree.Tree → State = λ u. at (tree_term u) σ in
-    ran_applied rules c.args.k.now.body _ _ _ _ slots trial made kept f c.in_ok-t.ensures.ran (ran_ask _ (rw c.as_slice-3.ensures at c.in_ok-failing.ensures.asked)
-    (rw c.if-failing.true (ran_made_at (then_tree left k) σ c.then_tree.result c.memory-then-failing.result c.then_tree.ensures c.memory-then-failing.ensures.ok c.memory-then-failing.ensures.err)))
+    ran_applied rules c.args.k.now.body _ _ _ _ slots trial made kept f c.in_ok-t.ensures.ran
+    (ran_ask _ (rw c.as_slice-3.ensures at c.in_ok-failing.ensures.asked)
+    (rw c.if-failing.true (ran_made_at _ c.in_ok-then_tree.ensures)))
 
 pub tried-returns-else-failing-clause-ran : goal.tried-returns-else-failing-clause-ran
 tried-returns-else-failing-clause-ran t c =
@@ -278,9 +311,10 @@ tried-returns-else-failing-clause-ran t c =
     let k = cont_term c.args.k.now in
     let left = tree_term c.args.left in
     let v = value_term c.args.v in
-    let slots = IfOk-at_ok _ c.in_ok-slots.ensures.ok c.with_value.ensures ∙ ap (λ (l : List Slot). map slot_term l ++ plain_slot v ∷ []) c.as_slice.ensures in
-    let trial = IfOk-at_ok _ c.in_ok-trial.ensures.ok c.copy_values.ensures ∙ ap (map value_term) c.as_slice-2.ensures in
+    let slots = c.in_ok-slots.ensures ∙ ap (λ (l : List Slot). map slot_term l ++ plain_slot v ∷ []) c.as_slice.ensures in
+    let trial = c.in_ok-trial.ensures ∙ ap (map value_term) c.as_slice-2.ensures in
     let f : State → Plan State = λ s. ask (fails s) (λ no. branch no (give (at (then_tree left k) σ)) (give s)) in
     let made : tree.Tree → State = λ u. at (tree_term u) (map value_term c.applied.new.store.list) in
     let kept : tree.Tree → State = λ u. at (tree_term u) σ in
-    ran_applied rules c.args.k.now.body _ _ _ _ slots trial made made f c.in_ok-t.ensures.ran (ran_ask _ (rw c.as_slice-3.ensures at c.in_ok-failing.ensures.asked) (rw c.if-failing.false (ran_give refl)))
+    ran_applied rules c.args.k.now.body _ _ _ _ slots trial made made f c.in_ok-t.ensures.ran
+    (ran_ask _ (rw c.as_slice-3.ensures at c.in_ok-failing.ensures.asked) (rw c.if-failing.false (ran_give refl)))

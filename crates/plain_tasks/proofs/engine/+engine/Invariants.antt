@@ -3,10 +3,10 @@ use Rattle.task_model.specs.Left.{Left}
 use Rattle.task_model.specs.Value.{ValueTerm, value_term}
 use Rattle.task_model.specs.Tree.{tree_term, at}
 use Rattle.task_model.specs.Plan.{give, stride_on}
-use Rattle.task_model.specs.Calls.{Ran}
+use Rattle.task_model.specs.Calls.{RunsPlan}
 use Rattle.task_model.specs.declared.purse.Stop.{Stop}
 use Rattle.task_model.specs.declared.tree.Tree.{Tree}
-use Rattle.plain_values.specs.Rules.{rules_term}
+use Rattle.plain_values.specs.GivenRules.{rules_term}
 use Rattle.plain_tasks.proofs.engine.+engine.Given as goal
 
 -- the height falls at each rule
@@ -69,5 +69,9 @@ decreases-stride_all-strides l = l.purse.units
 abbrev pub invariant-stride_all-strides : goal.invariant-stride_all-strides
 invariant-stride_all-strides l = record {
   height : l.purse.height ≡ l.initial.purse.height;
-  rest : (σ : List ValueTerm) (new : Left) (r : Result Tree Stop) → Ran (rules_term l.rules) (stride_on (at (tree_term l.tree) (map value_term l.store.list)) give) (λ u. at (tree_term u) σ) l.purse new r → Ran (rules_term l.rules) (stride_on (at (tree_term l.fn.t) (map value_term l.initial.store.list)) give) (λ u. at (tree_term u) σ) l.initial.purse new r;
+  rest : (σ : List ValueTerm) (new : Left) (r : Result Tree Stop)
+      → RunsPlan (rules_term l.rules) (stride_on (at (tree_term l.tree) (map value_term l.store.list)) give)
+      (λ u. at (tree_term u) σ) l.purse new r
+      → RunsPlan (rules_term l.rules) (stride_on (at (tree_term l.fn.t) (map value_term l.initial.store.list)) give)
+      (λ u. at (tree_term u) σ) l.initial.purse new r;
 }

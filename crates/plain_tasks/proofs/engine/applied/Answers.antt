@@ -1,5 +1,4 @@
 use Rattle.std.proofs.Common.{refl}
-use Rattle.std.proofs.lemmas.Result.{IfOk-at_ok}
 use Rattle.task_model.specs.Task.{BodyTerm}
 use Rattle.task_model.specs.declared.purse.Stop.TheVariants.{Over}
 use Rattle.task_model.proofs.RanLemmas.{ran_last}
@@ -12,5 +11,5 @@ returns-in-None-clause-ran c = ran_known_stops {X = BodyTerm} _ (λ b. b) Over _
 
 pub returns-in_ok-inner-in-Some-clause-ran : goal.returns-in_ok-inner-in-Some-clause-ran
 returns-in_ok-inner-in-Some-clause-ran c =
-    let inner = IfOk-at_ok _ c.in_ok-inner-in-Some.ensures.ok c.opened_env.ensures in
+    let inner = c.in_ok-inner-in-Some.ensures in
     ran_known_ok _ c.in-Some.ensures (ran_last _ (asked_task inner refl c.evaluate_at.ensures.asked))

@@ -5,7 +5,8 @@ use Rattle.plain_tasks.proofs.evaluation.edit_form.Goals as goal
 
 pub returns-in_err-v-clause-ran : goal.returns-in_err-v-clause-ran
 returns-in_err-v-clause-ran c =
-    rw (stopped _ c.in_err-v.field-0.0 c.from_residual-in_err-v.ensures.1) (ran_known_ok _ c.in_ok-b.ensures (ran_ask_stops _ c.in_err-v.ensures.asked))
+    rw (stopped _ c.in_err-v.field-0.0 c.from_residual-in_err-v.ensures.1)
+    (ran_known_ok _ c.in_ok-b.ensures (ran_ask_stops _ c.in_err-v.ensures.asked))
 
 pub returns-clause-ran : goal.returns-clause-ran
 returns-clause-ran c = ran_known_ok _ c.in_ok-b.ensures (ran_ask _ c.in_ok-v.ensures.asked (ran_give refl))

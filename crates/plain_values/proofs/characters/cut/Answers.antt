@@ -1,5 +1,5 @@
 use Rattle.std.proofs.Common.{◌≡◌, ◌<◌, ◌≤◌, ℕ, List, length, true, drop, subst, arith}
-use Rattle.plain_values.specs.Words.{starts}
+use Rattle.plain_values.specs.ValueWords.{starts}
 use Rattle.plain_values.proofs.CharacterLemmas.{boundary}
 use Rattle.plain_values.proofs.characters.cut.Goals as goal
 

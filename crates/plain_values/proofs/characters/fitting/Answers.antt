@@ -1,7 +1,7 @@
 use Rattle.std.proofs.Common.{◌≡◌, ◌∙◌, ap, sym, subst, drop, take, ◌++◌, ◌∷◌, ◌+◌, ◌-◌, ◌≤◌, length, List, ℕ, true, arith}
 use Rattle.std.proofs.lemmas.List.{drop-drop, length-drop}
 use Rattle.task_model.specs.Characters.{characters_of, fitting}
-use Rattle.plain_values.specs.Words.{starts}
+use Rattle.plain_values.specs.ValueWords.{starts}
 use Rattle.plain_values.proofs.ListLemmas.{slice_is}
 use Rattle.plain_values.proofs.CharacterLemmas.{fitting_step}
 use Rattle.plain_values.proofs.characters.fitting.Goals as goal
@@ -25,7 +25,8 @@ loop-rest-preserved c =
       room = omega arith;
       fits =
           fitting_step bytes end size some room size_le within
-          (inv.fits ∙ ap (λ cs. take end bytes ++ fitting (65536 - end) cs) c.first_size-size.ensures.first ∙ ap (λ r. take end bytes ++ fitting (65536 - end) (take size r ∷ characters_of (drop size r))) inv.rest)
+          (inv.fits ∙ ap (λ cs. take end bytes ++ fitting (65536 - end) cs) c.first_size-size.ensures.first
+          ∙ ap (λ r. take end bytes ++ fitting (65536 - end) (take size r ∷ characters_of (drop size r))) inv.rest)
           ∙ ap (λ l. take (end + size) bytes ++ fitting (65536 - (end + size)) (characters_of l)) (sym whole);
       next = λ lt. subst (λ r. starts r ≡ true) (sym tail) c.first_size-size.ensures.next;
     }

@@ -1,6 +1,6 @@
 use Rattle.std.proofs.Common.{◌≡◌, ◌≤◌, ◌<◌, ◌-◌, ◌++◌, true, length, take, drop}
 use Rattle.task_model.specs.Characters.{characters_of, cut_text, fitting}
-use Rattle.plain_values.specs.Words as words
+use Rattle.plain_values.specs.ValueWords as words
 use Rattle.plain_values.proofs.characters.fitting.Given as goal
 
 abbrev pub invariant-loop-rest : goal.invariant-loop-rest

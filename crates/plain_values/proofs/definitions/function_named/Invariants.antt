@@ -1,6 +1,6 @@
 use Rattle.std.proofs.Common.{◌≡◌, map, length}
 use Rattle.task_model.specs.Program.{def_term}
-use Rattle.plain_values.specs.Words.{function_in}
+use Rattle.plain_values.specs.ValueWords.{function_in}
 use Rattle.plain_values.proofs.definitions.function_named.Given as goal
 
 abbrev pub invariant-loop-rest : goal.invariant-loop-rest

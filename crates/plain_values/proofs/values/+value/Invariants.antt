@@ -6,11 +6,11 @@ use Rattle.task_model.specs.Env.{slot_term, env_term}
 use Rattle.task_model.specs.Host.{as_exprs, host_term}
 use Rattle.task_model.specs.Program.{param_term}
 use Rattle.task_model.specs.Rules.{slots_for, values_for}
-use Rattle.task_model.specs.Calls.{Ran}
+use Rattle.task_model.specs.Calls.{RunsPlan}
 use Rattle.task_model.specs.declared.purse.Stop.{Stop}
 use Rattle.task_model.specs.declared.value.Value.{Value}
 use Rattle.task_model.specs.declared.env.Slot.{Slot}
-use Rattle.plain_values.specs.Rules.{rules_term}
+use Rattle.plain_values.specs.GivenRules.{rules_term}
 use Rattle.plain_values.proofs.values.+value.Given as goal
 
 -- the height falls at each rule
@@ -66,7 +66,11 @@ decreases-value_form l = 6 * l.purse.now.height + 5
 abbrev pub invariant-values_at-loop-rest : goal.invariant-values_at-loop-rest
 invariant-values_at-loop-rest l = record {
   height : l.purse.height ≡ l.initial.purse.height;
-  rest : (new : Left) (r : Result (Rowed Value) Stop) → Ran (rules_term l.rules) (values_for (env_term l.env) (map value_term l.store) (map value_term l.values.list) (as_exprs (map host_term l.rest))) (λ q. map value_term q.list) l.purse new r → Ran (rules_term l.rules) (values_for (env_term l.env) (map value_term l.store) [] (as_exprs (map host_term l.items))) (λ q. map value_term q.list) l.initial.purse new r;
+  rest : (new : Left) (r : Result (Rowed Value) Stop)
+      → RunsPlan (rules_term l.rules) (values_for (env_term l.env) (map value_term l.store) (map value_term l.values.list)
+      (as_exprs (map host_term l.rest))) (λ q. map value_term q.list) l.purse new r
+      → RunsPlan (rules_term l.rules) (values_for (env_term l.env) (map value_term l.store) [] (as_exprs (map host_term l.items)))
+      (λ q. map value_term q.list) l.initial.purse new r;
 }
 
 abbrev pub decreases-values_at-loop-rest : goal.decreases-values_at-loop-rest
@@ -75,7 +79,13 @@ decreases-values_at-loop-rest l = length l.rest
 abbrev pub invariant-slots_at-loop-rest : goal.invariant-slots_at-loop-rest
 invariant-slots_at-loop-rest l = record {
   height : l.purse.height ≡ l.initial.purse.height;
-  rest : (new : Left) (r : Result (Rowed Slot) Stop) → Ran (rules_term l.rules) (slots_for (env_term l.env) (map value_term l.store) (map slot_term l.slots.list) (map host_term l.rest) (map param_term l.at)) (λ q. map slot_term q.list) l.purse new r → Ran (rules_term l.rules) (slots_for (env_term l.env) (map value_term l.store) [] (map host_term l.args) (map param_term l.params)) (λ q. map slot_term q.list) l.initial.purse new r;
+  rest : (new : Left) (r : Result (Rowed Slot) Stop)
+      → RunsPlan (rules_term l.rules)
+      (slots_for (env_term l.env) (map value_term l.store) (map slot_term l.slots.list) (map host_term l.rest) (map param_term l.at))
+      (λ q. map slot_term q.list) l.purse new r
+      → RunsPlan (rules_term l.rules)
+      (slots_for (env_term l.env) (map value_term l.store) [] (map host_term l.args) (map param_term l.params))
+      (λ q. map slot_term q.list) l.initial.purse new r;
 }
 
 abbrev pub decreases-slots_at-loop-rest : goal.decreases-slots_at-loop-rest

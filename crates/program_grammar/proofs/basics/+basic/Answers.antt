@@ -1,7 +1,7 @@
 use Rattle.std.proofs.Common.{◌≡◌, ◌+◌, ◌-◌, ◌≤◌, refl, sym, ap, arith}
 use Rattle.std.proofs.lemmas.Result.{err_from_is_err_and}
 use Rattle.task_model.specs.Basic.{basic_term}
-use Rattle.program_grammar.specs.Grammar.{scalar_type}
+use Rattle.task_model.specs.Grammar.{scalar_type}
 use Rattle.exact_reading.proofs.Symbols.{seq_one, seq_one_stop, seq_part, seq_part_stop, seq_done}
 use Rattle.program_grammar.proofs.GrammarLemmas.{grammar}
 use Rattle.program_grammar.proofs.CountLemmas.{counted}
@@ -10,23 +10,36 @@ use Rattle.program_grammar.proofs.TypeRules as types
 use Rattle.program_grammar.proofs.basics.+basic.Goals as goal
 
 pub returns-then-room-lt1 : goal.returns-then-room-lt1
-returns-then-room-lt1 t c = let (b, p, e, is) = c.in-Some.ensures in rw c.too_nested.ensures (record { by = counted _ (too_deep (types.scalar_rule b p) e (omega arith)) })
+returns-then-room-lt1 t c =
+    let (b, p, e, is) = c.in-Some.ensures in rw c.too_nested.ensures
+    (record { by = counted _ (too_deep (types.scalar_rule b p) e (omega arith)) })
 
 pub returns-in-Some : goal.returns-in-Some
 returns-in-Some t c =
     let (b, p, e, is) = c.in-Some.ensures in
-    record { by = ((scalar_type b p, 1), ap (λ q. (q, 1)) (sym is), by_rule (types.scalar_rule b p) e (omega arith) (seq_done grammar 1 (omega arith))) }
+    record {
+      by = (
+        (scalar_type b p, 1),
+        ap (λ q. (q, 1)) (sym is),
+        by_rule (types.scalar_rule b p) e (omega arith)
+            (seq_done grammar 1 (omega arith)),
+      );
+    }
 
 -- ---- pairs
 pub returns-then-room-lt2 : goal.returns-then-room-lt2
-returns-then-room-lt2 t c = rw c.too_nested-then-room-lt2.ensures (record { by = counted _ (too_deep (types.pair_rule _) c.in-Some-strip_sign.ensures (omega arith)) })
+returns-then-room-lt2 t c = rw c.too_nested-then-room-lt2.ensures
+    (record { by = counted _ (too_deep (types.pair_rule _) c.in-Some-strip_symbol.ensures (omega arith)) })
 
 pub returns-in_err-first : goal.returns-in_err-first
 returns-in_err-first t c =
     let p = err_from_is_err_and c.from_residual.result c.from_residual.ensures.1 in
     let le : 2 ≤ c.args.room = omega arith in
     let up : 1 + (c.args.room - 1) ≡ c.args.room = omega arith in
-    rw (p.1, p.2) (record { by = by_rule (types.pair_rule _) c.in-Some-strip_sign.ensures le (seq_part_stop grammar 1 (λ p z. refl) le up c.in_err-first.ensures.by) })
+    rw (p.1, p.2) (record {
+      by = by_rule (types.pair_rule _) c.in-Some-strip_symbol.ensures le
+          (seq_part_stop grammar 1 (λ p z. refl) le up c.in_err-first.ensures.by);
+    })
 
 pub returns-in_err-rest : goal.returns-in_err-rest
 returns-in_err-rest t c =
@@ -35,7 +48,10 @@ returns-in_err-rest t c =
     let up : 1 + (c.args.room - 1) ≡ c.args.room = omega arith in
     let (x, sx, fx) = c.in_ok-first.ensures.by in
     let fits = fx.by.fits in
-    rw (p.1, p.2) (record { by = by_rule (types.pair_rule _) c.in-Some-strip_sign.ensures le (seq_part grammar 1 (λ p z. refl) le up fx (seq_one_stop grammar 1 (omega (arith, fits, le)) c.in_err-rest.ensures)) })
+    rw (p.1, p.2) (record {
+      by = by_rule (types.pair_rule _) c.in-Some-strip_symbol.ensures le
+          (seq_part grammar 1 (λ p z. refl) le up fx (seq_one_stop grammar 1 (omega (arith, fits, le)) c.in_err-rest.ensures));
+    })
 
 pub returns-in_err-second : goal.returns-in_err-second
 returns-in_err-second t c =
@@ -44,7 +60,11 @@ returns-in_err-second t c =
     let up : 1 + (c.args.room - 1) ≡ c.args.room = omega arith in
     let (x, sx, fx) = c.in_ok-first.ensures.by in
     let fits = fx.by.fits in
-    rw (p.1, p.2) (record { by = by_rule (types.pair_rule _) c.in-Some-strip_sign.ensures le (seq_part grammar 1 (λ p z. refl) le up fx (seq_one grammar 1 (omega (arith, fits, le)) c.in_ok-rest.ensures (seq_part_stop grammar 1 (λ p z. refl) (omega (arith, fits, le)) up c.in_err-second.ensures.by))) })
+    rw (p.1, p.2) (record {
+      by = by_rule (types.pair_rule _) c.in-Some-strip_symbol.ensures le
+          (seq_part grammar 1 (λ p z. refl) le up fx (seq_one grammar 1 (omega (arith, fits, le)) c.in_ok-rest.ensures
+          (seq_part_stop grammar 1 (λ p z. refl) (omega (arith, fits, le)) up c.in_err-second.ensures.by)));
+    })
 
 pub returns-in_err-rest-2 : goal.returns-in_err-rest-2
 returns-in_err-rest-2 t c =
@@ -55,7 +75,12 @@ returns-in_err-rest-2 t c =
     let (y, sy, fy) = c.in_ok-second.ensures.by in
     let fits = fx.by.fits in
     let fits' = fy.by.fits in
-    rw (p.1, p.2) (record { by = by_rule (types.pair_rule _) c.in-Some-strip_sign.ensures le (seq_part grammar 1 (λ p z. refl) le up fx (seq_one grammar 1 (omega (arith, fits, le)) c.in_ok-rest.ensures (seq_part grammar 1 (λ p z. refl) (omega (arith, fits, le)) up fy (seq_one_stop grammar 1 (omega (arith, fits, fits', le)) c.in_err-rest-2.ensures)))) })
+    rw (p.1, p.2) (record {
+      by = by_rule (types.pair_rule _) c.in-Some-strip_symbol.ensures le
+          (seq_part grammar 1 (λ p z. refl) le up fx (seq_one grammar 1 (omega (arith, fits, le)) c.in_ok-rest.ensures
+          (seq_part grammar 1 (λ p z. refl) (omega (arith, fits, le)) up fy
+          (seq_one_stop grammar 1 (omega (arith, fits, fits', le)) c.in_err-rest-2.ensures))));
+    })
 
 pub overflow_add-levels : goal.overflow_add-levels
 overflow_add-levels t c =
@@ -69,8 +94,8 @@ overflow_add-levels t c =
     let e' = ap (λ q. q.1) sy in
     omega (arith, fits, fits', e, e', same, same')
 
-pub returns-in-Some-strip_sign : goal.returns-in-Some-strip_sign
-returns-in-Some-strip_sign t c =
+pub returns-in-Some-strip_symbol : goal.returns-in-Some-strip_symbol
+returns-in-Some-strip_symbol t c =
     let le : 2 ≤ c.args.room = omega arith in
     let up : 1 + (c.args.room - 1) ≡ c.args.room = omega arith in
     let (x, sx, fx) = c.in_ok-first.ensures.by in
@@ -78,19 +103,34 @@ returns-in-Some-strip_sign t c =
     let fits = fx.by.fits in
     let fits' = fy.by.fits in
     let v1 : basic_term c.in_ok-first.first.basic ≡ basic_term c.in_ok-new.field-0.value = ap basic_term (sym c.in_ok-new.ensures.ok) in
-    let v2 : basic_term c.in_ok-second.second.basic ≡ basic_term c.in_ok-new-2.field-0.value = ap basic_term (sym c.in_ok-new-2.ensures.ok) in
-    record { by = (_, types.pair_shown x.0 y.0 sx v1 sy v2 (omega arith), by_rule (types.pair_rule _) c.in-Some-strip_sign.ensures le (seq_part grammar 1 (λ p z. refl) le up fx (seq_one grammar 1 (omega (arith, fits, le)) c.in_ok-rest.ensures (seq_part grammar 1 (λ p z. refl) (omega (arith, fits, le)) up fy (seq_one grammar 1 (omega (arith, fits, fits', le)) c.in_ok-rest-2.ensures (seq_done grammar 1 (omega (arith, fits, fits', le)))))))) }
+    let v2 : basic_term c.in_ok-second.second.basic ≡ basic_term c.in_ok-new-2.field-0.value =
+    ap basic_term (sym c.in_ok-new-2.ensures.ok) in
+    record {
+      by = (
+        _,
+        types.pair_shown x.0 y.0 sx v1 sy v2 (omega arith),
+        by_rule (types.pair_rule _) c.in-Some-strip_symbol.ensures le
+            (seq_part grammar 1 (λ p z. refl) le up fx (seq_one grammar 1 (omega (arith, fits, le)) c.in_ok-rest.ensures
+            (seq_part grammar 1 (λ p z. refl) (omega (arith, fits, le)) up fy
+            (seq_one grammar 1 (omega (arith, fits, fits', le)) c.in_ok-rest-2.ensures
+            (seq_done grammar 1 (omega (arith, fits, fits', le))))))),
+      );
+    }
 
 -- ---- lists
 pub returns-then-room-lt2-2 : goal.returns-then-room-lt2-2
-returns-then-room-lt2-2 t c = rw c.too_nested-then-room-lt2-2.ensures (record { by = counted _ (too_deep (types.list_rule _) c.in-Some-strip_sign-2.ensures (omega arith)) })
+returns-then-room-lt2-2 t c = rw c.too_nested-then-room-lt2-2.ensures
+    (record { by = counted _ (too_deep (types.list_rule _) c.in-Some-strip_symbol-2.ensures (omega arith)) })
 
 pub returns-in_err-item : goal.returns-in_err-item
 returns-in_err-item t c =
     let p = err_from_is_err_and c.from_residual-in_err-item.result c.from_residual-in_err-item.ensures.1 in
     let le : 2 ≤ c.args.room = omega arith in
     let up : 1 + (c.args.room - 1) ≡ c.args.room = omega arith in
-    rw (p.1, p.2) (record { by = by_rule (types.list_rule _) c.in-Some-strip_sign-2.ensures le (seq_part_stop grammar 1 (λ p z. refl) (omega (arith, le)) up c.in_err-item.ensures.by) })
+    rw (p.1, p.2) (record {
+      by = by_rule (types.list_rule _) c.in-Some-strip_symbol-2.ensures le
+          (seq_part_stop grammar 1 (λ p z. refl) (omega (arith, le)) up c.in_err-item.ensures.by);
+    })
 
 pub returns-in_err-rest-3 : goal.returns-in_err-rest-3
 returns-in_err-rest-3 t c =
@@ -99,24 +139,37 @@ returns-in_err-rest-3 t c =
     let up : 1 + (c.args.room - 1) ≡ c.args.room = omega arith in
     let (x, sx, fx) = c.in_ok-item.ensures.by in
     let fits = fx.by.fits in
-    rw (p.1, p.2) (record { by = by_rule (types.list_rule _) c.in-Some-strip_sign-2.ensures le (seq_part grammar 1 (λ p z. refl) (omega (arith, le)) up fx (seq_one_stop grammar 1 (omega (arith, fits, le)) c.in_err-rest-3.ensures)) })
+    rw (p.1, p.2) (record {
+      by = by_rule (types.list_rule _) c.in-Some-strip_symbol-2.ensures le
+          (seq_part grammar 1 (λ p z. refl) (omega (arith, le)) up fx
+          (seq_one_stop grammar 1 (omega (arith, fits, le)) c.in_err-rest-3.ensures));
+    })
 
-pub overflow_add-levels-in-Some-strip_sign-2 : goal.overflow_add-levels-in-Some-strip_sign-2
-overflow_add-levels-in-Some-strip_sign-2 t c =
+pub overflow_add-levels-in-Some-strip_symbol-2 : goal.overflow_add-levels-in-Some-strip_symbol-2
+overflow_add-levels-in-Some-strip_symbol-2 t c =
     let (x, sx, fx) = c.in_ok-item.ensures.by in
     let fits = fx.by.fits in
     let same = fx.by.found.1 in
     let e = ap (λ q. q.1) sx in
     omega (arith, fits, e, same)
 
-pub returns-in-Some-strip_sign-2 : goal.returns-in-Some-strip_sign-2
-returns-in-Some-strip_sign-2 t c =
+pub returns-in-Some-strip_symbol-2 : goal.returns-in-Some-strip_symbol-2
+returns-in-Some-strip_symbol-2 t c =
     let le : 2 ≤ c.args.room = omega arith in
     let up : 1 + (c.args.room - 1) ≡ c.args.room = omega arith in
     let (x, sx, fx) = c.in_ok-item.ensures.by in
     let fits = fx.by.fits in
     let v : basic_term c.in_ok-item.item.basic ≡ basic_term c.in_ok-new-3.field-0.value = ap basic_term (sym c.in_ok-new-3.ensures.ok) in
-    record { by = (_, types.list_shown x.0 sx v (omega arith), by_rule (types.list_rule _) c.in-Some-strip_sign-2.ensures le (seq_part grammar 1 (λ p z. refl) (omega (arith, le)) up fx (seq_one grammar 1 (omega (arith, fits, le)) c.in_ok-rest-3.ensures (seq_done grammar 1 (omega (arith, fits, le)))))) }
+    record {
+      by = (
+        _,
+        types.list_shown x.0 sx v (omega arith),
+        by_rule (types.list_rule _) c.in-Some-strip_symbol-2.ensures le
+            (seq_part grammar 1 (λ p z. refl) (omega (arith, le)) up fx
+            (seq_one grammar 1 (omega (arith, fits, le)) c.in_ok-rest-3.ensures (seq_done grammar 1 (omega (arith, fits, le))))),
+      );
+    }
 
 pub returns : goal.returns
-returns t c = rw c.unexpected.ensures (record { by = counted _ (types.no_type _ c.in_default.ensures c.in_default-strip_sign.ensures c.in_default-strip_sign-2.ensures) })
+returns t c = rw c.unexpected.ensures
+    (record { by = counted _ (types.no_type _ c.in_default.ensures c.in_default-strip_symbol.ensures c.in_default-strip_symbol-2.ensures) })

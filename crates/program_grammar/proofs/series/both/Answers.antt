@@ -1,5 +1,5 @@
 use Rattle.std.proofs.Common.{refl}
-use Rattle.program_grammar.specs.Grammar.{and}
+use Rattle.task_model.specs.Grammar.{and}
 use Rattle.program_grammar.proofs.NoOperators.{no_both}
 use Rattle.program_grammar.proofs.series.both.Goals as goal
 

@@ -1,5 +1,5 @@
 use Rattle.std.proofs.Common.{refl}
-use Rattle.program_grammar.specs.Grammar.{or}
+use Rattle.task_model.specs.Grammar.{or}
 use Rattle.program_grammar.proofs.NoOperators.{no_either}
 use Rattle.program_grammar.proofs.series.either.Goals as goal
 

@@ -1,16 +1,16 @@
 use Rattle.std.proofs.Common.{refl}
-use Rattle.program_grammar.specs.Grammar.{times, quot, rem}
+use Rattle.task_model.specs.Grammar.{times, quot, rem}
 use Rattle.program_grammar.proofs.NoOperators.{no_product}
 use Rattle.program_grammar.proofs.series.product.Goals as goal
 
 pub returns-in-Some : goal.returns-in-Some
 returns-in-Some c = (times, c.in-Some.field-0-0, c.in-Some.ensures, refl)
 
-pub returns-in-Some-strip_word : goal.returns-in-Some-strip_word
-returns-in-Some-strip_word c = (quot, c.in-Some-strip_word.field-0-0, c.in-Some-strip_word.ensures, refl)
+pub returns-in-Some-strip_keyword : goal.returns-in-Some-strip_keyword
+returns-in-Some-strip_keyword c = (quot, c.in-Some-strip_keyword.field-0-0, c.in-Some-strip_keyword.ensures, refl)
 
-pub returns-in-Some-strip_word-2 : goal.returns-in-Some-strip_word-2
-returns-in-Some-strip_word-2 c = (rem, c.in-Some-strip_word-2.field-0-0, c.in-Some-strip_word-2.ensures, refl)
+pub returns-in-Some-strip_keyword-2 : goal.returns-in-Some-strip_keyword-2
+returns-in-Some-strip_keyword-2 c = (rem, c.in-Some-strip_keyword-2.field-0-0, c.in-Some-strip_keyword-2.ensures, refl)
 
 pub returns : goal.returns
-returns c = no_product _ c.in_default.ensures c.in_default-strip_word.ensures c.in_default-strip_word-2.ensures
+returns c = no_product _ c.in_default.ensures c.in_default-strip_keyword.ensures c.in_default-strip_keyword-2.ensures

@@ -2,7 +2,7 @@ use Rattle.std.proofs.Common.{◌≡◌, ◌+◌, ◌*◌, max, map, drop}
 use Rattle.task_model.specs.Host.{host_term, as_exprs}
 use Rattle.task_model.specs.declared.host.Host.{size-Host}
 use Rattle.program_printer.specs.Lines.{with_tokens}
-use Rattle.program_printer.specs.Printed.{listed_tokens}
+use Rattle.task_model.specs.Printed.{listed_tokens}
 use Rattle.program_printer.proofs.ListLemmas.{rest_of}
 use Rattle.program_printer.proofs.expressions.+expression.Given as goal
 
@@ -38,4 +38,5 @@ decreases-write_case l = 4 * max (size-Host l.list.now) (max (size-Host l.empty.
 
 abbrev pub invariant-write_listed-loop-item : goal.invariant-write_listed-loop-item
 invariant-write_listed-loop-item l =
-    with_tokens l.out (rest_of l.first (as_exprs (map host_term (drop l.item-index l.items)))) ≡ with_tokens l.fn.out (listed_tokens (as_exprs (map host_term l.items)))
+    with_tokens l.out (rest_of l.first (as_exprs (map host_term (drop l.item-index l.items)))) ≡ with_tokens l.fn.out
+    (listed_tokens (as_exprs (map host_term l.items)))

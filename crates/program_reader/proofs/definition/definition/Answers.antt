@@ -1,15 +1,19 @@
 use Rattle.std.proofs.Common.{◌∷◌, sym, subst}
 use Rattle.exact_reading.specs.Reading.{seen}
-use Rattle.program_grammar.specs.Lexemes.{word}
-use Rattle.program_grammar.specs.Grammar as grammar
+use Rattle.task_model.specs.Lexemes.{keyword}
+use Rattle.task_model.specs.Grammar as grammar
 use Rattle.program_grammar.specs.Languages.{Reads}
 use Rattle.program_grammar.specs.Parts.{lexemes}
 use Rattle.program_reader.specs.Definitions.{shown_meaning, shown_definition}
-use Rattle.program_reader.specs.Signs.{word_of}
+use Rattle.program_reader.specs.DefinitionKeywords.{word_of}
 use Rattle.program_reader.proofs.definition.definition.Goals as goal
 
 pub returns-in-Function : goal.returns-in-Function
-returns-in-Function c = subst (λ k. Reads grammar.definition (shown_meaning c.args.next) c.args.room (word (word_of k) c.args.place ∷ lexemes c.args.tokens.now) (seen (λ r. (shown_definition r.0, lexemes r.1.now)) c.function.result)) (sym c.in-Function.is) (c.function.ensures c.args.next)
+returns-in-Function c = subst
+    (λ k. Reads grammar.definition (shown_meaning c.args.next) c.args.room (keyword (word_of k) c.args.place ∷ lexemes c.args.tokens.now)
+    (seen (λ r. (shown_definition r.0, lexemes r.1.now)) c.function.result)) (sym c.in-Function.is) (c.function.ensures c.args.next)
 
 pub returns-in-Task : goal.returns-in-Task
-returns-in-Task c = subst (λ k. Reads grammar.definition (shown_meaning c.args.next) c.args.room (word (word_of k) c.args.place ∷ lexemes c.args.tokens.now) (seen (λ r. (shown_definition r.0, lexemes r.1.now)) c.task_definition.result)) (sym c.in-Task.is) c.task_definition.ensures
+returns-in-Task c = subst
+    (λ k. Reads grammar.definition (shown_meaning c.args.next) c.args.room (keyword (word_of k) c.args.place ∷ lexemes c.args.tokens.now)
+    (seen (λ r. (shown_definition r.0, lexemes r.1.now)) c.task_definition.result)) (sym c.in-Task.is) c.task_definition.ensures

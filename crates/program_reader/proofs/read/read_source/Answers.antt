@@ -10,4 +10,5 @@ lexemes_of-requires-clause-are c =
 pub read_tokens-requires-clause-has : goal.read_tokens-requires-clause-has
 read_tokens-requires-clause-has c =
     let terms = rw c.as_slice.ensures at c.in-Ok.ensures.terms in
-    rw c.as_slice-in-Ok.ensures.value (has_lexemes c.args.source.now c.in_ok-tokens.tokens.list.list c.in-Ok.lexemes.items c.in_ok-tokens.ensures.tokens terms)
+    rw c.as_slice-in-Ok.ensures.value
+    (has_lexemes c.args.source.now c.in_ok-tokens.tokens.list.list c.in-Ok.lexemes.items c.in_ok-tokens.ensures.tokens terms)

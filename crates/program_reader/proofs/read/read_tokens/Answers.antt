@@ -6,16 +6,21 @@ use Rattle.program_reader.proofs.read.read_tokens.Goals as goal
 
 pub returns-then-is_empty-clause-found : goal.returns-then-is_empty-clause-found
 returns-then-is_empty-clause-found c =
-    texts c.args.source.now c.args.tokens.now c.requires.has (none_left c.in-Ok.rest.now (sym c.is_empty.ensures ∙ c.if-is_empty.true)) c.in-Ok.ensures {R = Read} (λ r. program_term r.program) (λ r. r.places.list) c.requires.short c.built.result c.built.ensures.program
-    c.built.ensures.places
+    texts c.args.source.now c.args.tokens.now c.requires.has (none_left c.in-Ok.rest.now (sym c.is_empty.ensures ∙ c.if-is_empty.true))
+    c.in-Ok.ensures {R = Read} (λ r. program_term r.program) (λ r. r.places.list) c.requires.short c.read_of.result
+    c.read_of.ensures.program
+    c.read_of.ensures.places
 
 pub returns-then-is_empty-clause-only : goal.returns-then-is_empty-clause-only
 returns-then-is_empty-clause-only c =
-    only_texts c.args.source.now c.args.tokens.now c.requires.has (none_left c.in-Ok.rest.now (sym c.is_empty.ensures ∙ c.if-is_empty.true)) c.in-Ok.ensures {R = Read} (λ r. program_term r.program) (λ r. r.places.list) c.built.result c.built.ensures.program
-    c.built.ensures.places
+    only_texts c.args.source.now c.args.tokens.now c.requires.has (none_left c.in-Ok.rest.now (sym c.is_empty.ensures ∙ c.if-is_empty.true))
+    c.in-Ok.ensures {R = Read} (λ r. program_term r.program) (λ r. r.places.list) c.read_of.result c.read_of.ensures.program
+    c.read_of.ensures.places
 
 pub fault_of-requires-clause-first : goal.fault_of-requires-clause-first
-fault_of-requires-clause-first c = left_over c.args.source.now c.args.tokens.now c.requires.has (some_left c.in-Ok.rest.now (sym c.is_empty.ensures ∙ c.if-is_empty.false)) c.in-Ok.ensures
+fault_of-requires-clause-first c = left_over c.args.source.now c.args.tokens.now c.requires.has
+    (some_left c.in-Ok.rest.now (sym c.is_empty.ensures ∙ c.if-is_empty.false)) c.in-Ok.ensures
 
 pub fault_of-requires-in-Err-Fault-clause-first : goal.fault_of-requires-in-Err-Fault-clause-first
-fault_of-requires-in-Err-Fault-clause-first c = rw c.in-Err-Fault.field-0-is (stopped c.args.source.now c.args.tokens.now c.requires.has (rw c.in-Err-Fault.field-0-is at c.in-Err-Fault.ensures))
+fault_of-requires-in-Err-Fault-clause-first c =
+    stopped c.args.source.now c.args.tokens.now c.requires.has (rw c.in-Err-Fault.field-0-is at c.in-Err-Fault.ensures)

@@ -5,5 +5,9 @@ use Rattle.program_reader.proofs.read.source_of.Goals as goal
 
 pub returns-in-Err-clause-fault : goal.returns-in-Err-clause-fault
 returns-in-Err-clause-fault c =
-    let (not, valid) = c.in-Err.ensures.cases in
-    (c.if-bytes-gt-MOST_BYTES.false, not, longest_valid c.args.bytes.now c.valid_up_to.result (subst (IsValidUpTo c.args.bytes.now) (sym c.valid_up_to.ensures) valid))
+    let (not, valid) = c.in-Err.ensures.cases in (
+      c.if-bytes-gt-PROGRAM_BYTE_LIMIT.false,
+      not,
+      longest_valid c.args.bytes.now c.valid_up_to.result
+          (subst (IsValidUpTo c.args.bytes.now) (sym c.valid_up_to.ensures) valid),
+    )

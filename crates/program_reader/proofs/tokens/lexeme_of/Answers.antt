@@ -16,7 +16,8 @@ pub returns-in-Keyword : goal.returns-in-Keyword
 returns-in-Keyword c = keyword_is c.args.source.now c.args.token.now c.in-Keyword.keyword c.in-Keyword.is
 
 pub returns-in-Number : goal.returns-in-Number
-returns-in-Number c = λ term is h. (number_is c.args.source.now c.args.token.now c.in-Number.value _ c.in-Number.is (rw c.as_bytes.ensures.value refl) term is h).1
+returns-in-Number c = λ term is h.
+    (number_is c.args.source.now c.args.token.now c.in-Number.value _ c.in-Number.is (rw c.as_bytes.ensures.value refl) term is h).1
 
 pub returns-in-Symbol : goal.returns-in-Symbol
 returns-in-Symbol c = symbol_is c.args.source.now c.args.token.now c.in-Symbol.symbol c.in-Symbol.is

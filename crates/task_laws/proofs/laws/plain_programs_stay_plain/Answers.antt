@@ -21,4 +21,5 @@ pub returns-clause-taken : goal.returns-clause-taken
 returns-clause-taken k = λ c budget s a i t d. (taken_plain c budget s i a.plain.result (state_plain c budget s a).0 t d).2
 
 pub returns-clause-over_budget : goal.returns-clause-over_budget
-returns-clause-over_budget k = λ c budget s a i d. never_over c budget s i a.plain.result (state_plain c budget s a).0 a.plain.small (state_units c budget s a) d
+returns-clause-over_budget k = λ c budget s a i d. never_over c budget s i a.plain.result (state_plain c budget s a).0 a.plain.small
+    (state_units c budget s a) d

@@ -2,6 +2,8 @@ use Rattle.std.proofs.Common.{◌≡◌, ◌∙◌, ◌<◌, ◌≤◌, ℕ, tru
 use Rattle.std.specs.Prelude.{nat_le}
 use Rattle.std.proofs.lemmas.Bool.Decides.{nat_tests}
 use Rattle.std.proofs.lemmas.List.{length-map}
+use Rattle.std.specs.declared.alloc.Global.{Global}
+use Rattle.std.specs.declared.sync.Arc.{Arc}
 use Rattle.task_model.specs.Rowed.{Rowed}
 use Rattle.task_model.specs.Basic.{BasicTerm, list_type}
 use Rattle.task_model.specs.Value.{value_term, as_values, value_has, values_have}
@@ -10,10 +12,13 @@ use Rattle.task_model.proofs.RowLemmas.{value_term-List, count_of-as_values}
 use Rattle.task_model.proofs.has.+has.Goals as goal
 
 -- whether a list value has a list type, by its row
-list_has : (r : Rowed value.Value) (b : BasicTerm) → value_has (value_term (value.List r)) (list_type b) ≡ cond (nat_le (length r.list) 1024) (values_have (as_values (map value_term r.list)) b) false
+list_has : (r : Arc (Rowed value.Value) Global) (b : BasicTerm)
+    → value_has (value_term (value.List r)) (list_type b)
+    ≡ cond (nat_le (length r.value.list) 1024) (values_have (as_values (map value_term r.value.list)) b) false
 list_has r b =
     ap (λ v. value_has v (list_type b)) (value_term-List r)
-    ∙ ap (λ n. cond (nat_le n 1024) (values_have (as_values (map value_term r.list)) b) false) (count_of-as_values (map value_term r.list) ∙ length-map r.list value_term)
+    ∙ ap (λ n. cond (nat_le n 1024) (values_have (as_values (map value_term r.value.list)) b) false)
+    (count_of-as_values (map value_term r.value.list) ∙ length-map r.value.list value_term)
 
 within : (n : ℕ) → n ≤ 1024 → nat_le n 1024 ≡ true
 within n le = grind (arith, nat_tests)
@@ -21,12 +26,16 @@ within n le = grind (arith, nat_tests)
 over : (n : ℕ) → 1024 < n → nat_le n 1024 ≡ false
 over n lt = grind (arith, nat_tests)
 
-pub value_has-returns-then-items-le-LIST_LIMIT : goal.value_has-returns-then-items-le-LIST_LIMIT
-value_has-returns-then-items-le-LIST_LIMIT t c =
-    let fits = within (length c.as_slice-items.result.now) c.if-items-le-LIST_LIMIT.true in
-    rw (c.in-List-List.is-0, c.in-List-List.is-1) (sym (list_has _ _ ∙ rw (← c.as_slice-items.ensures, fits, ← c.deref-then-items-le-LIST_LIMIT.ensures) (sym c.values_have.ensures)))
+pub value_has-returns-then-items-le-LIST_ELEMENT_LIMIT : goal.value_has-returns-then-items-le-LIST_ELEMENT_LIMIT
+value_has-returns-then-items-le-LIST_ELEMENT_LIMIT t c =
+    let items = c.as_slice-items.ensures ∙ ap (λ (r : Rowed value.Value). r.list) c.deref-in-List-List.ensures in
+    let fits = within (length c.as_slice-items.result.now) c.if-items-le-LIST_ELEMENT_LIMIT.true in
+    let item = c.deref-then-items-le-LIST_ELEMENT_LIMIT.ensures in
+    rw (c.in-List-List.is-0, c.in-List-List.is-1)
+    (sym (list_has c.in-List-List.items _ ∙ rw (← items, fits, ← item) (sym c.values_have.ensures)))
 
-pub value_has-returns-else-items-le-LIST_LIMIT : goal.value_has-returns-else-items-le-LIST_LIMIT
-value_has-returns-else-items-le-LIST_LIMIT t c =
-    let many = over (length c.as_slice-items.result.now) c.if-items-le-LIST_LIMIT.false in
-    rw (c.in-List-List.is-0, c.in-List-List.is-1) (sym (list_has _ _ ∙ rw (← c.as_slice-items.ensures, many) refl))
+pub value_has-returns-else-items-le-LIST_ELEMENT_LIMIT : goal.value_has-returns-else-items-le-LIST_ELEMENT_LIMIT
+value_has-returns-else-items-le-LIST_ELEMENT_LIMIT t c =
+    let items = c.as_slice-items.ensures ∙ ap (λ (r : Rowed value.Value). r.list) c.deref-in-List-List.ensures in
+    let many = over (length c.as_slice-items.result.now) c.if-items-le-LIST_ELEMENT_LIMIT.false in
+    rw (c.in-List-List.is-0, c.in-List-List.is-1) (sym (list_has c.in-List-List.items _ ∙ rw (← items, many) refl))

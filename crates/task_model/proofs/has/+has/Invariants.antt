@@ -5,4 +5,5 @@ use Rattle.task_model.proofs.has.+has.Given as goal
 
 abbrev pub invariant-values_have-loop-item : goal.invariant-values_have-loop-item
 invariant-values_have-loop-item l =
-    values_have (as_values (map value_term l.items)) (basic_term l.b) ≡ values_have (as_values (map value_term (drop l.item-index l.items))) (basic_term l.b)
+    values_have (as_values (map value_term l.items)) (basic_term l.b) ≡ values_have (as_values (map value_term (drop l.item-index l.items)))
+    (basic_term l.b)

@@ -13,4 +13,5 @@ copy_host-returns-in_ok-args-in-Call t c =
 pub copy_host-returns-in_ok-items-in-List : goal.copy_host-returns-in_ok-items-in-List
 copy_host-returns-in_ok-items-in-List t c =
     host_term-List _ ∙ ap (λ l. list_expr (as_exprs l)) c.in_ok-items-in-List.ensures
-    ∙ ap (λ l. list_expr (as_exprs (map host_term l))) c.as_slice-in-List.ensures ∙ sym (host_term-List c.in-List.items) ∙ ap host_term (sym c.in-List.is)
+    ∙ ap (λ l. list_expr (as_exprs (map host_term l))) c.as_slice-in-List.ensures ∙ sym (host_term-List c.in-List.items)
+    ∙ ap host_term (sym c.in-List.is)

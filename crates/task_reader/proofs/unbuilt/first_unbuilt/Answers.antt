@@ -11,12 +11,17 @@ returns-in-Err c =
     let places = c.args.places.now in
     let this = definition_forms (def_term c.in-Some.def.now) in
     let more = forms (map def_term c.in-Some.more.now) in
-    stop_is (done ++ (this ++ more)) places (stops_on done (this ++ more) places passed (stops_here this more c.loop-def.rest.now c.in-Err.ensures))
+    stop_is (done ++ (this ++ more)) places
+    (stops_on done (this ++ more) places passed (stops_here this more c.loop-def.rest.now c.in-Err.ensures))
     ∙ ap (λ bs. other_place (first_other bs) places) (sym (are ∙ ap (λ ds. done ++ forms (map def_term ds)) split))
 
 pub loop-def-preserved : goal.loop-def-preserved
 loop-def-preserved c =
     let (done, are, passed) = c.loop-def.invariant in
     let (split, _) = c.in-Some.ensures.cases in
-    let this = definition_forms (def_term c.in-Some.def.now) in
-    (done ++ this, are ∙ ap (λ ds. done ++ forms (map def_term ds)) split ∙ sym (append_assoc done this (forms (map def_term c.in-Some.more.now))), passes_on done this c.args.places.now passed c.in-Ok.ensures)
+    let this = definition_forms (def_term c.in-Some.def.now) in (
+      done ++ this,
+      are ∙ ap (λ ds. done ++ forms (map def_term ds)) split
+          ∙ sym (append_assoc done this (forms (map def_term c.in-Some.more.now))),
+      passes_on done this c.args.places.now passed c.in-Ok.ensures,
+    )

@@ -13,7 +13,8 @@ returns-in-None c = (
   0,
   inl (
     bad_char c.args.text.now c.args.more.now c.args.first c.requires.begins c.requires.no_blank c.requires.no_comment
-        (sym c.is_xid_start.ensures.value ∙ c.if-is_xid_start.false) (sym c.is_ascii_digit.ensures.value ∙ c.if-is_ascii_digit.false) c.if-first-eq34.false c.in-None.ensures,
+        (sym c.is_xid_start.ensures.value ∙ c.if-is_xid_start.false) (sym c.is_ascii_digit.ensures.value ∙ c.if-is_ascii_digit.false)
+        c.if-first-eq34.false c.in-None.ensures,
     refl,
   ),
   omega arith,

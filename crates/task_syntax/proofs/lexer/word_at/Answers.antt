@@ -15,4 +15,5 @@ returns-in-None c =
     let (first, begins, one, starts) = c.requires in
     let (front, run) = c.strip-rest.ensures in
     name_leads c.args.text.now c.args.more.now c.strip-rest.result.now first front begins one starts run
-    (subst (λ t. is_keyword (take (length c.args.text.now - length c.strip-rest.result.now) t) ≡ false) c.as_bytes.ensures.value c.in-None.ensures)
+    (subst (λ t. is_keyword (take (length c.args.text.now - length c.strip-rest.result.now) t) ≡ false) c.as_bytes.ensures.value
+    c.in-None.ensures)

@@ -1,5 +1,5 @@
 use Rattle.std.proofs.Common.{map, take, drop, suc}
-use Rattle.task_syntax.specs.Spelling.{symbol_spelling}
+use Rattle.task_model.specs.Spelling.{symbol_spelling}
 use Rattle.task_syntax.proofs.TableLemmas.{split_here, none_more}
 use Rattle.task_syntax.proofs.symbol.first_of.Goals as goal
 
@@ -14,4 +14,5 @@ returns-in-Some c = record {
 
 pub loop-symbol-preserved : goal.loop-symbol-preserved
 loop-symbol-preserved c =
-    none_more symbol_spelling c.args.symbols.now c.loop-symbol.symbol-index _ c.args.text.now c.loop-symbol-test.true c.loop-symbol.invariant c.in_default.ensures
+    none_more symbol_spelling c.args.symbols.now c.loop-symbol.symbol-index _ c.args.text.now c.loop-symbol-test.true
+    c.loop-symbol.invariant c.in_default.ensures

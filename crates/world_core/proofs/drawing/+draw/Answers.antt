@@ -14,5 +14,6 @@ draw_tree-returns-in_ok-draw_part-in-And-clause-text t c =
     let second = rw c.in_ok-draw_part-in-And.ensures.path at (h k budget σ w.1 w.3) in
     let own = c.in_ok-push_path.ensures ∙ ap (λ p. string_bytes c.args.text.now ++ path_text p) c.as_slice.ensures in
     drawn_pair _ _ _ _ _ _ _ _ _ own c.in_ok-push-in-And.ensures first second
-    ∙ ap (λ z. string_bytes c.args.text.now ++ z) (sym (pair_lines c.args.path.now.list w.0 w.1) ∙ ap (λ z. widget_lines (all_below c.args.path.now.list z)) (sym w.4)))
+    ∙ ap (λ z. string_bytes c.args.text.now ++ z)
+    (sym (pair_lines c.args.path.now.list w.0 w.1) ∙ ap (λ z. widget_lines (all_below c.args.path.now.list z)) (sym w.4)))
     c.draw_part-in-And.ensures.text

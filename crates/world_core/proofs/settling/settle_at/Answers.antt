@@ -16,10 +16,13 @@ pub returns-in_err-stride_at : goal.returns-in_err-stride_at
 returns-in_err-stride_at c = λ k σ.
     rw (stopped _ c.in_err-stride_at.field-0.0 c.from_residual-in_err-stride_at.ensures.1)
     (asked_rule_stops c.in_ok-enter.ensures.ok
-    (ran_stride_stops k give (λ _. at (tree_term c.args.t.now) σ) (at (tree_term c.args.t.now) σ) _ c.spend.new.self c.spend.new.self _ c.in_ok-spend.ensures.ok (λ _. at (tree_term c.args.t.now) σ) _ (c.in_err-stride_at.ensures.asked k σ)))
+    (ran_stride_stops k give (λ _. at (tree_term c.args.t.now) σ) (at (tree_term c.args.t.now) σ) _ c.spend.new.self c.spend.new.self _
+    c.in_ok-spend.ensures.ok (λ _. at (tree_term c.args.t.now) σ) _ (c.in_err-stride_at.ensures.asked k σ)))
 
 pub returns : goal.returns
 returns c = λ k σ.
-    asked_rule {end = c.stride_at.new.purse} c.in_ok-enter.ensures.ok (c.leave.ensures ∙ ap (λ h. record c.stride_at.new.purse { height = h }) c.height_left-height.ensures)
-    (ran_last_stride k give (λ _. at (tree_term c.args.t.now) σ) (at (tree_term c.args.t.now) σ) _ c.spend.new.self c.stride_at.new.purse c.stride_at.new.purse c.in_ok-spend.ensures.ok
+    asked_rule {end = c.stride_at.new.purse} c.in_ok-enter.ensures.ok
+    (c.leave.ensures ∙ ap (λ h. record c.stride_at.new.purse { height = h }) c.height_left-height.ensures)
+    (ran_last_stride k give (λ _. at (tree_term c.args.t.now) σ) (at (tree_term c.args.t.now) σ) _ c.spend.new.self c.stride_at.new.purse
+    c.stride_at.new.purse c.in_ok-spend.ensures.ok
     (λ _. at (tree_term c.args.t.now) σ) tt (Ok tt) (c.in_ok-stride_at.ensures.asked k σ) refl (ran_give refl))

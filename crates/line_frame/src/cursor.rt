@@ -1,0 +1,59 @@
+ghost use Rattle.std.specs.Prelude.{◌≡◌, ◌+◌, ◌-◌, ◌<◌, ◌≤◌, ◌^◌, ◌++◌, [], length, take, MatchOption, OnOk};
+
+use crate::Finish;
+use std::alloc::Global;
+use task_model::{OutOfMemory, Row};
+
+/// What is kept of the next line, how many bytes of the script have come, and the number of that line.
+#[derive(Drop)]
+pub(crate) struct Cursor {
+    pub(crate) kept: Row<u8>,
+    pub(crate) count: u64,
+    pub(crate) number: u64,
+    ghost numbered: { number ≤ count + 1 },
+}
+
+impl Cursor {
+    ghost use Rattle.line_frame.specs.TakesRun.{TakesRun, LeavesRun};
+
+    /// Before the first byte of a script.
+    pub(crate) fn new(alloc: Global) -> Cursor
+        ensures kept { result.kept.list ≡ [] }
+        ensures count { result.count ≡ 0 }
+        ensures number { result.number ≡ 1 }
+    {
+        Cursor {
+            kept: Row::new(alloc),
+            count: 0,
+            number: 1,
+        }
+    }
+
+    /// Takes the next bytes of a line, none of which is its LF. None: go on.
+    pub(crate) fn take_run(&mut self, longest: usize, limit: u64, run: &[u8]) -> Option<Finish>
+        requires { limit < 2 ^ 63 }
+        ensures { MatchOption result (TakesRun longest limit self.old self.new run.now) (LeavesRun limit self.old run.now) }
+    {
+        let length = run.len() as u64;
+        if length > limit.saturating_sub(self.count) {
+            return Some(Finish::InputTooLong);
+        }
+        self.count += length;
+        match keep(&mut self.kept, longest, run) {
+            Ok(()) => None,
+            Err(_) => Some(Finish::Memory),
+        }
+    }
+}
+
+// Keeps the next bytes of a line, up to one more than the longest line has.
+fn keep(kept: &mut Row<u8>, longest: usize, run: &[u8]) -> Result<(), OutOfMemory>
+    ensures { OnOk result (kept.new.list ≡ kept.old.list ++ take (longest + 1 - length kept.old.list) run.now) }
+{
+    let length = kept.as_slice().len();
+    if length > longest {
+        return Ok(());
+    }
+    let count = (longest - length).saturating_add(1).min(run.len());
+    kept.extend(&run[..count])
+}

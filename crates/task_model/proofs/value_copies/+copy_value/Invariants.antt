@@ -1,6 +1,0 @@
-use Rattle.std.proofs.Common.{◌≡◌, map, take}
-use Rattle.task_model.specs.Value.{value_term}
-use Rattle.task_model.proofs.value_copies.+copy_value.Given as goal
-
-abbrev pub invariant-copy_values-loop-v : goal.invariant-copy_values-loop-v
-invariant-copy_values-loop-v l = map value_term l.copies.list ≡ map value_term (take l.v-index l.values)

@@ -1,0 +1,8 @@
+use Rattle.tophat.proofs.ReportLemmas.{report_exists, report_once}
+use Rattle.tophat.proofs.laws.one_report.Goals as goal
+
+pub returns-clause-some : goal.returns-clause-some
+returns-clause-some k = λ l command file verdict script. report_exists l command file verdict script
+
+pub returns-clause-one : goal.returns-clause-one
+returns-clause-one k = λ l command file verdict script one other d e. report_once l command file verdict script one other d e

@@ -1,0 +1,20 @@
+use Rattle.std.proofs.Common.{subst}
+use Rattle.line_frame.specs.Drove.{Drove}
+use Rattle.line_frame.specs.declared.finish.Finish.{Finish}
+use Rattle.world_core.specs.World.{SeenWorld, world_term}
+use Rattle.tophat.specs.Session.{Tells}
+use Rattle.tophat.specs.Top.{limits}
+use Rattle.tophat.proofs.OpeningLemmas.{readable_err}
+use Rattle.tophat.proofs.work.run_bytes.Goals as goal
+
+pub returns-in-Ok-clause-ran : goal.returns-in-Ok-clause-ran
+returns-in-Ok-clause-ran g c = (
+  c.in-Ok.world,
+  c.in-Ok.ensures.opened,
+  subst (λ w. Drove (Tells limits.line (world_term w) 1) limits.script (g.I.Source.left c.args.input.now)
+      (g.I.Source.left c.drive.new.input) (g.O.Sink.taken c.args.out.now) (g.O.Sink.taken c.drive.new.out) c.drive.result)
+      c.new-runner.ensures c.drive.ensures.drove,
+)
+
+pub returns-in-Err-clause-verdict_is : goal.returns-in-Err-clause-verdict_is
+returns-in-Err-clause-verdict_is g c = readable_err SeenWorld Finish c.args.bytes.now c.in-Err.why c.in-Err.ensures.verdict_is

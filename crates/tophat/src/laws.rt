@@ -1,0 +1,13 @@
+ghost use Rattle.std.specs.Prelude.{◌≡◌, Option};
+ghost use Rattle.task_model.specs.Text.{Text};
+ghost use Rattle.tophat.specs.Command.{CommandTerm};
+ghost use Rattle.tophat.specs.Verdict.{Verdict};
+ghost use Rattle.tophat.specs.Top.{Limits, Report, Reports};
+
+/// A command has exactly one report on a file, a verdict of it and a script.
+pub fn one_report()
+    ensures some { (l : Limits) (command : Option CommandTerm) (file : Option Text) (verdict : Verdict) (script : Text) →
+        (report : Report) × Reports l command file verdict script report }
+    ensures one { (l : Limits) (command : Option CommandTerm) (file : Option Text) (verdict : Verdict) (script : Text) (one other : Report) →
+        Reports l command file verdict script one → Reports l command file verdict script other → one ≡ other }
+{}
