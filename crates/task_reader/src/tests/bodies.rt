@@ -23,12 +23,13 @@ fn program(alloc: Global, task: Task, bodies: Row<Body>) -> Result<Program, OutO
 fn bodies(alloc: Global, choices: &[Option<(u32, u32)>]) -> Result<Row<Body>, OutOfMemory> {
     let mut bodies = Row::new(alloc);
     for choice in choices {
+        let scope = Scope::empty(alloc)?;
         let task = match *choice {
             Some((left, right)) => Task::Xor { left, right },
             None => Task::Fail(Basic::Unit),
         };
         bodies.push(Body {
-            scope: Scope::empty(alloc)?,
+            scope,
             binder: None,
             task,
         })?;
