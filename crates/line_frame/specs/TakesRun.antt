@@ -1,18 +1,9 @@
 -- What bytes of a line, none of them its LF, do to what is kept of a script.
-use Rattle.std.specs.Prelude.{ℕ, ◌≡◌, ◌+◌, ◌-◌, ◌<◌, ◌≤◌, List, ◌++◌, length, take, ⊤}
-use Rattle.line_frame.specs.declared.finish.Finish.{Finish}
-use Rattle.line_frame.specs.declared.finish.Finish.TheVariants.{InputTooLong, Memory}
+use Rattle.std.specs.Prelude.{ℕ, ◌≡◌, ◌+◌, ◌-◌, List, ◌++◌, length, take}
 use Rattle.line_frame.specs.declared.cursor.Cursor.{Cursor}
 
 -- They were counted, and kept up to one byte more than the longest line has.
-pub record TakesRun (longest limit : ℕ) (from to : Cursor) (run : List ℕ) : Type 0 where
+pub record TakesRun (longest : ℕ) (from to : Cursor) (run : List ℕ) : Type 0 where
   pub counted : to.count ≡ from.count + length run
-  pub within : from.count ≤ limit → to.count ≤ limit
   pub numbered : to.number ≡ from.number
   pub kept : to.kept.list ≡ from.kept.list ++ take (longest + 1 - length from.kept.list) run
-
--- They weren't taken: one of them is beyond the limit, or memory ran out.
-abbrev pub LeavesRun : ℕ → Cursor → List ℕ → Finish → Type 0
-LeavesRun limit from run InputTooLong = limit < from.count + length run
-LeavesRun limit from run Memory = ⊤
-LeavesRun limit from run _ = ⊥

@@ -14,7 +14,7 @@ pub(crate) struct Cursor {
 }
 
 impl Cursor {
-    ghost use Rattle.line_frame.specs.TakesRun.{TakesRun, LeavesRun};
+    ghost use Rattle.line_frame.specs.TakesRun.{TakesRun};
 
     /// Before the first byte of a script.
     pub(crate) fn new(alloc: Global) -> Cursor
@@ -30,17 +30,15 @@ impl Cursor {
     }
 
     /// Takes the next bytes of a line, none of which is its LF. None: go on.
-    pub(crate) fn take_run(&mut self, longest: usize, limit: u64, run: &[u8]) -> Option<Finish>
-        requires { limit < 2 ^ 63 }
-        ensures { MatchOption result (TakesRun longest limit self.old self.new run.now) (LeavesRun limit self.old run.now) }
+    pub(crate) fn take_run(&mut self, longest: usize, run: &[u8]) -> Option<Finish>
+        requires { self.old.count + length run.now < 2 ^ 63 }
+        ensures { MatchOption result (TakesRun longest self.old self.new run.now) (λ finish. finish ≡ Finish.Memory) }
     {
-        let length = run.len() as u64;
-        if length > limit.saturating_sub(self.count) {
-            return Some(Finish::InputTooLong);
-        }
-        self.count += length;
         match keep(&mut self.kept, longest, run) {
-            Ok(()) => None,
+            Ok(()) => {
+                self.count += run.len() as u64;
+                None
+            }
             Err(_) => Some(Finish::Memory),
         }
     }

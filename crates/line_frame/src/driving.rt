@@ -1,5 +1,6 @@
 ghost use Rattle.std.specs.Prelude.{◌≡◌, ◌<◌, ◌≤◌, ◌^◌};
 ghost use Rattle.outer_io.specs.Causes.{Rose};
+ghost use Rattle.line_frame.specs.RunFaults.{read_faults_after_run, write_faults_after_run};
 ghost use Rattle.line_frame.specs.Drove.{Drove};
 
 use crate::cursor::Cursor;
@@ -30,6 +31,8 @@ pub fn drive<M: Machine, I: Source, O: Sink>(
     ensures read_failed { result ≡ Finish.ReadFault → Rose (I.faults input.old) (I.faults input.new) }
     ensures write_count { O.faults out.old ≤ O.faults out.new }
     ensures write_failed { result ≡ Finish.WriteFault → Rose (O.faults out.old) (O.faults out.new) }
+    ensures read_exact { I.faults input.new ≡ read_faults_after_run (I.faults input.old) result }
+    ensures write_exact { O.faults out.new ≡ write_faults_after_run (O.faults out.old) result }
 {
     let mut room = [0u8; PIECE];
     let mut cursor = Cursor::new(alloc);

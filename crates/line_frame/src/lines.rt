@@ -1,7 +1,9 @@
 ghost use Rattle.std.specs.Prelude.{◌≡◌, ◌+◌, ◌<◌, ◌≤◌, ◌^◌, ℕ, List, Option, [], ◌∷◌, ◌++◌, length, IfNone, IfOk, MatchOption, MatchResult, None, Some, Err, OnOk, slice_index, take};
 ghost use Rattle.outer_io.specs.Causes.{Rose};
 ghost use Rattle.line_frame.specs.Told.{Told, Comes};
-ghost use Rattle.line_frame.specs.Stands.{Goes, RunsLine, EndsAt, EndsScript, IsLine};
+ghost use Rattle.line_frame.specs.RunFaults.{write_faults_after_run};
+ghost use Rattle.line_frame.specs.RanOut.{IsLine};
+ghost use Rattle.line_frame.specs.Stands.{Goes, RunsLine, EndsAt, EndsScript};
 ghost use Rattle.line_frame.specs.declared.finish.Finish.{Finish};
 
 use crate::cursor::Cursor;
@@ -24,6 +26,7 @@ pub(crate) fn take_piece<M: Machine, O: Sink>(
     ensures counted { IfNone result ((cursor.new.count ≡ cursor.old.count + length piece.now) × (cursor.old.count ≤ limit → cursor.new.count ≤ limit)) }
     ensures count { O.faults out.old ≤ O.faults out.new }
     ensures failed { result ≡ Some Finish.WriteFault → Rose (O.faults out.old) (O.faults out.new) }
+    ensures exact { MatchOption result (O.faults out.new ≡ O.faults out.old) (λ finish. O.faults out.new ≡ write_faults_after_run (O.faults out.old) finish) }
 {
     let mut at = 0;
     while at < piece.len() {
@@ -45,6 +48,7 @@ pub(crate) fn end_script<M: Machine, O: Sink>(
     ensures ends { EndsScript M.tells machine.old (O.taken out.old) (O.taken out.new) M.LONGEST cursor.now result }
     ensures count { O.faults out.old ≤ O.faults out.new }
     ensures failed { result ≡ Finish.WriteFault → Rose (O.faults out.old) (O.faults out.new) }
+    ensures exact { O.faults out.new ≡ write_faults_after_run (O.faults out.old) result }
 {
     let line = cursor.kept.as_slice();
     if line.is_empty() {
@@ -76,15 +80,20 @@ fn take_line<M: Machine, O: Sink>(
     ensures within { OnOk result (cursor.old.count ≤ limit → cursor.new.count ≤ limit) }
     ensures count { O.faults out.old ≤ O.faults out.new }
     ensures failed { result ≡ Err Finish.WriteFault → Rose (O.faults out.old) (O.faults out.new) }
+    ensures exact { MatchResult result (λ _. O.faults out.new ≡ O.faults out.old) (λ finish. O.faults out.new ≡ write_faults_after_run (O.faults out.old) finish) }
 {
     let run = run_length(bytes);
-    if let Some(finish) = cursor.take_run(M::LONGEST, limit, &bytes[..run]) {
+    let taken = bytes.len().min(run + 1);
+    if taken as u64 > limit.saturating_sub(cursor.count) {
+        return Err(Finish::InputTooLong);
+    }
+    if let Some(finish) = cursor.take_run(M::LONGEST, &bytes[..run]) {
         return Err(finish);
     }
     if run == bytes.len() {
         return Ok(run);
     }
-    match take_lf(alloc, machine, out, cursor, limit) {
+    match take_lf(alloc, machine, out, cursor) {
         Some(finish) => Err(finish),
         None => Ok(run + 1),
     }
@@ -102,23 +111,22 @@ fn run_length(bytes: &[u8]) -> usize
     }
 }
 
-// Takes the LF that ends a line: the line is run, and its answer written.
+// Takes the LF that ends a line: the line is run, and its answer written. What stands behind it changes no end.
 fn take_lf<M: Machine, O: Sink>(
     alloc: Global,
     machine: &mut M,
     out: &mut O,
     cursor: &mut Cursor,
-    limit: u64,
 ) -> Option<Finish>
-    requires { limit < 2 ^ 63 }
-    ensures goes { Goes M.tells machine.old machine.new (O.taken out.old) (O.taken out.new) M.LONGEST limit cursor.old cursor.new (10 ∷ []) result }
-    ensures counted { IfNone result ((cursor.new.count ≡ cursor.old.count + 1) × (cursor.new.count ≤ limit)) }
+    requires { cursor.old.count < 2 ^ 63 }
+    ensures goes { (limit : ℕ) → cursor.old.count < limit → MatchOption result
+        (Goes M.tells machine.old machine.new (O.taken out.old) (O.taken out.new) M.LONGEST limit cursor.old cursor.new (10 ∷ []) None)
+        (λ finish. (behind : List ℕ) → Goes M.tells machine.old machine.new (O.taken out.old) (O.taken out.new) M.LONGEST limit cursor.old cursor.new (10 ∷ behind) (Some finish)) }
+    ensures counted { IfNone result (cursor.new.count ≡ cursor.old.count + 1) }
     ensures count { O.faults out.old ≤ O.faults out.new }
     ensures failed { result ≡ Some Finish.WriteFault → Rose (O.faults out.old) (O.faults out.new) }
+    ensures exact { MatchOption result (O.faults out.new ≡ O.faults out.old) (λ finish. O.faults out.new ≡ write_faults_after_run (O.faults out.old) finish) }
 {
-    if cursor.count >= limit {
-        return Some(Finish::InputTooLong);
-    }
     cursor.count += 1;
     match end_line(alloc, machine, out, cursor.kept.as_slice(), cursor.number) {
         Some(finish) => Some(finish),
@@ -143,6 +151,7 @@ fn end_line<M: Machine, O: Sink>(
         (EndsAt (M.tells machine.old) (O.taken out.old) (O.taken out.new) M.LONGEST number line.now) }
     ensures count { O.faults out.old ≤ O.faults out.new }
     ensures failed { result ≡ Some Finish.WriteFault → Rose (O.faults out.old) (O.faults out.new) }
+    ensures exact { MatchOption result (O.faults out.new ≡ O.faults out.old) (λ finish. O.faults out.new ≡ write_faults_after_run (O.faults out.old) finish) }
 {
     match machine.run_line(alloc, line) {
         Ok(text) => match write_all(out, text.as_slice()) {

@@ -17,7 +17,7 @@ use Rattle.literal_text.specs.Literals.{spaces, IsLiteral, IsLiteralOf}
 use Rattle.literal_text.specs.Types.{IsTypeName}
 use Rattle.literal_text.specs.Types as types
 use Rattle.literal_text.specs.LiteralPlaces.{IsStopAt}
-use Rattle.task_model.specs.Accepted.{symbols_of}
+use Rattle.task_model.specs.TypeParts.{symbols_of}
 use Rattle.literal_text.specs.LiteralReading.{NoBlank, Ends, Gap, Lit, Whole, TypeName, fewest}
 use Rattle.literal_text.proofs.WordLemmas.{gap_right}
 use Rattle.literal_text.proofs.FitLemmas.{least_lit, fewest_least}

@@ -3,7 +3,7 @@ use Rattle.std.proofs.Common.{◌≡◌, ◌≢◌, ℕ, suc, ◌+◌, ◌-◌, 
 use Rattle.std.specs.Prelude.{codes}
 use Rattle.task_model.specs.Text.{Text}
 use Rattle.task_model.specs.Basic.{BasicTerm, unit_type, bool_type, int_type, text_type, pair_type, list_type}
-use Rattle.task_model.specs.Accepted.{symbols_of}
+use Rattle.task_model.specs.TypeParts.{symbols_of}
 use Rattle.exact_reading.specs.declared.stop.ParseStop.{ParseStop}
 use Rattle.exact_reading.specs.declared.stop.ParseStop.TheVariants.{Fault}
 use Rattle.exact_reading.specs.declared.stop.FaultKind.TheVariants.{Unexpected}

@@ -2,4 +2,3 @@ pub mod Literals
 pub mod Types
 pub mod LiteralPlaces
 pub mod LiteralReading
-pub mod Prints

@@ -6,8 +6,6 @@ mod laws;
 mod print;
 mod read;
 mod stop;
-#[cfg(test)]
-mod tests;
 mod texts;
 mod types;
 mod values;

@@ -2,13 +2,13 @@ ghost use Rattle.std.specs.Prelude.{◌≡◌, ◌≤◌, ◌∷◌, [], ◌<◌
 ghost use Rattle.std.specs.Char.{IsScalar};
 ghost use Rattle.std.specs.Str.Lossy.{second_byte_min, second_byte_max};
 ghost use Rattle.exact_reading.specs.Reading.{Right, seen, Always, Anything};
-ghost use Rattle.task_model.specs.Token.{Escapes, IsHex, hex_value};
+ghost use Rattle.task_model.specs.Token.{Escapes};
 ghost use Rattle.task_model.specs.Value.{value_term};
 ghost use Rattle.literal_text.specs.LiteralReading.{TextLiteral, Content, Part, Wide, WideEnd, Escape, HexEnd, HexDigit, InRange, NoBlank, width_of, IsRawByte};
 
 use exact_reading::{ParseStop, expect, next, skip, strip, unexpected};
 use std::alloc::Global;
-use task_model::{TEXT_BYTE_LIMIT, TaskText, Value};
+use task_model::{TEXT_BYTE_LIMIT, TaskText, Value, hex_value};
 
 /// A text, and the spaces behind it.
 pub(crate) fn text(alloc: Global, bytes: &[u8]) -> Result<(Value, &[u8]), ParseStop>
@@ -110,21 +110,9 @@ fn hex_digit(limit: u8, bytes: &[u8]) -> Result<(u8, &[u8]), ParseStop>
     let Some((digit, rest)) = next(bytes) else {
         return Err(unexpected(bytes));
     };
-    match value_of(digit) {
+    match hex_value(digit as char) {
         Some(value) if value <= limit => Ok((value, rest)),
         _ => Err(unexpected(bytes)),
-    }
-}
-
-/// The value of a hexadecimal digit, in either case.
-fn value_of(digit: u8) -> Option<u8>
-    ensures { MatchOption result (IsHex digit → ⊥) (λ value. IsHex digit × (value ≡ hex_value digit)) }
-{
-    match digit {
-        b'0'..=b'9' => Some(digit - b'0'),
-        b'A'..=b'F' => Some(digit - 55),
-        b'a'..=b'f' => Some(digit - 87),
-        _ => None,
     }
 }
 

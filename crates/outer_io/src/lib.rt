@@ -14,8 +14,6 @@ mod reader_source;
 mod sink;
 mod source;
 mod system_files;
-#[cfg(test)]
-mod tests;
 mod writer_sink;
 
 pub use files::{FileAnswer, Files};
@@ -27,5 +25,5 @@ pub use plain_source::PlainSource;
 pub use reader_source::ReaderSource;
 pub use sink::{Put, Sink, Written, write_all, write_four, write_two};
 pub use source::{Got, Source};
-pub use system_files::SystemFiles;
+pub use system_files::{SystemFiles, read_file};
 pub use writer_sink::WriterSink;

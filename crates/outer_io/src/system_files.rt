@@ -1,4 +1,4 @@
-ghost use Rattle.std.specs.Prelude.{◌≡◌, ◌≢◌, ◌+◌, ◌≤◌, ◌↔◌, min, IfErr, IfOk, IsErrAnd, None, Some, option_map};
+ghost use Rattle.std.specs.Prelude.{◌≡◌, ◌≢◌, ◌+◌, ◌≤◌, ◌↔◌, min, IfErr, IfOk, IfSome, IsErrAnd, None, Some, option_map};
 ghost use Rattle.std.specs.IoError.{error_kind};
 ghost use Rattle.outer_io.specs.Files.{AnswersFile, IsWithin};
 
@@ -48,12 +48,22 @@ fn open<R: std::rt::Files>(rt: &R, name: &str) -> io::Result<R::File>
     ensures { IfErr result (λ error. error_kind error ≢ ErrorKind.Interrupted) }
 {
     for _ in 0..u64::MAX {
-        match fs::open(rt, name) {
-            Err(error) if error.kind() == ErrorKind::Interrupted => {}
-            opened => return opened,
+        if let Some(opened) = unless_interrupted(fs::open(rt, name)) {
+            return opened;
         }
     }
     Err(io::Error::from(ErrorKind::TimedOut))
+}
+
+// The system's answer. None: a signal interrupted the call.
+fn unless_interrupted<F: Drop>(opened: io::Result<F>) -> Option<io::Result<F>>
+    ensures answer { IfSome result (λ answer. answer ≡ opened) }
+    ensures interrupted { (result ≡ None) ↔ IsErrAnd opened (λ error. error_kind error ≡ ErrorKind.Interrupted) }
+{
+    match opened {
+        Err(error) if error.kind() == ErrorKind::Interrupted => None,
+        opened => Some(opened),
+    }
 }
 
 // Reads a file that was opened. It is absent exactly where the system says that there is no such file.
@@ -73,8 +83,8 @@ fn read_opened<F: Read + Drop>(alloc: Global, opened: io::Result<F>, limit: u64)
 // How many bytes one read of a file gives at most.
 const ROOM: usize = 65536;
 
-/// Reads a file to its end, or to the first byte beyond the limit.
-pub(crate) fn read_file<F: Read>(alloc: Global, file: &mut F, limit: u64) -> FileAnswer
+/// Reads a file that was opened to its end, or to the first byte beyond the limit.
+pub fn read_file<F: Read>(alloc: Global, file: &mut F, limit: u64) -> FileAnswer
     ensures file { AnswersFile (option_map Some (F.remaining file.old)) limit result }
     ensures within { IsWithin limit result }
     ensures exists { result ≡ FileAnswer.Absent → ⊥ }

@@ -1,4 +1,4 @@
-ghost use Rattle.std.specs.Prelude.{◌≡◌, ◌++◌, [], map, codes, decimal, IfOk, OnOk};
+ghost use Rattle.std.specs.Prelude.{◌≡◌, ◌++◌, [], map, codes, decimal, encode_utf8, IfOk, OnOk, string_bytes};
 ghost use Rattle.task_model.specs.Basic.{basic_term};
 ghost use Rattle.task_model.specs.Value.{value_term};
 ghost use Rattle.task_model.specs.Literal.{basic_text, value_text};
@@ -7,11 +7,11 @@ ghost use Rattle.task_model.specs.Page.{path_text};
 ghost use Rattle.task_model.specs.Html as model;
 ghost use Rattle.plain_pages.specs.Forms.{form_start, form_end, literal_fields};
 
-use crate::writing::{push, push_basic, push_bytes, push_path, text_of};
+use crate::writing::{push, push_basic, push_character, push_path};
 use itoa::Buffer;
 use literal_text::print_value;
 use std::alloc::Global;
-use task_model::{Basic, OutOfMemory, Row, Shape, Sign, TaskText, Turn, Value, Widget};
+use task_model::{Basic, OutOfMemory, Shape, Sign, TaskText, Turn, Value, Widget};
 
 /// The HTML page of widgets (docs/FORMATS.md, "HTML pages").
 pub fn html_page(
@@ -22,7 +22,7 @@ pub fn html_page(
 ) -> Result<TaskText, OutOfMemory>
     ensures { IfOk result (λ text. text ≡ model.html_text version seat (map widget_term widgets.now)) }
 {
-    let mut text = Row::new(alloc);
+    let mut text = String::new(alloc);
     push(
         &mut text,
         "<!DOCTYPE html>\n<html lang=\"en\"><head><meta charset=\"utf-8\"><title>tophat</title></head><body>\n",
@@ -30,19 +30,19 @@ pub fn html_page(
     push_head(&mut text, version, seat)?;
     push_fragments(alloc, &mut text, widgets)?;
     push(&mut text, "</body></html>\n")?;
-    text_of(alloc, text.as_slice())
+    TaskText::of_string(text)
 }
 
-fn push_head(text: &mut Row<u8>, version: u64, seat: u8) -> Result<(), OutOfMemory>
-    ensures { OnOk result (text.new.list ≡ text.old.list ++ model.paragraph (codes "version " ++ decimal version ++ codes " seat " ++ decimal seat)) }
+fn push_head(text: &mut String, version: u64, seat: u8) -> Result<(), OutOfMemory>
+    ensures { OnOk result (string_bytes text.new ≡ string_bytes text.old ++ model.paragraph (codes "version " ++ decimal version ++ codes " seat " ++ decimal seat)) }
 {
     push(text, "<p>")?;
     push_numbers(text, version, seat)?;
     push(text, "</p>\n")
 }
 
-fn push_numbers(text: &mut Row<u8>, version: u64, seat: u8) -> Result<(), OutOfMemory>
-    ensures { OnOk result (text.new.list ≡ text.old.list ++ (codes "version " ++ decimal version ++ codes " seat " ++ decimal seat)) }
+fn push_numbers(text: &mut String, version: u64, seat: u8) -> Result<(), OutOfMemory>
+    ensures { OnOk result (string_bytes text.new ≡ string_bytes text.old ++ (codes "version " ++ decimal version ++ codes " seat " ++ decimal seat)) }
 {
     let mut number = Buffer::new();
     push(text, "version ")?;
@@ -51,8 +51,8 @@ fn push_numbers(text: &mut Row<u8>, version: u64, seat: u8) -> Result<(), OutOfM
     push(text, number.format(seat))
 }
 
-fn push_fragments(alloc: Global, text: &mut Row<u8>, widgets: &[Widget]) -> Result<(), OutOfMemory>
-    ensures { OnOk result (text.new.list ≡ text.old.list ++ model.widget_fragments (map widget_term widgets.now)) }
+fn push_fragments(alloc: Global, text: &mut String, widgets: &[Widget]) -> Result<(), OutOfMemory>
+    ensures { OnOk result (string_bytes text.new ≡ string_bytes text.old ++ model.widget_fragments (map widget_term widgets.now)) }
 {
     let mut rest = widgets;
     while let [widget, more @ ..] = rest {
@@ -62,23 +62,23 @@ fn push_fragments(alloc: Global, text: &mut Row<u8>, widgets: &[Widget]) -> Resu
     Ok(())
 }
 
-fn push_fragment(alloc: Global, text: &mut Row<u8>, widget: &Widget) -> Result<(), OutOfMemory>
-    ensures { OnOk result (text.new.list ≡ text.old.list ++ model.widget_fragment (widget_term widget.now)) }
+fn push_fragment(alloc: Global, text: &mut String, widget: &Widget) -> Result<(), OutOfMemory>
+    ensures { OnOk result (string_bytes text.new ≡ string_bytes text.old ++ model.widget_fragment (widget_term widget.now)) }
 {
     push_shape(alloc, text, widget.path.turns.as_slice(), &widget.shape)
 }
 
 fn push_shape(
     alloc: Global,
-    text: &mut Row<u8>,
+    text: &mut String,
     path: &[Turn],
     shape: &Shape,
 ) -> Result<(), OutOfMemory>
-    ensures { OnOk result (text.new.list ≡ text.old.list ++ model.shape_fragment (path_text path.now) (shape_term shape.now)) }
+    ensures { OnOk result (string_bytes text.new ≡ string_bytes text.old ++ model.shape_fragment (path_text path.now) (shape_term shape.now)) }
 {
     match shape {
         Shape::Edit(b, v) => push_valued(alloc, text, path, "edit", b, v),
-        Shape::Enter(b) => push_editor(alloc, text, path, "enter", b, &[]),
+        Shape::Enter(b) => push_editor(alloc, text, path, "enter", b, ""),
         Shape::Share(b, v) => push_valued(alloc, text, path, "share", b, v),
         Shape::Then => push_line(text, path, " then"),
         Shape::Step(sign) => {
@@ -96,8 +96,8 @@ fn push_shape(
     }
 }
 
-fn push_line(text: &mut Row<u8>, path: &[Turn], word: &str) -> Result<(), OutOfMemory>
-    ensures { OnOk result (text.new.list ≡ text.old.list ++ model.paragraph (path_text path.now ++ word.now)) }
+fn push_line(text: &mut String, path: &[Turn], word: &str) -> Result<(), OutOfMemory>
+    ensures { OnOk result (string_bytes text.new ≡ string_bytes text.old ++ model.paragraph (path_text path.now ++ word.now)) }
 {
     push(text, "<p>")?;
     push_path(text, path)?;
@@ -105,8 +105,8 @@ fn push_line(text: &mut Row<u8>, path: &[Turn], word: &str) -> Result<(), OutOfM
     push(text, "</p>\n")
 }
 
-fn push_sign(text: &mut Row<u8>, path: &[Turn], act: &str, sign: Sign) -> Result<(), OutOfMemory>
-    ensures { OnOk result (text.new.list ≡ text.old.list ++ model.sign_form (path_text path.now) act.now sign) }
+fn push_sign(text: &mut String, path: &[Turn], act: &str, sign: Sign) -> Result<(), OutOfMemory>
+    ensures { OnOk result (string_bytes text.new ≡ string_bytes text.old ++ model.sign_form (path_text path.now) act.now sign) }
 {
     match sign {
         Sign::No => Ok(()),
@@ -122,8 +122,8 @@ fn push_sign(text: &mut Row<u8>, path: &[Turn], act: &str, sign: Sign) -> Result
 }
 
 // The beginning of a form that sends an act at a path.
-fn push_form(text: &mut Row<u8>, path: &[Turn], act: &str) -> Result<(), OutOfMemory>
-    ensures { OnOk result (text.new.list ≡ text.old.list ++ form_start (path_text path.now) act.now) }
+fn push_form(text: &mut String, path: &[Turn], act: &str) -> Result<(), OutOfMemory>
+    ensures { OnOk result (string_bytes text.new ≡ string_bytes text.old ++ form_start (path_text path.now) act.now) }
 {
     push(
         text,
@@ -136,8 +136,8 @@ fn push_form(text: &mut Row<u8>, path: &[Turn], act: &str) -> Result<(), OutOfMe
 }
 
 // The end of a form: its button, with a word and what stands behind it.
-fn push_button(text: &mut Row<u8>, word: &str, mark: &str) -> Result<(), OutOfMemory>
-    ensures { OnOk result (text.new.list ≡ text.old.list ++ form_end (word.now ++ mark.now)) }
+fn push_button(text: &mut String, word: &str, mark: &str) -> Result<(), OutOfMemory>
+    ensures { OnOk result (string_bytes text.new ≡ string_bytes text.old ++ form_end (word.now ++ mark.now)) }
 {
     push(text, "<button>")?;
     push(text, word)?;
@@ -148,28 +148,28 @@ fn push_button(text: &mut Row<u8>, word: &str, mark: &str) -> Result<(), OutOfMe
 // An editor that has a value.
 fn push_valued(
     alloc: Global,
-    text: &mut Row<u8>,
+    text: &mut String,
     path: &[Turn],
     word: &str,
     b: &Basic,
     v: &Value,
 ) -> Result<(), OutOfMemory>
-    ensures { OnOk result (text.new.list ≡ text.old.list ++ model.editor_text (path_text path.now) word.now (basic_term b.now) (model.shown_value (value_term v.now))) }
+    ensures { OnOk result (string_bytes text.new ≡ string_bytes text.old ++ model.editor_text (path_text path.now) word.now (basic_term b.now) (model.shown_value (value_term v.now))) }
 {
-    let mut shown = Row::new(alloc);
+    let mut shown = String::new(alloc);
     push_shown(alloc, &mut shown, v)?;
-    push_editor(alloc, text, path, word, b, shown.as_slice())
+    push_editor(alloc, text, path, word, b, shown.as_str())
 }
 
 fn push_editor(
     alloc: Global,
-    text: &mut Row<u8>,
+    text: &mut String,
     path: &[Turn],
     word: &str,
     b: &Basic,
-    shown: &[u8],
+    shown: &str,
 ) -> Result<(), OutOfMemory>
-    ensures { OnOk result (text.new.list ≡ text.old.list ++ model.editor_text (path_text path.now) word.now (basic_term b.now) shown.now) }
+    ensures { OnOk result (string_bytes text.new ≡ string_bytes text.old ++ model.editor_text (path_text path.now) word.now (basic_term b.now) shown.now) }
 {
     push_editor_line(alloc, text, path, word, b)?;
     push_form(text, path, "set")?;
@@ -179,12 +179,12 @@ fn push_editor(
 
 fn push_editor_line(
     alloc: Global,
-    text: &mut Row<u8>,
+    text: &mut String,
     path: &[Turn],
     word: &str,
     b: &Basic,
 ) -> Result<(), OutOfMemory>
-    ensures { OnOk result (text.new.list ≡ text.old.list ++ model.paragraph (path_text path.now ++ codes " " ++ word.now ++ codes " " ++ basic_text (basic_term b.now))) }
+    ensures { OnOk result (string_bytes text.new ≡ string_bytes text.old ++ model.paragraph (path_text path.now ++ codes " " ++ word.now ++ codes " " ++ basic_text (basic_term b.now))) }
 {
     push(text, "<p>")?;
     push_path(text, path)?;
@@ -195,13 +195,8 @@ fn push_editor_line(
     push(text, "</p>\n")
 }
 
-fn push_fields(
-    alloc: Global,
-    text: &mut Row<u8>,
-    b: &Basic,
-    shown: &[u8],
-) -> Result<(), OutOfMemory>
-    ensures { OnOk result (text.new.list ≡ text.old.list ++ model.editor_fields (basic_term b.now) shown.now) }
+fn push_fields(alloc: Global, text: &mut String, b: &Basic, shown: &str) -> Result<(), OutOfMemory>
+    ensures { OnOk result (string_bytes text.new ≡ string_bytes text.old ++ model.editor_fields (basic_term b.now) shown.now) }
 {
     match b {
         Basic::Text => {
@@ -209,7 +204,7 @@ fn push_fields(
                 text,
                 "<input type=\"hidden\" name=\"as\" value=\"raw\"><textarea name=\"value\">\n",
             )?;
-            push_bytes(text, shown)?;
+            push(text, shown)?;
             push(text, "</textarea>")
         }
         Basic::Unit => push_literal_fields(alloc, text, b, shown),
@@ -223,24 +218,24 @@ fn push_fields(
 // The fields of an editor that is no text: its type, and then its value.
 fn push_literal_fields(
     alloc: Global,
-    text: &mut Row<u8>,
+    text: &mut String,
     b: &Basic,
-    shown: &[u8],
+    shown: &str,
 ) -> Result<(), OutOfMemory>
-    ensures { OnOk result (text.new.list ≡ text.old.list ++ literal_fields (basic_text (basic_term b.now)) shown.now) }
+    ensures { OnOk result (string_bytes text.new ≡ string_bytes text.old ++ literal_fields (basic_text (basic_term b.now)) shown.now) }
 {
     push(text, "<input type=\"hidden\" name=\"as\" value=\"")?;
     push_basic(alloc, text, b)?;
     push(text, "\"><input name=\"value\" value=\"")?;
-    push_bytes(text, shown)?;
+    push(text, shown)?;
     push(text, "\">")
 }
 
-fn push_shown(alloc: Global, text: &mut Row<u8>, v: &Value) -> Result<(), OutOfMemory>
-    ensures { OnOk result (text.new.list ≡ text.old.list ++ model.shown_value (value_term v.now)) }
+fn push_shown(alloc: Global, text: &mut String, v: &Value) -> Result<(), OutOfMemory>
+    ensures { OnOk result (string_bytes text.new ≡ string_bytes text.old ++ model.shown_value (value_term v.now)) }
 {
     match v {
-        Value::Text(t) => push_entities(text, t.as_str().as_bytes()),
+        Value::Text(t) => push_entities(text, t.as_str()),
         Value::Unit => push_literal(alloc, text, v),
         Value::Bool(_) => push_literal(alloc, text, v),
         Value::Int(_) => push_literal(alloc, text, v),
@@ -249,36 +244,30 @@ fn push_shown(alloc: Global, text: &mut Row<u8>, v: &Value) -> Result<(), OutOfM
     }
 }
 
-fn push_literal(alloc: Global, text: &mut Row<u8>, v: &Value) -> Result<(), OutOfMemory>
-    ensures { OnOk result (text.new.list ≡ text.old.list ++ model.html_escaped (value_text (value_term v.now))) }
+fn push_literal(alloc: Global, text: &mut String, v: &Value) -> Result<(), OutOfMemory>
+    ensures { OnOk result (string_bytes text.new ≡ string_bytes text.old ++ model.html_escaped (value_text (value_term v.now))) }
 {
     let literal = print_value(alloc, v)?;
-    push_entities(text, literal.as_str().as_bytes())
+    push_entities(text, literal.as_str())
 }
 
-fn push_entities(text: &mut Row<u8>, bytes: &[u8]) -> Result<(), OutOfMemory>
-    ensures { OnOk result (text.new.list ≡ text.old.list ++ model.html_escaped bytes.now) }
+fn push_entities(text: &mut String, content: &str) -> Result<(), OutOfMemory>
+    ensures { OnOk result (string_bytes text.new ≡ string_bytes text.old ++ model.html_escaped content.now) }
 {
-    let mut rest = bytes;
-    while let [byte, more @ ..] = rest {
-        push_entity(text, *byte)?;
-        rest = more;
+    for character in content.chars() {
+        push_entity(text, character)?;
     }
     Ok(())
 }
 
-fn push_entity(text: &mut Row<u8>, byte: u8) -> Result<(), OutOfMemory>
-    ensures { OnOk result (text.new.list ≡ text.old.list ++ model.entity byte) }
+fn push_entity(text: &mut String, character: char) -> Result<(), OutOfMemory>
+    ensures { OnOk result (string_bytes text.new ≡ string_bytes text.old ++ model.html_escaped (encode_utf8 character)) }
 {
-    if byte == 38 {
-        push(text, "&amp;")
-    } else if byte == 60 {
-        push(text, "&lt;")
-    } else if byte == 62 {
-        push(text, "&gt;")
-    } else if byte == 34 {
-        push(text, "&quot;")
-    } else {
-        text.extend(&[byte])
+    match character {
+        '&' => push(text, "&amp;"),
+        '<' => push(text, "&lt;"),
+        '>' => push(text, "&gt;"),
+        '"' => push(text, "&quot;"),
+        _ => push_character(text, character),
     }
 }

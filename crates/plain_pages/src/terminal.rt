@@ -1,14 +1,14 @@
-ghost use Rattle.std.specs.Prelude.{◌≡◌, ◌++◌, map, codes, IfOk, OnOk};
+ghost use Rattle.std.specs.Prelude.{◌≡◌, ◌++◌, map, codes, IfOk, OnOk, string_bytes};
 ghost use Rattle.task_model.specs.Basic.{basic_term};
 ghost use Rattle.task_model.specs.Value.{value_term};
 ghost use Rattle.task_model.specs.Literal.{basic_text, value_text};
 ghost use Rattle.task_model.specs.Widget.{shape_term, widget_term};
 ghost use Rattle.task_model.specs.Page as model;
 
-use crate::writing::{push, push_basic, push_path, push_value, text_of};
+use crate::writing::{push, push_basic, push_path, push_value};
 use itoa::Buffer;
 use std::alloc::Global;
-use task_model::{Basic, OutOfMemory, Row, Shape, Sign, TaskText, Value, Widget};
+use task_model::{Basic, OutOfMemory, Shape, Sign, TaskText, Value, Widget};
 
 /// The terminal page of widgets (docs/FORMATS.md, "Pages").
 pub fn page(
@@ -19,14 +19,14 @@ pub fn page(
 ) -> Result<TaskText, OutOfMemory>
     ensures { IfOk result (λ text. text ≡ model.page_text version seat (map widget_term widgets.now)) }
 {
-    let mut text = Row::new(alloc);
+    let mut text = String::new(alloc);
     push_head(&mut text, version, seat)?;
     push_lines(alloc, &mut text, widgets)?;
-    text_of(alloc, text.as_slice())
+    TaskText::of_string(text)
 }
 
-fn push_head(text: &mut Row<u8>, version: u64, seat: u8) -> Result<(), OutOfMemory>
-    ensures { OnOk result (text.new.list ≡ text.old.list ++ model.head_text version seat) }
+fn push_head(text: &mut String, version: u64, seat: u8) -> Result<(), OutOfMemory>
+    ensures { OnOk result (string_bytes text.new ≡ string_bytes text.old ++ model.head_text version seat) }
 {
     let mut number = Buffer::new();
     push(text, "version ")?;
@@ -36,8 +36,8 @@ fn push_head(text: &mut Row<u8>, version: u64, seat: u8) -> Result<(), OutOfMemo
     push(text, "\n")
 }
 
-fn push_lines(alloc: Global, text: &mut Row<u8>, widgets: &[Widget]) -> Result<(), OutOfMemory>
-    ensures { OnOk result (text.new.list ≡ text.old.list ++ model.widget_lines (map widget_term widgets.now)) }
+fn push_lines(alloc: Global, text: &mut String, widgets: &[Widget]) -> Result<(), OutOfMemory>
+    ensures { OnOk result (string_bytes text.new ≡ string_bytes text.old ++ model.widget_lines (map widget_term widgets.now)) }
 {
     let mut rest = widgets;
     while let [widget, more @ ..] = rest {
@@ -47,16 +47,16 @@ fn push_lines(alloc: Global, text: &mut Row<u8>, widgets: &[Widget]) -> Result<(
     Ok(())
 }
 
-fn push_line(alloc: Global, text: &mut Row<u8>, widget: &Widget) -> Result<(), OutOfMemory>
-    ensures { OnOk result (text.new.list ≡ text.old.list ++ model.widget_line (widget_term widget.now)) }
+fn push_line(alloc: Global, text: &mut String, widget: &Widget) -> Result<(), OutOfMemory>
+    ensures { OnOk result (string_bytes text.new ≡ string_bytes text.old ++ model.widget_line (widget_term widget.now)) }
 {
     push_path(text, widget.path.turns.as_slice())?;
     push_shape(alloc, text, &widget.shape)?;
     push(text, "\n")
 }
 
-fn push_shape(alloc: Global, text: &mut Row<u8>, shape: &Shape) -> Result<(), OutOfMemory>
-    ensures { OnOk result (text.new.list ≡ text.old.list ++ model.shape_text (shape_term shape.now)) }
+fn push_shape(alloc: Global, text: &mut String, shape: &Shape) -> Result<(), OutOfMemory>
+    ensures { OnOk result (string_bytes text.new ≡ string_bytes text.old ++ model.shape_text (shape_term shape.now)) }
 {
     match shape {
         Shape::Edit(b, v) => {
@@ -87,8 +87,8 @@ fn push_shape(alloc: Global, text: &mut Row<u8>, shape: &Shape) -> Result<(), Ou
     }
 }
 
-fn push_sign(text: &mut Row<u8>, word: &str, sign: Sign) -> Result<(), OutOfMemory>
-    ensures { OnOk result (text.new.list ≡ text.old.list ++ model.sign_text word.now sign) }
+fn push_sign(text: &mut String, word: &str, sign: Sign) -> Result<(), OutOfMemory>
+    ensures { OnOk result (string_bytes text.new ≡ string_bytes text.old ++ model.sign_text word.now sign) }
 {
     match sign {
         Sign::No => Ok(()),
@@ -104,8 +104,8 @@ fn push_sign(text: &mut Row<u8>, word: &str, sign: Sign) -> Result<(), OutOfMemo
     }
 }
 
-fn push_typed(alloc: Global, text: &mut Row<u8>, b: &Basic, v: &Value) -> Result<(), OutOfMemory>
-    ensures { OnOk result (text.new.list ≡ text.old.list ++ basic_text (basic_term b.now) ++ codes " " ++ value_text (value_term v.now)) }
+fn push_typed(alloc: Global, text: &mut String, b: &Basic, v: &Value) -> Result<(), OutOfMemory>
+    ensures { OnOk result (string_bytes text.new ≡ string_bytes text.old ++ basic_text (basic_term b.now) ++ codes " " ++ value_text (value_term v.now)) }
 {
     push_basic(alloc, text, b)?;
     push(text, " ")?;

@@ -2,7 +2,7 @@
 use Rattle.std.proofs.Common.{◌≡◌, ℕ, suc, ◌+◌, List, [], ◌∷◌, ◌++◌, length, refl, ap, arith, length-append}
 use Rattle.std.specs.Prelude.{None, Some}
 use Rattle.task_model.specs.Text.{Text}
-use Rattle.task_model.specs.Grammar.{parameters, arguments, list, choice, chain, internal, external, Form, Parse, more_definitions, task_named, task_let, task_if, task_case, task_new, task_put, task_plain, task_then, task_next, task_group, single, joined}
+use Rattle.task_model.specs.Grammar.{parameters, arguments, list, choice, chain, internal, external, Form, Parse, more_definitions, task_named, task_let, task_if, task_case, task_new, task_put, task_plain, task_then, task_next, task_group, single, joined, full}
 use Rattle.task_model.specs.Meaning.{meaning, bodies, bodies_of}
 
 two : {A : Type 0} (xs ys : List A) {n m : ℕ} → length xs ≡ n → length ys ≡ m → length (xs ++ ys) ≡ n + m
@@ -39,4 +39,6 @@ bodies_count (single (list parameters) d) scope next = refl
 bodies_count (single (list arguments) d) scope next = refl
 bodies_count (joined (list parameters) d o p e) scope next = refl
 bodies_count (joined (list arguments) d o p e) scope next = refl
+bodies_count (full parameters p ps q) scope next = refl
+bodies_count (full arguments p es q) scope next = refl
 bodies_count d scope next = refl

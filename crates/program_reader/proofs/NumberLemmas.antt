@@ -5,7 +5,7 @@ use Rattle.std.proofs.lemmas.List.{map-append}
 use Rattle.task_model.specs.Text.{Text}
 use Rattle.task_model.specs.Task.{TaskTerm, share, BodyTerm}
 use Rattle.task_model.specs.Task as tasks
-use Rattle.task_model.specs.Grammar.{Form, task, task_atom, series, choice, chain, internal, external, Parse, more_definitions, task_named, task_let, task_if, task_case, task_new, task_put, task_plain, task_then, task_next, task_group, list, parameters, arguments, single, joined}
+use Rattle.task_model.specs.Grammar.{Form, task, task_atom, series, choice, chain, internal, external, Parse, more_definitions, task_named, task_let, task_if, task_case, task_new, task_put, task_plain, task_then, task_next, task_group, list, parameters, arguments, single, joined, full}
 use Rattle.task_model.specs.Meaning.{Meaning, meaning, bodies, bodies_of}
 use Rattle.task_builder.specs.Numbers.{renumbered, body_renumbered}
 
@@ -134,4 +134,6 @@ bodies_next (single (list parameters) a) scope next = refl
 bodies_next (single (list arguments) a) scope next = refl
 bodies_next (joined (list parameters) a o p b) scope next = refl
 bodies_next (joined (list arguments) a o p b) scope next = refl
+bodies_next (full parameters p ps q) scope next = refl
+bodies_next (full arguments p es q) scope next = refl
 bodies_next d scope next = refl

@@ -1,6 +1,5 @@
 -- An input acts at the address that its path leads to, and nothing else of the tree changes.
-use Rattle.std.proofs.Common.{◌≡◌, ◌∙◌, ℕ, ◌+◌, max, List, [], ◌∷◌, Option, None, Some, refl, sym, ap, subst, arith}
-use Rattle.std.specs.Prelude.{◌↔◌}
+use Rattle.std.proofs.Common.{◌≡◌, ◌∙◌, ℕ, List, [], ◌∷◌, Option, None, Some, refl, sym, ap, subst, arith}
 use Rattle.task_model.specs.Value.{ValueTerm}
 use Rattle.task_model.specs.Tree.{TreeTerm, edit_tree, enter_tree, share_tree, then_tree, next_tree, fail_tree, and_tree, or_tree, xor_tree, LaterTerm, State, at}
 use Rattle.task_model.specs.Input.{ActTerm, set_act, next_act, left_act, right_act}
@@ -8,7 +7,7 @@ use Rattle.task_model.specs.Checked.{CheckedTerm}
 use Rattle.task_model.specs.Plan.{Plan, give, plan_work, Derives}
 use Rattle.task_model.specs.Rules.{rule_of, value_of}
 use Rattle.task_model.specs.Handling.{rebuilt, rebuilds, stopped, at_step, handled}
-use Rattle.task_model.specs.Address.{DownTerm, into_left, into_first, into_second, Address, node_at, with_node, further_down, address_at_step, address_of}
+use Rattle.task_model.specs.Address.{DownTerm, into_left, into_first, into_second, Address, address_turns, node_at, with_node, further_down, address_at_editor, address_at_step, address_of}
 use Rattle.task_model.specs.declared.input.Turn.{Turn}
 use Rattle.task_model.specs.declared.input.Turn.TheVariants as turns
 use Rattle.task_model.proofs.PlanLemmas.{work_after, after_work}
@@ -245,3 +244,60 @@ module _ (c : CheckedTerm) where
   lacks_without_address (xor_tree j k) σ [] (set_act v) e = refl
   lacks_without_address (xor_tree j k) σ [] next_act e = refl
   lacks_without_address (xor_tree j k) σ (p ∷ path) act e = refl
+
+-- ---- the turns of an address
+turns_here : (a : Address) → Some [] ≡ Some a → address_turns a ≡ []
+turns_here a e = let same : [] ≡ a = cc in ap address_turns (sym same)
+
+turns_below : (d : DownTerm) (o : Option Address) (a : Address) (path : List Turn)
+    → ((b : Address) → o ≡ Some b → address_turns (d ∷ b) ≡ path) → further_down d o ≡ Some a → address_turns a ≡ path
+turns_below d o a path inner e = let w = below_some d o a e in ap address_turns w.2 ∙ inner w.0 w.1
+
+turns_at_editor : (path : List Turn) (act : ActTerm) (a : Address) → address_at_editor path act ≡ Some a → address_turns a ≡ path
+turns_at_editor [] (set_act v) a e = turns_here a e
+turns_at_editor [] next_act a e = absurd (cc)
+turns_at_editor [] left_act a e = absurd (cc)
+turns_at_editor [] right_act a e = absurd (cc)
+turns_at_editor (p ∷ path) act a e = absurd (cc)
+
+-- where an act stops at a step, its path is used up
+turns_at_step : (path : List Turn) (act : ActTerm) (o : Option ValueTerm) (further : Option Address) (a : Address)
+    → (further ≡ Some a → address_turns a ≡ path) → address_at_step (stopped path act o) further ≡ Some a → address_turns a ≡ path
+turns_at_step [] next_act (Some v) further a inner e = turns_here a e
+turns_at_step [] next_act None further a inner e = inner e
+turns_at_step [] (set_act v) o further a inner e = inner e
+turns_at_step [] left_act o further a inner e = inner e
+turns_at_step [] right_act o further a inner e = inner e
+turns_at_step (p ∷ path) act o further a inner e = inner e
+
+-- the turns of the address that a path leads to are that path
+pub turns_of_address : (t : TreeTerm) (σ : List ValueTerm) (path : List Turn) (act : ActTerm) (a : Address)
+    → address_of t σ path act ≡ Some a → address_turns a ≡ path
+turns_of_address (edit_tree b v) σ path act a e = turns_at_editor path act a e
+turns_of_address (enter_tree b) σ path act a e = turns_at_editor path act a e
+turns_of_address (share_tree b n) σ path act a e = turns_at_editor path act a e
+turns_of_address (then_tree t k) σ path act a e =
+    turns_below into_left (address_of t σ path act) a path (λ b f. turns_of_address t σ path act b f) e
+turns_of_address (next_tree t k) σ path act a e =
+    turns_at_step path act (value_of t σ) (further_down into_left (address_of t σ path act)) a
+    (λ g. turns_below into_left (address_of t σ path act) a path (λ b f. turns_of_address t σ path act b f) g) e
+turns_of_address fail_tree σ path act a e = absurd (cc)
+turns_of_address (and_tree t u) σ [] act a e = absurd (cc)
+turns_of_address (and_tree t u) σ (turns.First ∷ path) act a e =
+    turns_below into_first (address_of t σ path act) a (turns.First ∷ path)
+    (λ b f. ap (λ p. turns.First ∷ p) (turns_of_address t σ path act b f)) e
+turns_of_address (and_tree t u) σ (turns.Second ∷ path) act a e =
+    turns_below into_second (address_of u σ path act) a (turns.Second ∷ path)
+    (λ b f. ap (λ p. turns.Second ∷ p) (turns_of_address u σ path act b f)) e
+turns_of_address (or_tree t u) σ [] act a e = absurd (cc)
+turns_of_address (or_tree t u) σ (turns.First ∷ path) act a e =
+    turns_below into_first (address_of t σ path act) a (turns.First ∷ path)
+    (λ b f. ap (λ p. turns.First ∷ p) (turns_of_address t σ path act b f)) e
+turns_of_address (or_tree t u) σ (turns.Second ∷ path) act a e =
+    turns_below into_second (address_of u σ path act) a (turns.Second ∷ path)
+    (λ b f. ap (λ p. turns.Second ∷ p) (turns_of_address u σ path act b f)) e
+turns_of_address (xor_tree j k) σ [] left_act a e = turns_here a e
+turns_of_address (xor_tree j k) σ [] right_act a e = turns_here a e
+turns_of_address (xor_tree j k) σ [] (set_act v) a e = absurd (cc)
+turns_of_address (xor_tree j k) σ [] next_act a e = absurd (cc)
+turns_of_address (xor_tree j k) σ (p ∷ path) act a e = absurd (cc)

@@ -8,6 +8,13 @@ mod FailingLemmas
 mod NextLemmas
 mod PlainLemmas
 mod PlainFaceLemmas
+mod PlainFitLemmas
+mod ParseLemmas
+mod PlacedLemmas
+mod CountLemmas
+mod StartLemmas
+mod WalkLemmas
+mod TableLemmas
 mod OfferListLemmas
 mod LackingLemmas
 mod MatchLemmas

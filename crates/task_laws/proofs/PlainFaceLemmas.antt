@@ -14,7 +14,7 @@ use Rattle.task_model.specs.Handling.{handles, settled}
 use Rattle.task_model.specs.Outcome.{over_budget, IsOutcome}
 use Rattle.task_model.specs.Offer.{OfferTerm, turned, AreOffers}
 use Rattle.task_model.specs.Widget.{WidgetTerm, shifted, AreWidgets}
-use Rattle.task_model.specs.Accepted.{symbols_of}
+use Rattle.task_model.specs.TypeParts.{symbols_of}
 use Rattle.task_model.specs.PlainTree.{PlainTree}
 use Rattle.task_model.specs.declared.input.Turn.{Turn}
 use Rattle.task_model.specs.declared.input.Turn.TheVariants as turns

@@ -8,7 +8,7 @@ use Rattle.task_model.specs.Value.{ValueTerm, int_value, value_has}
 use Rattle.task_model.specs.Env.{EnvTerm, empty_env}
 use Rattle.task_model.specs.Host.{int_expr}
 use Rattle.task_model.specs.Task.{TaskTerm, edit, enter, call_task, and_task}
-use Rattle.task_model.specs.Program.{ProgramTerm}
+use Rattle.task_model.specs.Program.{ProgramTerm, main_name}
 use Rattle.task_model.specs.Tree.{TreeTerm, edit_tree, enter_tree, and_tree, State, at}
 use Rattle.task_model.specs.Input.{ActTerm, set_act, InputTerm}
 use Rattle.task_model.specs.Item.{ItemTerm, opened, took}
@@ -18,7 +18,7 @@ use Rattle.task_model.specs.Plan.{gives_value, evaluates, strides, settles, norm
 use Rattle.task_model.specs.Rules.{later_by, rule_of}
 use Rattle.task_model.specs.Handling.{if_typed, rebuilt, rebuilds, handled, handles, settled}
 use Rattle.task_model.specs.Outcome.{IsTaken}
-use Rattle.task_model.specs.Accepted.{main_name, PlainType, main_program, IsAccepted}
+use Rattle.task_model.specs.Accepted.{PlainType, main_program, IsPlainChecked}
 use Rattle.task_model.specs.PlainTree.{PlainTree, IsSmallTree}
 use Rattle.task_model.specs.State.{IsOpening, LeadTo, IsReached}
 use Rattle.task_model.specs.declared.input.Turn.{Turn}
@@ -215,7 +215,7 @@ module _ (c : CheckedTerm) (budget : ℕ) (s : State) (a : IsPlainState c budget
   state_units = opening_units c budget a.reached.0 a.reached.1
 
 -- the states of an accepted program
-pub accepted_plain : (c : CheckedTerm) (budget : ℕ) (items : List ItemTerm) (s : State) → IsAccepted c → IsReached c budget items s
+pub accepted_plain : (c : CheckedTerm) (budget : ℕ) (items : List ItemTerm) (s : State) → IsPlainChecked c → IsReached c budget items s
     → IsPlainState c budget s
 accepted_plain c budget items s a r = record {
   plain = a.plain;

@@ -4,18 +4,22 @@ ghost use Rattle.std.specs.List.Sorted.{IsStrictlyIncreasing};
 ghost use Rattle.task_model.specs.Value.{ValueTerm};
 ghost use Rattle.task_model.specs.Tree.{LaterTerm, TreeTerm, State, at};
 ghost use Rattle.task_model.specs.Foot.{with_places, foot, AgreeOn};
-ghost use Rattle.task_model.specs.Checked.{CheckedTerm};
+ghost use Rattle.task_model.specs.Checked.{CheckedTerm, body_first};
 ghost use Rattle.task_model.specs.Rules.{value_of, side, trial};
 ghost use Rattle.task_model.specs.Judgements.{Fails, IsWithinBudget};
 ghost use Rattle.task_model.specs.Input.{ActTerm, InputTerm};
 ghost use Rattle.task_model.specs.Work.{gives};
 ghost use Rattle.task_model.specs.Handling.{Handled};
-ghost use Rattle.task_model.specs.Address.{Address, address_of};
+ghost use Rattle.task_model.specs.Address.{Address, address_turns, address_of};
 ghost use Rattle.task_model.specs.declared.input.Turn.{Turn};
 ghost use Rattle.task_laws.specs.ActsAt.{ActsAt};
 ghost use Rattle.task_model.specs.Item.{ItemTerm};
-ghost use Rattle.task_model.specs.Accepted.{IsAccepted};
+ghost use Rattle.task_model.specs.Accepted.{IsPlainChecked, IsAccepted};
+ghost use Rattle.task_model.specs.Written.{IsWritten};
 ghost use Rattle.task_model.specs.PlainTree.{IsSmallTree};
+ghost use Rattle.task_model.specs.Fits.{Fits};
+ghost use Rattle.task_model.specs.Program.{ProgramTerm};
+ghost use Rattle.task_model.specs.Placed.{IsPlaced, firsts_of};
 ghost use Rattle.task_model.specs.Outcome.{taken, not_offered, over_budget, IsOutcome};
 ghost use Rattle.task_model.specs.Text.{Text};
 ghost use Rattle.task_model.specs.State.{IsReached, IsLegal, IsPage, history_prefix, version_of};
@@ -100,20 +104,22 @@ pub fn prefixes_are_legal()
 {}
 
 /// An input acts at the address that its path leads to and changes nothing else of the tree; where its path leads to none it is lacking,
-/// in no units.
+/// in no units. The turns of the address are the path.
 pub fn inputs_act_at_their_address()
     ensures acts { (c : CheckedTerm) (t : TreeTerm) (σ : List ValueTerm) (path : List Turn) (act : ActTerm) (a : Address) →
         address_of t σ path act ≡ Some a → ActsAt c t σ path act a }
     ensures lacking { (c : CheckedTerm) (t : TreeTerm) (σ : List ValueTerm) (path : List Turn) (act : ActTerm) →
         address_of t σ path act ≡ None → (r : Option State) (n h : ℕ) → Handled c (at t σ) (record { path = path; act = act }) r n h ↔ gives None r n h }
+    ensures turns { (t : TreeTerm) (σ : List ValueTerm) (path : List Turn) (act : ActTerm) (a : Address) →
+        address_of t σ path act ≡ Some a → address_turns a ≡ path }
 {}
 
 /// A plain program meets none of the other cases: at all its states the tree is plain and small and the store empty; the
 /// tree isn't failing; it offers nothing but setting ints, for certain, and shows nothing but editors of ints and pairs;
-/// what is taken sets an int, and no input is over the budget. Today all accepted programs are plain.
+/// what is taken sets an int, and no input is over the budget. Today all programs that are run are plain.
 pub fn plain_programs_stay_plain()
     ensures accepted { (c : CheckedTerm) (budget : ℕ) (items : List ItemTerm) (s : State) →
-        IsAccepted c → IsReached c budget items s → IsPlainState c budget s }
+        IsPlainChecked c → IsReached c budget items s → IsPlainState c budget s }
     ensures state { (c : CheckedTerm) (budget : ℕ) (s : State) → IsPlainState c budget s → IsSmallTree s.tree × (s.store ≡ []) }
     ensures failing { (c : CheckedTerm) (budget : ℕ) (s : State) → IsPlainState c budget s → (n h : ℕ) → Fails c s true n h → ⊥ }
     ensures offers { (c : CheckedTerm) (budget : ℕ) (s : State) → IsPlainState c budget s →
@@ -124,4 +130,26 @@ pub fn plain_programs_stay_plain()
         (i : InputTerm) (t : State) → IsOutcome c budget s i (taken t) → SetsInt i.act }
     ensures over_budget { (c : CheckedTerm) (budget : ℕ) (s : State) → IsPlainState c budget s →
         (i : InputTerm) → IsOutcome c budget s i over_budget → ⊥ }
+{}
+
+/// A plain program that is written is accepted, with int as the type of each of its `edit` nodes.
+pub fn plain_programs_are_accepted()
+    ensures { (c : CheckedTerm) → IsWritten c.program → IsPlainChecked c → IsAccepted c }
+{}
+
+/// Each state of a plain program fits the program.
+pub fn plain_states_fit()
+    ensures { (c : CheckedTerm) (budget : ℕ) (s : State) → IsPlainState c budget s → Fits c s }
+{}
+
+/// Of a program that is written no body is absent, and the scope of each one is the names in scope where it stands.
+pub fn written_programs_are_placed()
+    ensures { (p : ProgramTerm) → IsWritten p → IsPlaced p }
+{}
+
+/// Of a program that is written the table of how many `edit` and `share` nodes stand before each body has an entry for each body,
+/// and at a body's number what the rules read there.
+pub fn nodes_before_bodies()
+    ensures entries { (p : ProgramTerm) → IsWritten p → length (firsts_of p) ≡ length p.bodies }
+    ensures firsts { (p : ProgramTerm) → IsWritten p → (i n : ℕ) → slice_get (firsts_of p) i ≡ Some n → body_first p i ≡ n }
 {}

@@ -7,3 +7,5 @@ pub mod OfferLemmas
 pub mod OutcomeLemmas
 pub mod RowLemmas
 pub mod RanLemmas
+pub mod DemandLemmas
+pub mod PlainAccepted

@@ -11,9 +11,8 @@ use Rattle.task_model.specs.Rules.{rule_of}
 use Rattle.task_model.specs.Judgements.{IsWithinBudget}
 use Rattle.task_model.specs.Handling.{handles, settled, interacts, Interacts}
 use Rattle.task_model.specs.Outcome.{Outcome, taken, not_offered, over_budget, IsTaken, IsNotOffered, IsOutcome}
-use Rattle.task_model.specs.Accepted.{main_name}
-use Rattle.task_model.specs.Basic.{BasicTerm}
-use Rattle.task_model.specs.Program.{ProgramTerm}
+use Rattle.task_model.specs.Program.{main_name}
+use Rattle.task_model.specs.Accepted.{typed_program}
 use Rattle.task_model.specs.State.{IsOpening, LeadTo, IsReached, IsState}
 use Rattle.task_model.proofs.WorkLemmas.{Agree}
 use Rattle.task_model.proofs.PlanLemmas.{agree_work, at_most_one, work_after, after_work}
@@ -146,13 +145,8 @@ module _ (c : CheckedTerm) (budget : ℕ) where
   lead_to_more (opened p b ∷ items) s m t e d f = absurd d
   lead_to_more (took a ∷ items) s m t e d f = (d.0, d.1, lead_to_more items d.0 m t e d.2 f)
 
-abbrev checked : ProgramTerm → List BasicTerm → CheckedTerm
-checked p types = record { program = p; types = types }
-
--- a history has at most one state, since a program has at most one list of types
+-- a history has at most one state
 pub state_once : (H : List ItemTerm) (s t : State) → IsState H s → IsState H t → s ≡ t
 state_once [] s t d e = absurd d
 state_once (took a ∷ items) s t d e = absurd d
-state_once (opened p budget ∷ items) s t d e =
-    let same : d.0 ≡ e.0 = d.1.types ∙ sym e.1.types in
-    reached_once (checked p d.0) budget items s t d.2 (subst (λ z. IsReached (checked p z) budget items t) (sym same) e.2)
+state_once (opened p budget ∷ items) s t d e = reached_once (typed_program p) budget items s t d.1 e.1

@@ -1,23 +1,14 @@
--- Which programs are accepted (docs/RULES.md, "Programs"): plain ones, for now.
-use Rattle.std.specs.Prelude.{◌≡◌, ℕ, suc, ◌+◌, ◌≤◌, [], ◌∷◌, replicate, codes}
-use Rattle.task_model.specs.Text.{Text}
-use Rattle.task_model.specs.Basic.{BasicTerm, unit_type, bool_type, int_type, text_type, pair_type, list_type}
+-- Which programs are accepted, and which are run today: plain ones (docs/RULES.md, "Programs").
+use Rattle.std.specs.Prelude.{◌≡◌, ◌≤◌, [], ◌∷◌, replicate, None}
+use Rattle.task_model.specs.Basic.{BasicTerm, int_type, pair_type}
 use Rattle.task_model.specs.Host.{int_expr}
 use Rattle.task_model.specs.Task.{TaskTerm, edit, enter, and_task}
 use Rattle.task_model.specs.Program.{task_body, ProgramTerm}
+pub use Rattle.task_model.specs.Program.{main_name}
 use Rattle.task_model.specs.Checked.{CheckedTerm, defs_nodes}
-
--- each `unit`, `bool`, `int`, `text`, pair and list of a type is a symbol
-abbrev pub symbols_of : BasicTerm → ℕ
-symbols_of unit_type = 1
-symbols_of bool_type = 1
-symbols_of int_type = 1
-symbols_of text_type = 1
-symbols_of (pair_type a b) = suc (symbols_of a + symbols_of b)
-symbols_of (list_type a) = suc (symbols_of a)
-
-abbrev pub main_name : Text
-main_name = codes "main"
+pub use Rattle.task_model.specs.TypeParts.{symbols_of}
+use Rattle.task_model.specs.TaskDemands.{fault_of, types_of}
+use Rattle.task_model.specs.Written.{IsWritten}
 
 -- the type of a plain task: it is built of `edit` with a number, `enter int` and pairs
 abbrev pub PlainType : TaskTerm → BasicTerm → Type 0
@@ -38,7 +29,17 @@ pub record IsPlain (p : ProgramTerm) : Type 0 where
   pub typed : PlainType task result
   pub small : symbols_of result ≤ 64
 
--- An accepted program with the types of its `edit` and `share` nodes: a plain one, and each type is int.
-pub record IsAccepted (c : CheckedTerm) : Type 0 where
+-- a plain program with the types of its `edit` and `share` nodes, each of which is int
+pub record IsPlainChecked (c : CheckedTerm) : Type 0 where
   pub plain : IsPlain c.program
   pub types : c.types ≡ replicate (defs_nodes c.program c.program.defs) int_type
+
+-- An accepted program with the types of its `edit` and `share` nodes: it is written, and all that is demanded of it is met.
+pub record IsAccepted (c : CheckedTerm) : Type 0 where
+  pub written : IsWritten c.program
+  pub met : fault_of c.program ≡ None
+  pub types : c.types ≡ types_of c.program
+
+-- a program with the types that it gives its `edit` and `share` nodes
+abbrev pub typed_program : ProgramTerm → CheckedTerm
+typed_program p = record { program = p; types = types_of p }

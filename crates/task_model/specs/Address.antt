@@ -2,7 +2,7 @@
 use Rattle.std.specs.Prelude.{List, [], ◌∷◌, Option, None, Some}
 use Rattle.task_model.specs.Value.{ValueTerm}
 use Rattle.task_model.specs.Tree.{TreeTerm, edit_tree, enter_tree, share_tree, then_tree, next_tree, fail_tree, and_tree, or_tree, xor_tree}
-use Rattle.task_model.specs.Input.{ActTerm, set_act, next_act, left_act, right_act}
+use Rattle.task_model.specs.Input.{ActTerm, set_act, left_act, right_act}
 use Rattle.task_model.specs.Rules.{value_of}
 use Rattle.task_model.specs.Handling.{stopped}
 use Rattle.task_model.specs.declared.input.Turn.{Turn}

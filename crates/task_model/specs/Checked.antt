@@ -150,6 +150,7 @@ fun_named p f = def_in p (λ first d. function_of d.params d.what) 0 p.defs f
 abbrev pub task_named : ProgramTerm → Text → Option Callee
 task_named p f = def_in p (λ first d. callee_of d.params first d.what) 0 p.defs f
 
+-- the names of parameters
 abbrev pub param_names : List ParamTerm → List Text
 param_names = map (λ q. q.name)
 

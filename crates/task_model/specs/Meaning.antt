@@ -78,7 +78,8 @@ bodies (joined both a o p b) = 0
 bodies (joined sum a o p b) = 0
 bodies (joined product a o p b) = 0
 bodies (empty l p q) = 0
-bodies (full l p es q) = 0
+bodies (full parameters p ps q) = 0
+bodies (full arguments p es q) = 0
 
 -- ---- what each form stands for
 -- A task names its bodies by their numbers, in the order in which their texts begin: it is known once the number of its first body is. So
@@ -276,7 +277,8 @@ bodies_of (joined both a o p b) scope next = []
 bodies_of (joined sum a o p b) scope next = []
 bodies_of (joined product a o p b) scope next = []
 bodies_of (empty l p q) scope next = []
-bodies_of (full l p es q) scope next = []
+bodies_of (full parameters p ps q) scope next = []
+bodies_of (full arguments p es q) scope next = []
 
 -- a program: its definitions, and its bodies, numbered from 0
 abbrev pub program_of : Parse program → ProgramTerm

@@ -3,7 +3,7 @@ use Rattle.std.specs.Prelude.{◌≡◌, ◌≤◌}
 use Rattle.task_model.specs.Basic.{BasicTerm, int_type, pair_type}
 use Rattle.task_model.specs.Value.{int_value}
 use Rattle.task_model.specs.Tree.{TreeTerm, edit_tree, enter_tree, and_tree}
-use Rattle.task_model.specs.Accepted.{symbols_of}
+use Rattle.task_model.specs.TypeParts.{symbols_of}
 
 -- a plain tree of a type
 abbrev pub PlainTree : TreeTerm → BasicTerm → Type 0

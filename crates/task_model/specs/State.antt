@@ -1,15 +1,16 @@
 -- Histories, and the states that they lead to (docs/RULES.md, "Histories").
-use Rattle.std.specs.Prelude.{◌≡◌, ℕ, zero, suc, ◌≤◌, List, [], ◌∷◌, if◌then◌else◌, nat_eq}
-use Rattle.task_model.specs.Basic.{BasicTerm}
+use Rattle.std.specs.Prelude.{◌≡◌, ℕ, zero, suc, ◌≤◌, List, [], ◌∷◌}
 use Rattle.task_model.specs.Env.{empty_env}
 use Rattle.task_model.specs.Task.{call_task}
 use Rattle.task_model.specs.Tree.{State}
 use Rattle.task_model.specs.Input.{EntryTerm}
+use Rattle.task_model.specs.Held.{IsHeldAct}
 use Rattle.task_model.specs.Item.{ItemTerm, opened, took}
 use Rattle.task_model.specs.Checked.{CheckedTerm}
 use Rattle.task_model.specs.Judgements.{Normal, IsWithinBudget}
 use Rattle.task_model.specs.Outcome.{IsTaken}
-use Rattle.task_model.specs.Accepted.{main_name, IsAccepted}
+use Rattle.task_model.specs.Accepted.{IsAccepted, typed_program}
+use Rattle.task_model.specs.Program.{main_name}
 use Rattle.task_model.specs.Text.{Text}
 use Rattle.task_model.specs.Page.{page_text}
 use Rattle.task_model.specs.Html.{html_text}
@@ -36,11 +37,7 @@ module _ (c : CheckedTerm) (budget : ℕ) where
 abbrev pub IsState : List ItemTerm → State → Type 0
 IsState [] t = ⊥
 IsState (took e ∷ items) t = ⊥
-IsState (opened p budget ∷ items) t =
-    (types : List BasicTerm) × IsAccepted (record {
-      program = p;
-      types = types;
-    }) × IsReached (record { program = p; types = types }) budget items t
+IsState (opened p budget ∷ items) t = IsAccepted (typed_program p) × IsReached (typed_program p) budget items t
 
 -- the number of inputs taken
 abbrev pub version_of : List ItemTerm → ℕ
@@ -54,22 +51,21 @@ IsSeat seat = (1 ≤ seat) × (seat ≤ 64)
 abbrev pub IsBudget : ℕ → Type 0
 IsBudget budget = (1 ≤ budget) × (budget ≤ 1000000)
 
-abbrev pub HaveSeats : List ItemTerm → Type 0
-HaveSeats [] = Unit {0}
-HaveSeats (opened p budget ∷ items) = ⊥
-HaveSeats (took e ∷ items) = IsSeat e.seat × HaveSeats items
+-- An entry of a history: its seat is one of the 64, and the code can hold the value that it sets.
+abbrev pub IsEntry : EntryTerm → Type 0
+IsEntry e = IsSeat e.seat × IsHeldAct e.input.act
 
--- A legal history: an accepted program was opened with a budget, and then entries of seats were taken, one by one.
+-- items that are such entries
+abbrev pub AreEntries : List ItemTerm → Type 0
+AreEntries [] = Unit {0}
+AreEntries (opened p budget ∷ items) = ⊥
+AreEntries (took e ∷ items) = IsEntry e × AreEntries items
+
+-- A legal history: an accepted program was opened with a budget, and then entries were taken, one by one.
 abbrev pub IsLegal : List ItemTerm → Type 0
 IsLegal [] = ⊥
 IsLegal (took e ∷ items) = ⊥
-IsLegal (opened p budget ∷ items) = IsBudget budget × HaveSeats items × ((t : State) × IsState (opened p budget ∷ items) t)
-
--- the entries of a seat, in order
-abbrev pub entries_of : List ItemTerm → ℕ → List EntryTerm
-entries_of [] seat = []
-entries_of (opened p budget ∷ items) seat = entries_of items seat
-entries_of (took e ∷ items) seat = if nat_eq e.seat seat then e ∷ entries_of items seat else entries_of items seat
+IsLegal (opened p budget ∷ items) = IsBudget budget × AreEntries items × ((t : State) × IsState (opened p budget ∷ items) t)
 
 -- the items of a history up to a version
 abbrev pub history_prefix : List ItemTerm → ℕ → List ItemTerm
@@ -83,11 +79,8 @@ abbrev pub HasWidgets : List ItemTerm → List WidgetTerm → Type 0
 HasWidgets [] ws = ⊥
 HasWidgets (took e ∷ items) ws = ⊥
 HasWidgets (opened p budget ∷ items) ws =
-    (types : List BasicTerm) × (t : State) × IsAccepted (record { program = p; types = types })
-    × IsReached (record {
-      program = p;
-      types = types;
-    }) budget items t × AreWidgets (record { program = p; types = types }) budget t.tree t.store ws
+    (t : State) × IsAccepted (typed_program p) × IsReached (typed_program p) budget items t
+    × AreWidgets (typed_program p) budget t.tree t.store ws
 
 -- the terminal page of a history for a seat (docs/FORMATS.md, "Pages")
 abbrev pub IsTerminal : List ItemTerm → ℕ → Text → Type 0

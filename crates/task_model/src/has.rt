@@ -1,6 +1,7 @@
-ghost use Rattle.std.specs.Prelude.{◌≡◌, map};
+ghost use Rattle.std.specs.Prelude.{◌≡◌, true, map};
 ghost use Rattle.task_model.specs.Basic.{basic_term};
 ghost use Rattle.task_model.specs.Value.{value_term, as_values};
+ghost use Rattle.task_model.specs.Held.{IsHeld, AreHeld};
 ghost use Rattle.task_model.specs.Value as values;
 
 use crate::basic::Basic;
@@ -10,12 +11,17 @@ use crate::value::Value;
 /// Whether a value has a type. It takes no memory.
 #[cycle(has)]
 pub fn value_has(v: &Value, b: &Basic) -> bool
-    ensures { result ≡ values.value_has (value_term v.now) (basic_term b.now) }
+    ensures has { result ≡ values.value_has (value_term v.now) (basic_term b.now) }
+    ensures held { result ≡ true → IsHeld (value_term v.now) }
 {
     match (v, b) {
         (Value::Unit, Basic::Unit) => true,
         (Value::Bool(_), Basic::Bool) => true,
-        (Value::Int(_), Basic::Int) => true,
+        (Value::Int(i), Basic::Int) => {
+            // It is read, which shows that it has 64 bits.
+            let _bits = *i;
+            true
+        }
         (Value::Text(text), Basic::Text) => text.as_str().len() <= TEXT_BYTE_LIMIT,
         (Value::Pair(first, second), Basic::Pair(a, b)) => {
             value_has(first, a) && value_has(second, b)
@@ -31,7 +37,8 @@ pub fn value_has(v: &Value, b: &Basic) -> bool
 // Whether each of these values has a type.
 #[cycle(has)]
 fn values_have(items: &[Value], b: &Basic) -> bool
-    ensures { result ≡ values.values_have (as_values (map value_term items.now)) (basic_term b.now) }
+    ensures has { result ≡ values.values_have (as_values (map value_term items.now)) (basic_term b.now) }
+    ensures held { result ≡ true → AreHeld (as_values (map value_term items.now)) }
 {
     for item in items {
         if !value_has(item, b) {

@@ -4,7 +4,7 @@ use Rattle.std.specs.Prelude.{MatchResult}
 use Rattle.std.specs.Option.{option_map}
 use Rattle.std.proofs.lemmas.List.{length-append}
 use Rattle.task_model.specs.Basic.{BasicTerm, unit_type, bool_type, int_type, text_type, pair_type, list_type}
-use Rattle.task_model.specs.Accepted.{symbols_of}
+use Rattle.task_model.specs.TypeParts.{symbols_of}
 use Rattle.task_reader.specs.Built.{first_other, other_place, PassesTo, IsFirstUnbuilt}
 
 pub some_symbol : (b : BasicTerm) → 1 ≤ symbols_of b

@@ -5,8 +5,9 @@ use Rattle.task_model.specs.Text.{same_text}
 use Rattle.task_model.specs.Basic.{BasicTerm, int_type, pair_type}
 use Rattle.task_model.specs.Host.{int_expr}
 use Rattle.task_model.specs.Task.{TaskTerm, edit, enter, and_task}
-use Rattle.task_model.specs.Program.{ParamTerm, DefBodyTerm, fun_body, task_body, DefTerm, ProgramTerm}
-use Rattle.task_model.specs.Accepted.{main_name, symbols_of, PlainType, IsPlain}
+use Rattle.task_model.specs.Program.{ParamTerm, DefBodyTerm, fun_body, task_body, DefTerm, ProgramTerm, main_name}
+use Rattle.task_model.specs.Accepted.{PlainType, IsPlain}
+use Rattle.task_model.specs.TypeParts.{symbols_of}
 
 -- a type of ints and pairs
 abbrev pub is_plain_type : BasicTerm → Bool

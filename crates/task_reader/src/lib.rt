@@ -4,8 +4,6 @@
 mod plain;
 mod print;
 mod read;
-#[cfg(test)]
-mod tests;
 mod unbuilt;
 
 pub use print::print_program;

@@ -1,5 +1,6 @@
 ghost use Rattle.std.specs.Prelude.{◌≡◌, ◌↔◌, ◌+◌, ◌<◌, IsTrue, MatchOption, suc};
-ghost use Rattle.task_model.specs.Accepted.{PlainType, IsPlain, symbols_of};
+ghost use Rattle.task_model.specs.Accepted.{PlainType, IsPlain};
+ghost use Rattle.task_model.specs.TypeParts.{symbols_of};
 ghost use Rattle.task_model.specs.Basic.{int_type, basic_term};
 ghost use Rattle.task_model.specs.Task.{task_term};
 ghost use Rattle.task_model.specs.Program.{def_term, program_term};

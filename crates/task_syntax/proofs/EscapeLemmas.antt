@@ -34,7 +34,8 @@ pub hex_stands :
     → code ≡ high * 16 + low
     → (x : ℕ) × (y : ℕ) × (text ≡ x ∷ y ∷ more) × PartIs (hex x y) (encode_utf8 code)
 hex_stands text rest more a b code high low e f h g high_is low_is lt is =
-    let same : high * 16 + low ≡ hex_value a * 16 + hex_value b = ap (λ n. n * 16 + low) high_is ∙ ap (λ n. hex_value a * 16 + n) low_is in (
+    let same : high * 16 + low ≡ hex_value a * 16 + hex_value b =
+    ap (λ n. n * 16 + low) high_is ∙ ap (λ n. hex_value a * 16 + n) low_is in (
       a,
       b,
       begins_low text a rest (hex_low a h) e ∙ ap (λ x. a ∷ x) (begins_low rest b more (hex_low b g) f),

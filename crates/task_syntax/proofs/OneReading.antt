@@ -279,7 +279,8 @@ cause_same rest k l i j (wide _ a b) (wide _ c d) = (a ∙ sym c, b ∙ sym d)
 cause_same rest k l i j (in_text h) (in_text g) =
     let both : 34 ∷ (spelled h.parts ++ h.tail) ≡ 34 ∷ (spelled g.parts ++ g.tail) = sym h.before.bytes ∙ g.before.bytes in
     let inner : spelled h.parts ++ h.tail ≡ spelled g.parts ++ g.tail = cc in
-    let same = parts_same h.parts g.parts h.before.content g.before.content h.tail g.tail h.before.are g.before.are inner h.stuck g.stuck in (
+    let same =
+    parts_same h.parts g.parts h.before.content g.before.content h.tail g.tail h.before.are g.before.are inner h.stuck g.stuck in (
       h.kind_is ∙ ap said_kind same.2 ∙ sym g.kind_is,
       h.place_is ∙ ap (λ x. said_place (1 + length (spelled x)) h.tail) same.0
           ∙ ap (said_place (1 + length (spelled g.parts))) same.2 ∙ sym g.place_is,

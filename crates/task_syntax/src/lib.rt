@@ -9,8 +9,6 @@ mod number;
 mod run;
 mod stop;
 mod symbol;
-#[cfg(test)]
-mod tests;
 mod text;
 mod token;
 

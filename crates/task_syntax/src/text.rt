@@ -1,7 +1,7 @@
 ghost use Rattle.std.specs.Prelude.{◌≡◌, ◌≢◌, ◌∷◌, ◌++◌, ◌<◌, [], true, ℕ, List, MatchOption, MatchResult, encode_utf8};
 ghost use Rattle.std.specs.Str.{all_scalars};
 ghost use Rattle.task_model.specs.Text.{Text};
-ghost use Rattle.task_model.specs.Token.{IsHex, hex_value, hex, PartIs};
+ghost use Rattle.task_model.specs.Token.{hex, PartIs};
 ghost use Rattle.task_syntax.specs.Fault.{IsNoEscape};
 ghost use Rattle.task_syntax.specs.Front.{LexStopsAt};
 ghost use Rattle.task_syntax.specs.TextParts.{PartStands, PartFails, TextStands};
@@ -9,19 +9,7 @@ ghost use Rattle.task_syntax.specs.TextParts.{PartStands, PartFails, TextStands}
 use crate::cursor::first_char;
 use crate::stop::{LexKind, Stop};
 use std::alloc::Global;
-use task_model::{TEXT_BYTE_LIMIT, TaskText};
-
-/// The value of a hexadecimal digit.
-fn hex_digit(digit: char) -> Option<u8>
-    ensures { MatchOption result (IsHex digit → ⊥) (λ n. IsHex digit × (n ≡ hex_value digit) × (n < 16)) }
-{
-    match digit {
-        '0'..='9' => Some(digit as u8 - b'0'),
-        'A'..='F' => Some(digit as u8 - b'A' + 10),
-        'a'..='f' => Some(digit as u8 - b'a' + 10),
-        _ => None,
-    }
-}
+use task_model::{TEXT_BYTE_LIMIT, TaskText, hex_value};
 
 /// The character that two digits write, and what stands after them.
 fn hex_escape(text: &str) -> Option<(char, &str)>
@@ -31,8 +19,8 @@ fn hex_escape(text: &str) -> Option<(char, &str)>
 {
     let (first, rest) = first_char(text)?;
     let (second, rest) = first_char(rest)?;
-    let high = hex_digit(first)?;
-    let low = hex_digit(second)?;
+    let high = hex_value(first)?;
+    let low = hex_value(second)?;
     let code = high * 16 + low;
     if code < 128 {
         Some((char::from(code), rest))

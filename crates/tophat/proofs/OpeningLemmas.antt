@@ -5,7 +5,9 @@ use Rattle.task_model.specs.Text.{Text}
 use Rattle.task_model.specs.Item.{opened}
 use Rattle.task_model.specs.Program.{ProgramTerm}
 use Rattle.task_model.specs.Checked.{CheckedTerm}
-use Rattle.task_model.specs.Accepted.{IsPlain}
+use Rattle.task_model.specs.Accepted.{IsPlain, IsAccepted, typed_program}
+use Rattle.task_model.specs.Written.{IsWritten}
+use Rattle.task_model.proofs.PlainAccepted.{plain_types_of, plain_accepted}
 use Rattle.task_model.specs.ProgramText.{IsProgramText}
 use Rattle.program_grammar.specs.Faults.{IsFaultOf}
 use Rattle.program_grammar.proofs.ReadingLemmas.{fault_once, fault_apart}
@@ -34,9 +36,11 @@ pub read_opens : (budget : ℕ) (bytes : Text) (p : ProgramTerm) (places : List 
     → IsProgramText bytes p places
     → ((q : ProgramTerm) (others : List ℕ) → IsProgramText bytes q others → (q ≡ p) × (others ≡ places))
     → OpensProgram budget p places result → OpensBytes budget bytes result
-read_opens budget bytes p places result h only o (accepted q) (others, text, plain) =
-    let same = (only q others text).0 in
-    subst (λ (z : ProgramTerm). Opens budget (accepted z) result) (sym same) (o.0 (subst IsPlain same plain))
+read_opens budget bytes p places result h only o (accepted c) (others, text, plain, a) =
+    let same = (only c.program others text).0 in
+    let types : c ≡ typed_program c.program = ap (λ ts. record { program = c.program; types = ts }) a.types in
+    subst (λ (z : CheckedTerm). Opens budget (accepted z) result) (sym (types ∙ ap typed_program same))
+    (o.0 (subst IsPlain same plain))
 read_opens budget bytes p places result h only o (refused place (Read kind)) fault = absurd (fault_apart bytes kind place p places fault h)
 read_opens budget bytes p places result h only o (refused place NotBuilt) (q, others, text, unbuilt) =
     let same = only q others text in
@@ -45,7 +49,7 @@ read_opens budget bytes p places result h only o (refused place NotBuilt) (q, ot
 -- the bytes have this fault
 pub refuses : (budget : ℕ) (bytes : Text) (kind : ReadKind) (place : ℕ) → IsFaultOf bytes kind place
     → OpensBytes budget bytes (Err (Refused place (Read kind)))
-refuses budget bytes kind place fault (accepted q) (others, text, plain) = absurd (fault_apart bytes kind place q others fault text)
+refuses budget bytes kind place fault (accepted c) (others, text, plain, a) = absurd (fault_apart bytes kind place c.program others fault text)
 refuses budget bytes kind place fault (refused other (Read cause)) h =
     let same = fault_once bytes cause kind other place h fault in
     ap (λ (k : ReadKind). none (Unopened (Refused place (Read k)))) (sym same.0) ∙ ap (λ (n : ℕ). none (Unopened (Refused n (Read cause))))
@@ -62,7 +66,7 @@ unbuilt_refused budget p places place h = (
 )
 
 pub plain_opens : (budget : ℕ) (p : ProgramTerm) (places : List ℕ) (result : Result SeenWorld NoWorld) → IsPlain p
-    → Opens budget (accepted p) result
+    → Opens budget (accepted (typed_program p)) result
     → OpensProgram budget p places result
 plain_opens budget p places result plain o = (λ h. o, λ place h. absurd (h.0 plain))
 
@@ -77,8 +81,14 @@ readable_err A B bytes Memory h = tt
 readable_err A B bytes (Refused place refusal) h = h
 readable_err A B bytes OverBudget h = h
 
+-- a plain program that is written is accepted with the types that it gives
+typed_accepted : (p : ProgramTerm) → IsWritten p → IsPlain p → IsAccepted (typed_program p)
+typed_accepted p written plain =
+    plain_accepted (typed_program p) written (record { plain = plain; types = sym (plain_types_of p plain) })
+
 -- a program that the bytes have is plain, or has a first node that isn't built
-pub readable_program : (bytes : Text) (p : ProgramTerm) (places : List ℕ) → IsProgramText bytes p places
+pub readable_program : (bytes : Text) (p : ProgramTerm) (places : List ℕ) → IsProgramText bytes p places → IsWritten p
     → IsPlain p ⊎ ((place : ℕ) × IsBuilt p places (Some place)) → HasVerdict (Some bytes)
-readable_program bytes p places h (inl plain) = (accepted p, (places, h, plain))
-readable_program bytes p places h (inr (place, unbuilt)) = (refused place NotBuilt, (p, places, h, unbuilt))
+readable_program bytes p places h written (inl plain) =
+    (accepted (typed_program p), (places, h, plain, typed_accepted p written plain))
+readable_program bytes p places h written (inr (place, unbuilt)) = (refused place NotBuilt, (p, places, h, unbuilt))

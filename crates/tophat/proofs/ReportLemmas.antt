@@ -1,34 +1,35 @@
 -- A command has exactly one report.
-use Rattle.std.proofs.Common.{◌≡◌, ℕ, length, Option, None, Some, inl, inr, refl, sym, ◌∙◌, ap, subst, arith}
+use Rattle.std.proofs.Common.{◌≡◌, ℕ, List, length, Option, None, Some, inl, inr, refl, sym, ◌∙◌, ap, subst, arith}
 use Rattle.std.proofs.lemmas.Bool.Decides.{leb_tells}
 use Rattle.task_model.specs.Text.{Text}
 use Rattle.task_model.proofs.OutcomeLemmas.{Opens, opens, never_opens, opening_decided, opening_once}
 use Rattle.world_core.specs.World.{WorldTerm}
 use Rattle.line_frame.specs.Told.{Told}
 use Rattle.line_frame.specs.Script.{TellsScript}
+use Rattle.line_frame.specs.declared.finish.Finish.{Finish}
 use Rattle.tophat.specs.declared.ending.Ending.TheVariants.{Usage, Absent, FileTooLong, Unopened}
 use Rattle.tophat.specs.declared.no_world.NoWorld.TheVariants.{Refused, OverBudget}
 use Rattle.tophat.specs.Command.{CommandTerm, run}
 use Rattle.tophat.specs.Verdict.{Verdict, accepted, refused}
 use Rattle.tophat.specs.Session.{Tells}
-use Rattle.tophat.specs.Top.{Limits, Report, ends, reported, Opened, world, none, world_at, checked_of, OpensVerdict, OpensFile, ReportsOpened, Reports}
-use Rattle.tophat.proofs.SessionLemmas.{script_exists, script_once}
+use Rattle.tophat.specs.Top.{Limits, Report, ends, reported, Opened, world, none, world_at, OpensVerdict, OpensFile, ReportsOpened, Reports, ReportsLines}
+use Rattle.tophat.proofs.SessionLemmas.{script_exists, script_once, told_exists}
 
 -- ---- openings
 pub opens_once : (budget : ℕ) (verdict : Verdict) (o p : Opened) → OpensVerdict budget verdict o → OpensVerdict budget verdict p → o ≡ p
 opens_once budget (refused place refusal) o p d e = d ∙ sym e
 opens_once budget (accepted q) (world w) (world v) d e =
-    ap world (d.2 ∙ ap (world_at (checked_of q) budget) (opening_once (checked_of q) budget d.0 e.0 d.1 e.1) ∙ sym e.2)
+    ap world (d.2 ∙ ap (world_at q budget) (opening_once q budget d.0 e.0 d.1 e.1) ∙ sym e.2)
 opens_once budget (accepted q) (world w) (none ending) d e = absurd (e.0 d.0 d.1)
 opens_once budget (accepted q) (none ending) (world w) d e = absurd (d.0 e.0 e.1)
 opens_once budget (accepted q) (none ending) (none other) d e = ap none (d.1 ∙ sym e.1)
 
 opens_exists : (budget : ℕ) (verdict : Verdict) → (o : Opened) × OpensVerdict budget verdict o
 opens_exists budget (refused place refusal) = (none (Unopened (Refused place refusal)), refl)
-opens_exists budget (accepted p) = by (opening_decided (checked_of p) budget)
+opens_exists budget (accepted c) = by (opening_decided c budget)
   where
-    by : Opens (checked_of p) budget → (o : Opened) × OpensVerdict budget (accepted p) o
-    by (opens s o) = (world (world_at (checked_of p) budget s), (s, o, refl))
+    by : Opens c budget → (o : Opened) × OpensVerdict budget (accepted c) o
+    by (opens s o) = (world (world_at c budget s), (s, o, refl))
     by (never_opens never) = (none (Unopened OverBudget), (never, refl))
 
 -- ---- files
@@ -74,4 +75,14 @@ report_exists l (Some (run name budget)) file verdict script =
     let TellsAt : WorldTerm → Told → Type 0 = λ w told. TellsScript (Tells l.line w 1) l.script script told in
     let o = file_exists l.file budget file verdict in
     let r = opened_exists TellsAt (λ w. script_exists l.line l.script w script) o.0 in
+    (r.0, (o.0, o.1, r.1))
+
+-- the same of lines
+pub lines_reported : (l : Limits) (command : Option CommandTerm) (file : Option Text) (verdict : Verdict) (lines : List Text)
+    (finish : Finish)
+    → (r : Report) × ReportsLines l command file verdict lines finish r
+lines_reported l None file verdict lines finish = (ends Usage, refl)
+lines_reported l (Some (run name budget)) file verdict lines finish =
+    let o = file_exists l.file budget file verdict in
+    let r = opened_exists (λ w told. Tells l.line w 1 lines finish told) (λ w. told_exists l.line w 1 lines finish) o.0 in
     (r.0, (o.0, o.1, r.1))

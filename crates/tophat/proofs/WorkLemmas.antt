@@ -28,8 +28,8 @@ use Rattle.tophat.specs.Ending.{status_of}
 use Rattle.tophat.specs.Verdict.{Verdict, refused, IsVerdictOf, HasVerdict}
 use Rattle.tophat.specs.Session.{Tells}
 use Rattle.tophat.specs.Top.{Limits, Report, ends, reported, Opened, world, none, OpensVerdict, OpensFile, ReportsOpened, Reports}
-use Rattle.tophat.specs.Went.{Heard}
-use Rattle.tophat.specs.Worked.{IsFile, Writes, HasVerdictAt, HasVerdictAfter, Worked, Opens, OpensBytes}
+use Rattle.tophat.specs.Went.{Heard, Counted, NoneFailed, FailedBy, file_faults_after, input_faults_after, output_faults_after}
+use Rattle.tophat.specs.Worked.{IsFile, IfRan, Writes, HasVerdictAt, HasVerdictAfter, Worked, Opens, OpensBytes}
 use Rattle.tophat.proofs.ReportLemmas.{file_once}
 
 -- ---- what was written of a report
@@ -92,16 +92,20 @@ over_readable bytes lt = (refused 1048576 (Read reads.TooLong), (lt, refl))
 -- nothing was read or written
 worked_still : (l : Limits) (command : Option CommandTerm) (holds : Option (Option Text)) (left out : Option Text) (ending : Ending)
     (file : Option Text)
-    → IsFile holds file → HasVerdictAt ending file → (ending ≡ Ran finishes.ReadFault → ⊥)
+    → IsFile holds file → HasVerdictAt ending file → ((fact : Finish → Type 0) → IfRan ending fact)
     → ((verdict : Verdict) → IsVerdictOf file verdict → (script : Text) (report : Report) → Reports l command file verdict script report
     → Writes report [] ending)
     → Worked l command holds left left out out ending
-worked_still l command holds left out ending file is verdict_is other comes =
+worked_still l command holds left out ending file is verdict_is not_run comes =
     let s = known_script left in
+    let other : (finish : Finish) → ending ≡ Ran finish → ⊥ =
+    λ finish e. subst (λ (z : Ending). IfRan z (λ f. ⊥)) e (not_run (λ f. ⊥)) in
     record {
       file = file;
       script = s.0;
       read = [];
+      earlier = [];
+      last = [];
       written = [];
       file_told = is;
       script_told = s.1;
@@ -110,14 +114,17 @@ worked_still l command holds left out ending file is verdict_is other comes =
       took = Appends-nil out;
       verdict_is = verdict_is;
       comes = λ verdict h report d. comes verdict h s.0 report d;
-      answered = λ e. absurd (other e);
+      answered = λ e. absurd (other finishes.ReadFault e);
+      pieces = not_run _;
+      in_time = λ verdict h report d. not_run _;
+      ran_out = λ e. absurd (other finishes.Memory e);
     }
 
 -- words outside the grammar
 pub worked_usage : (l : Limits) (holds : Option (Option Text)) (left out : Option Text) → Worked l None holds left left out out Usage
 worked_usage l holds left out =
     let k = known_file holds in
-    worked_still l None holds left out Usage k.0 k.1 tt (λ e. absurd (cc)) (λ verdict h script report d. d)
+    worked_still l None holds left out Usage k.0 k.1 tt (λ fact. tt) (λ verdict h script report d. d)
 
 module _ (l : Limits) (name : Text) (budget : ℕ) (holds : Option (Option Text)) where
   -- there is no such file, and any verdict is one of it
@@ -125,7 +132,7 @@ module _ (l : Limits) (name : Text) (budget : ℕ) (holds : Option (Option Text)
       → Worked l (Some (run name budget)) holds left left out out Absent
   worked_absent left out f =
       worked_still l (Some (run name budget)) holds left out Absent None (found_absent holds l.file f) (refused 0 NotBuilt, tt)
-      (λ e. absurd (cc))
+      (λ fact. tt)
       (λ verdict h script report d. end_reported _ d.0 Absent report d.1 d.2)
 
   pub worked_over : (left out : Option Text) → 1048576 ≤ l.file → AnswersFile holds l.file TooLong
@@ -133,7 +140,7 @@ module _ (l : Limits) (name : Text) (budget : ℕ) (holds : Option (Option Text)
   worked_over left out le f =
       let p = found_over holds l.file f in
       let lt = p.1 in
-      worked_still l (Some (run name budget)) holds left out FileTooLong (Some p.0) p.2 (over_readable p.0 (omega arith)) (λ e. absurd (cc))
+      worked_still l (Some (run name budget)) holds left out FileTooLong (Some p.0) p.2 (over_readable p.0 (omega arith)) (λ fact. tt)
       (λ verdict h script report d. end_reported _ d.0 FileTooLong report
       (file_once l.file budget (Some p.0) verdict d.0 (none FileTooLong) d.1 (inr (lt, refl))) d.2)
 
@@ -141,13 +148,13 @@ module _ (l : Limits) (name : Text) (budget : ℕ) (holds : Option (Option Text)
   pub worked_fault : (left out : Option Text) → Worked l (Some (run name budget)) holds left left out out FileFault
   worked_fault left out =
       let k = known_file holds in
-      worked_still l (Some (run name budget)) holds left out FileFault k.0 k.1 tt (λ e. absurd (cc))
+      worked_still l (Some (run name budget)) holds left out FileFault k.0 k.1 tt (λ fact. tt)
       (λ verdict h script report d. (report.output, refl))
 
   pub worked_memory : (left out : Option Text) → Worked l (Some (run name budget)) holds left left out out (Unopened Memory)
   worked_memory left out =
       let k = known_file holds in
-      worked_still l (Some (run name budget)) holds left out (Unopened Memory) k.0 k.1 tt (λ e. absurd (cc))
+      worked_still l (Some (run name budget)) holds left out (Unopened Memory) k.0 k.1 tt (λ fact. tt)
       (λ verdict h script report d. (report.output, refl))
 
   module _ (bytes : Rowed ℕ) (found : AnswersFile holds l.file (Bytes bytes)) (within : length bytes.list ≤ l.file) where
@@ -176,7 +183,7 @@ module _ (l : Limits) (name : Text) (budget : ℕ) (holds : Option (Option Text)
         → Worked l (Some (run name budget)) holds left left out out (Unopened why)
     worked_unopened left out why o verdict_is =
         worked_still l (Some (run name budget)) holds left out (Unopened why) (Some bytes.list) (found_bytes holds l.file bytes found)
-        (readable_at why verdict_is) (λ e. absurd (cc))
+        (readable_at why verdict_is) (λ fact. tt)
         (λ verdict h script report d. no_world why verdict script report (o verdict h) d)
 
     -- at the world of the bytes
@@ -199,6 +206,8 @@ module _ (l : Limits) (name : Text) (budget : ℕ) (holds : Option (Option Text)
       file = Some bytes.list;
       script = d.script;
       read = d.read;
+      earlier = d.earlier;
+      last = d.last;
       written = d.written;
       file_told = found_bytes holds l.file bytes found;
       script_told = d.told;
@@ -213,6 +222,29 @@ module _ (l : Limits) (name : Text) (budget : ℕ) (holds : Option (Option Text)
           let t = at_world w _ verdict r.0 report (o verdict h) r.1 r.2 in
           let fault : finish ≡ finishes.ReadFault = cc in
           t.2 ∙ ap reported (d.answered fault t.0 t.1) ∙ ap (λ (z : Finish). record { output = d.written; ending = Ran z }) (sym fault);
+      pieces = d.pieces;
+      in_time = λ verdict h report r.
+          let t = at_world w _ verdict r.0 report (o verdict h) r.1 r.2 in
+          let i = d.in_time t.0 t.1 in (
+            ap (λ (z : Report). z.ending) t.2 ∙ ap Ran i.0,
+            subst (λ (z : Text). IsStart z d.written) (sym (ap (λ (z : Report). z.output) t.2)) i.1,
+          );
+      ran_out = λ e.
+          let want : finish ≡ finishes.Memory = cc in
+          let out = d.ran_out want in
+          record {
+            lines = out.lines;
+            line = out.line;
+            behind = out.behind;
+            stream = out.stream;
+            each = out.each;
+            no_lf = out.no_lf;
+            as_read = out.as_read;
+            within = out.within;
+            done = λ verdict h report r.
+                let t = at_world w _ verdict r.0 report (o verdict h) r.1 r.2 in
+                t.2 ∙ ap reported (out.done t.0 t.1);
+          };
     }
 
 -- ---- ends
@@ -243,3 +275,52 @@ is_usage (Unopened (Refused place refusal)) e = absurd (omega arith)
 is_usage (Unopened OverBudget) e = absurd (omega arith)
 is_usage (Unopened Memory) e = absurd (omega arith)
 is_usage ending e = absurd (omega arith)
+
+-- at an end by no fault none failed
+none_failed : (code status : ℕ) (files input out : Counted) → status ≡ code → (code ≡ 5 → ⊥) → (code ≡ 6 → ⊥) → NoneFailed files
+    → NoneFailed input → NoneFailed out → FailedBy status files input out
+none_failed code status files input out s no_5 no_6 f i o = record {
+  five = λ e. absurd (no_5 (sym s ∙ e));
+  six = λ e. absurd (no_6 (sym s ∙ e));
+  other = λ a b. (f, i, o);
+}
+
+-- the counts by the end are the counts by its status
+pub failed_by : (ending : Ending) (status : ℕ) (files input out : Counted) → status ≡ status_of ending
+    → files.now ≡ file_faults_after files.before ending → input.now ≡ input_faults_after input.before ending
+    → out.now ≡ output_faults_after out.before ending → FailedBy status files input out
+failed_by FileFault status files input out s f i o = record {
+  five = λ e. inl (f, i, o);
+  six = λ e. absurd (omega (arith, s, e));
+  other = λ a b. absurd (a s);
+}
+failed_by (Ran finishes.ReadFault) status files input out s f i o = record {
+  five = λ e. inr (f, i, o);
+  six = λ e. absurd (omega (arith, s, e));
+  other = λ a b. absurd (a s);
+}
+failed_by (Ran finishes.WriteFault) status files input out s f i o = record {
+  five = λ e. absurd (omega (arith, s, e));
+  six = λ e. (f, i, o);
+  other = λ a b. absurd (b s);
+}
+failed_by Usage status files input out s f i o =
+    none_failed 2 status files input out s (λ e. omega (arith, e)) (λ e. omega (arith, e)) f i o
+failed_by Absent status files input out s f i o =
+    none_failed 7 status files input out s (λ e. omega (arith, e)) (λ e. omega (arith, e)) f i o
+failed_by FileTooLong status files input out s f i o =
+    none_failed 7 status files input out s (λ e. omega (arith, e)) (λ e. omega (arith, e)) f i o
+failed_by (Unopened (Refused place refusal)) status files input out s f i o =
+    none_failed 1 status files input out s (λ e. omega (arith, e)) (λ e. omega (arith, e)) f i o
+failed_by (Unopened OverBudget) status files input out s f i o =
+    none_failed 4 status files input out s (λ e. omega (arith, e)) (λ e. omega (arith, e)) f i o
+failed_by (Unopened Memory) status files input out s f i o =
+    none_failed 8 status files input out s (λ e. omega (arith, e)) (λ e. omega (arith, e)) f i o
+failed_by (Ran finishes.Done) status files input out s f i o =
+    none_failed 0 status files input out s (λ e. omega (arith, e)) (λ e. omega (arith, e)) f i o
+failed_by (Ran (finishes.Bad line column)) status files input out s f i o =
+    none_failed 3 status files input out s (λ e. omega (arith, e)) (λ e. omega (arith, e)) f i o
+failed_by (Ran finishes.InputTooLong) status files input out s f i o =
+    none_failed 7 status files input out s (λ e. omega (arith, e)) (λ e. omega (arith, e)) f i o
+failed_by (Ran finishes.Memory) status files input out s f i o =
+    none_failed 8 status files input out s (λ e. omega (arith, e)) (λ e. omega (arith, e)) f i o

@@ -1,15 +1,14 @@
 -- What a command reports: what it writes and how it ends, by its file, the program there and the script.
-use Rattle.std.specs.Prelude.{ℕ, ◌≡◌, ◌<◌, ◌≤◌, ◌⊎◌, [], ◌∷◌, length, replicate, Option, None, Some}
+use Rattle.std.specs.Prelude.{ℕ, ◌≡◌, ◌<◌, ◌≤◌, ◌⊎◌, List, [], ◌∷◌, length, Option, None, Some}
 use Rattle.task_model.specs.Text.{Text}
-use Rattle.task_model.specs.Basic.{int_type}
 use Rattle.task_model.specs.Tree.{State}
 use Rattle.task_model.specs.Item.{opened}
-use Rattle.task_model.specs.Program.{ProgramTerm}
-use Rattle.task_model.specs.Checked.{CheckedTerm, defs_nodes}
+use Rattle.task_model.specs.Checked.{CheckedTerm}
 use Rattle.task_model.specs.State.{IsOpening}
 use Rattle.world_core.specs.World.{WorldTerm}
 use Rattle.line_frame.specs.Told.{Told}
 use Rattle.line_frame.specs.Script.{TellsScript, cut_of}
+use Rattle.line_frame.specs.declared.finish.Finish.{Finish}
 use Rattle.line_frame.specs.declared.finish.Finish.TheVariants.{ReadFault}
 use Rattle.tophat.specs.declared.ending.Ending.{Ending}
 use Rattle.tophat.specs.declared.ending.Ending.TheVariants.{Usage, Absent, FileTooLong, Unopened, Ran}
@@ -41,10 +40,6 @@ abbrev pub reported : Told → Report
 reported told = record { output = told.output; ending = Ran told.finish }
 
 -- ---- openings
--- a plain program with the types of its `edit` nodes
-abbrev pub checked_of : ProgramTerm → CheckedTerm
-checked_of p = record { program = p; types = replicate (defs_nodes p p.defs) int_type }
-
 -- the world at an opening
 abbrev pub world_at : CheckedTerm → ℕ → State → WorldTerm
 world_at c budget s = record { checked = c; budget = budget; history = opened c.program budget ∷ []; state = s }
@@ -57,9 +52,8 @@ pub data Opened : Type 0 where
 -- what is read comes to the world at the opening's state, if there is one
 abbrev pub OpensVerdict : ℕ → Verdict → Opened → Type 0
 OpensVerdict budget (refused place refusal) o = o ≡ none (Unopened (Refused place refusal))
-OpensVerdict budget (accepted p) (world w) = (s : State) × IsOpening (checked_of p) budget s × (w ≡ world_at (checked_of p) budget s)
-OpensVerdict budget (accepted p) (none ending) =
-    ((s : State) → IsOpening (checked_of p) budget s → ⊥) × (ending ≡ Unopened OverBudget)
+OpensVerdict budget (accepted c) (world w) = (s : State) × IsOpening c budget s × (w ≡ world_at c budget s)
+OpensVerdict budget (accepted c) (none ending) = ((s : State) → IsOpening c budget s → ⊥) × (ending ≡ Unopened OverBudget)
 
 -- the same of a file, if it is there and within the limit
 abbrev pub OpensFile : ℕ → ℕ → Option Text → Verdict → Opened → Type 0
@@ -84,7 +78,11 @@ abbrev pub Reports : Limits → Option CommandTerm → Option Text → Verdict �
 Reports l command file verdict script report =
     ReportsCommand l command file verdict (λ w told. TellsScript (Tells l.line w 1) l.script script told) report
 
+-- this is reported of these lines, where they end so if none of them ends the run before
+abbrev pub ReportsLines : Limits → Option CommandTerm → Option Text → Verdict → List Text → Finish → Report → Type 0
+ReportsLines l command file verdict lines finish report =
+    ReportsCommand l command file verdict (λ w told. Tells l.line w 1 lines finish told) report
+
 -- this is reported of the lines that end within the bytes that were read, where nothing but a fault of reading ends the run
 abbrev pub ReportsRead : Limits → Option CommandTerm → Option Text → Verdict → Text → Report → Type 0
-ReportsRead l command file verdict read report =
-    ReportsCommand l command file verdict (λ w told. Tells l.line w 1 (cut_of read).lines ReadFault told) report
+ReportsRead l command file verdict read report = ReportsLines l command file verdict (cut_of read).lines ReadFault report

@@ -2,7 +2,8 @@
 use Rattle.std.specs.Prelude.{ℕ, List, Option, None, Some}
 use Rattle.task_model.specs.Text.{Text}
 use Rattle.task_model.specs.Program.{ProgramTerm}
-use Rattle.task_model.specs.Accepted.{IsPlain}
+use Rattle.task_model.specs.Checked.{CheckedTerm}
+use Rattle.task_model.specs.Accepted.{IsPlain, IsAccepted}
 use Rattle.task_model.specs.ProgramText.{IsProgramText}
 use Rattle.program_grammar.specs.Faults.{IsFaultOf}
 use Rattle.tophat.specs.declared.refusal.Refusal.{Refusal}
@@ -10,14 +11,15 @@ use Rattle.tophat.specs.declared.refusal.Refusal.TheVariants.{Read, NotBuilt}
 use Rattle.task_reader.specs.Built.{IsBuilt}
 
 pub data Verdict : Type 0 where
-  accepted : ProgramTerm → Verdict
+  -- a program with the types that it gives
+  accepted : CheckedTerm → Verdict
   -- at this byte
   refused : ℕ → Refusal → Verdict
 
--- The bytes have this program, and it is plain; or they have this first fault; or they have a program that isn't plain, and this is the
+-- The bytes have this program, which is accepted with these types, and it is plain; or they have this first fault; or they have a program that isn't plain, and this is the
 -- place of its first node that isn't built.
 abbrev pub IsVerdict : Text → Verdict → Type 0
-IsVerdict bytes (accepted p) = (places : List ℕ) × IsProgramText bytes p places × IsPlain p
+IsVerdict bytes (accepted c) = (places : List ℕ) × IsProgramText bytes c.program places × IsPlain c.program × IsAccepted c
 IsVerdict bytes (refused place (Read kind)) = IsFaultOf bytes kind place
 IsVerdict bytes (refused place NotBuilt) = (p : ProgramTerm) × (places : List ℕ) × IsProgramText bytes p places
     × IsBuilt p places (Some place)

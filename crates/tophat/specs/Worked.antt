@@ -4,10 +4,11 @@ use Rattle.std.specs.Io.KnownBytes.{Appends, Consumes}
 use Rattle.outer_io.specs.Sink.{IsStart}
 use Rattle.task_model.specs.Text.{Text}
 use Rattle.task_model.specs.Program.{ProgramTerm}
-use Rattle.task_model.specs.Accepted.{IsPlain}
+use Rattle.task_model.specs.Accepted.{IsPlain, typed_program}
 use Rattle.task_reader.specs.Built.{IsBuilt}
 use Rattle.world_core.specs.World.{SeenWorld, world_term}
-use Rattle.line_frame.specs.Drove.{Drove, IsTold}
+use Rattle.line_frame.specs.RanOut.{RanOut}
+use Rattle.line_frame.specs.Drove.{Drove, IsRead, IsTold}
 use Rattle.line_frame.specs.declared.finish.Finish.{Finish}
 use Rattle.line_frame.specs.declared.finish.Finish.TheVariants as finishes
 use Rattle.tophat.specs.declared.ending.Ending.{Ending}
@@ -18,7 +19,7 @@ use Rattle.tophat.specs.declared.refusal.Refusal.TheVariants.{NotBuilt}
 use Rattle.tophat.specs.Command.{CommandTerm}
 use Rattle.tophat.specs.Verdict.{Verdict, accepted, refused, IsVerdict, IsVerdictOf, HasVerdict}
 use Rattle.tophat.specs.Session.{Tells}
-use Rattle.tophat.specs.Top.{Limits, Report, world, none, OpensVerdict, Reports, ReportsRead}
+use Rattle.tophat.specs.Top.{Limits, Report, world, none, OpensVerdict, Reports, ReportsLines, ReportsRead}
 
 -- the known file is this
 abbrev pub IsFile : Option (Option Text) → Option Text → Type 0
@@ -42,14 +43,29 @@ HasVerdictAt FileFault file = ⊤
 HasVerdictAt (Unopened Memory) file = ⊤
 HasVerdictAt ending file = HasVerdict file
 
+-- a fact of how the script ended, where its lines were run
+abbrev pub IfRan : Ending → (Finish → Type 0) → Type 0
+IfRan (Ran finish) fact = fact finish
+IfRan ending fact = ⊤
+
+-- all that is reported of these lines, where want of memory ends them, is this text
+abbrev pub AreReported : Limits → Option CommandTerm → Option Text → Text → List Text → Type 0
+AreReported l command file written lines =
+    (verdict : Verdict) → IsVerdictOf file verdict → (report : Report) → ReportsLines l command file verdict lines finishes.Memory report
+    → report ≡ record { output = written; ending = Ran finishes.Memory }
+
 -- The file and the script are those that the objects told, where they tell, and the file has a verdict. What was written is what is
 -- reported by them and by the file's program, and the end is the reported one; or it is the first part of that, and the end is a fault or
--- want of memory. After a fault of the input it is the whole output of the lines that end within the bytes that were read.
+-- want of memory. After a fault of the input it is the whole output of the lines that end within the bytes that were read. Where lines
+-- were run, none of those that had ended before the last read is bad, and all that is reported of them was written. Memory ran out at no
+-- line that is beyond the limit.
 pub record Worked (l : Limits) (command : Option CommandTerm) (holds : Option (Option Text))
     (left_old left_new taken_old taken_new : Option Text) (ending : Ending) : Type 0 where
   pub file : Option Text
   pub script : Text
   pub read : Text
+  pub earlier : Text
+  pub last : Text
   pub written : Text
   pub file_told : IsFile holds file
   pub script_told : IsTold left_old script
@@ -61,6 +77,10 @@ pub record Worked (l : Limits) (command : Option CommandTerm) (holds : Option (O
       → Writes report written ending
   pub answered : ending ≡ Ran finishes.ReadFault → (verdict : Verdict) → IsVerdictOf file verdict → (report : Report)
       → ReportsRead l command file verdict read report → report ≡ record { output = written; ending = ending }
+  pub pieces : IfRan ending (λ finish. IsRead l.script read earlier last finish)
+  pub in_time : (verdict : Verdict) → IsVerdictOf file verdict → (report : Report) → ReportsRead l command file verdict earlier report
+      → IfRan ending (λ finish. (report.ending ≡ Ran finishes.ReadFault) × IsStart report.output written)
+  pub ran_out : ending ≡ Ran finishes.Memory → RanOut (AreReported l command file written) l.script read
 
 -- a fact where no line of the script was run
 abbrev pub IfNotRun : Ending → Type 0 → Type 0
@@ -81,7 +101,7 @@ OpensBytes budget bytes result = (verdict : Verdict) → IsVerdict bytes verdict
 -- the same of a program that was read, with its places
 abbrev pub OpensProgram : ℕ → ProgramTerm → List ℕ → Result SeenWorld NoWorld → Type 0
 OpensProgram budget p places result =
-    (IsPlain p → Opens budget (accepted p) result)
+    (IsPlain p → Opens budget (accepted (typed_program p)) result)
     × ((place : ℕ) → IsBuilt p places (Some place) → Opens budget (refused place NotBuilt) result)
 
 -- the bytes have a verdict, unless memory ran out

@@ -3,16 +3,19 @@ ghost use Rattle.task_model.specs.Basic.{BasicTerm, basic_term, int_type};
 ghost use Rattle.task_model.specs.Task.{task_term};
 ghost use Rattle.task_model.specs.Program.{program_term};
 ghost use Rattle.task_model.specs.Checked.{checked_term, nodes_in, defs_nodes};
-ghost use Rattle.task_model.specs.Accepted.{symbols_of, PlainType, IsPlain};
-ghost use Rattle.tophat.specs.Top.{checked_of};
+ghost use Rattle.task_model.specs.Accepted.{PlainType, IsPlain, IsPlainChecked, typed_program};
+ghost use Rattle.task_model.specs.TypeParts.{symbols_of};
+ghost use Rattle.task_model.specs.Written.{IsWritten};
 
 use std::alloc::Global;
 use task_model::{Basic, Checked, DefBody, OutOfMemory, Program, Row, Task};
 
-/// A plain program with the types of its `edit` nodes, each of which is int.
+/// A plain program with the types that it gives its `edit` nodes, each of which is int.
 pub(crate) fn check(alloc: Global, program: Program) -> Result<Checked, OutOfMemory>
-    requires { IsPlain (program_term program) }
-    ensures { IfOk result (λ c. checked_term c ≡ checked_of (program_term program)) }
+    requires plain { IsPlain (program_term program) }
+    requires written { IsWritten (program_term program) }
+    ensures typed { IfOk result (λ c. checked_term c ≡ typed_program (program_term program)) }
+    ensures plain { IfOk result (λ c. IsPlainChecked (checked_term c)) }
 {
     let types = ints(alloc, count_program(&program))?;
     Ok(Checked::of(program, types))

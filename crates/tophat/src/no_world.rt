@@ -10,7 +10,7 @@ use outer_io::{Sink, Written, write_all, write_four};
 
 /// Why the bytes of a program have no world.
 #[derive(Debug, Drop)]
-pub(crate) enum NoWorld {
+pub enum NoWorld {
     /// The program is refused, at this byte of its file.
     Refused { place: u64, refusal: Refusal },
     /// The opening has no state within the budget.

@@ -1,6 +1,7 @@
 ghost use Rattle.std.specs.Prelude.{◌≡◌, ◌⊎◌, ℕ, Some};
 ghost use Rattle.task_model.specs.Program.{program_term};
-ghost use Rattle.task_model.specs.Accepted.{IsPlain};
+ghost use Rattle.task_model.specs.Accepted.{IsPlain, typed_program};
+ghost use Rattle.task_model.specs.Written.{IsWritten};
 ghost use Rattle.task_model.specs.State.{IsBudget};
 ghost use Rattle.task_reader.specs.Built.{IsBuilt};
 ghost use Rattle.tophat.specs.Verdict.{accepted};
@@ -15,8 +16,9 @@ use task_model::{OutOfMemory, Program, Steps};
 use task_reader::{Read, ReadStop, built, read_program};
 use world_core::{OpenStop, World};
 
-/// Opens the program of these bytes within this budget.
-pub(crate) fn open_bytes<L: Ledger>(
+/// Opens the program of these bytes within a budget of 1 to 1,000,000 units, or says why they have no world: the first fault of their text, the
+/// first node that isn't built yet, an opening over the budget, or want of memory.
+pub fn open_bytes<L: Ledger>(
     alloc: Global,
     bytes: &[u8],
     budget: u32,
@@ -43,7 +45,8 @@ fn open_read<L: Ledger>(
     budget: u32,
     steps: &mut Steps<L>,
 ) -> Result<World, NoWorld>
-    requires { IsBudget budget }
+    requires budget { IsBudget budget }
+    requires written { IsWritten (program_term read.program) }
     ensures opened { OpensProgram budget (program_term read.program) read.places.list result }
     ensures decided { IsPlain (program_term read.program) ⊎ ((place : ℕ) × IsBuilt (program_term read.program) read.places.list (Some place)) }
 {
@@ -64,8 +67,9 @@ fn open_program<L: Ledger>(
     steps: &mut Steps<L>,
 ) -> Result<World, NoWorld>
     requires plain { IsPlain (program_term program) }
+    requires written { IsWritten (program_term program) }
     requires budget { IsBudget budget }
-    ensures { Opens budget (accepted (program_term program)) result }
+    ensures { Opens budget (accepted (typed_program (program_term program))) result }
 {
     let checked = match check(alloc, program) {
         Ok(checked) => checked,

@@ -9,7 +9,7 @@ use task_syntax::{LexKind, ReadKind};
 
 /// Why a program is refused.
 #[derive(Debug, Drop)]
-pub(crate) enum Refusal {
+pub enum Refusal {
     /// No program was read.
     Read(ReadKind),
     /// The program isn't plain, and others can't be run yet.

@@ -2,7 +2,7 @@ ghost use Rattle.std.specs.Prelude.{◌≡◌, ◌⊎◌, MatchOption};
 ghost use Rattle.outer_io.specs.Causes.{Rose};
 ghost use Rattle.tophat.specs.Command as commands;
 ghost use Rattle.tophat.specs.Top.{limits};
-ghost use Rattle.tophat.specs.Went.{Went};
+ghost use Rattle.tophat.specs.Went.{FailedBy, Went};
 ghost use Rattle.tophat.specs.Promise.{Promised};
 
 use crate::command::{command_of, named};
@@ -42,6 +42,10 @@ pub fn tophat<F: Files, I: Source, O: Sink, E: Sink>(
     // A fault is answered only where a count rose.
     ensures read_fault { result ≡ 5 → Rose (F.faults files.old) (F.faults files.new) ⊎ Rose (I.faults input.old) (I.faults input.new) }
     ensures write_fault { result ≡ 6 → Rose (O.faults out.old) (O.faults out.new) }
+
+    // A call that fails ends the run, and no other end hides it: at 5 one request or read failed, at 6 one write, and else none.
+    ensures faults { FailedBy result (record { before = F.faults files.old; now = F.faults files.new })
+        (record { before = I.faults input.old; now = I.faults input.new }) (record { before = O.faults out.old; now = O.faults out.new }) }
 {
     let asked = command_of(words);
     let ending = work::<F, I, O, Brand>(alloc, &asked, files, input, out, Blank::new(1));

@@ -1,10 +1,12 @@
-ghost use Rattle.std.specs.Prelude.{◌≡◌, ◌<◌, Some, Ok, option_map, IfErr, IfNone, IfSome};
+ghost use Rattle.std.specs.Prelude.{◌≡◌, ◌<◌, Some, Ok, option_map, IfErr, IfOk, IfNone, IfSome};
 ghost use Rattle.outer_io.specs.Causes.{Rose};
 ghost use Rattle.task_model.specs.State.{IsBudget};
 ghost use Rattle.tophat.specs.Command as commands;
 ghost use Rattle.tophat.specs.Command.{command_term, HasBudget};
 ghost use Rattle.tophat.specs.Top.{limits};
 ghost use Rattle.tophat.specs.Worked.{Worked, IfNotRun, RunsBytes, HasVerdictAfter};
+ghost use Rattle.tophat.specs.Went.{file_faults_after, input_faults_after, output_faults_after};
+ghost use Rattle.line_frame.specs.RunFaults.{read_faults_after_run, write_faults_after_run};
 ghost use Rattle.line_frame.specs.declared.finish.Finish.TheVariants as finishes;
 ghost use Rattle.tophat.specs.declared.ending.Ending.TheVariants as endings;
 
@@ -40,6 +42,9 @@ pub(crate) fn work<F: Files, I: Source, O: Sink, L: Ledger>(
     ensures file_failed { result ≡ endings.FileFault → Rose (F.faults files.old) (F.faults files.new) }
     ensures read_failed { result ≡ endings.Ran finishes.ReadFault → Rose (I.faults input.old) (I.faults input.new) }
     ensures write_failed { result ≡ endings.Ran finishes.WriteFault → Rose (O.faults out.old) (O.faults out.new) }
+    ensures file_count { F.faults files.new ≡ file_faults_after (F.faults files.old) result }
+    ensures input_count { I.faults input.new ≡ input_faults_after (I.faults input.old) result }
+    ensures output_count { O.faults out.new ≡ output_faults_after (O.faults out.old) result }
 {
     match asked {
         Some(Command::Run { name, budget }) => run(
@@ -73,6 +78,9 @@ fn run<F: Files, I: Source, O: Sink, L: Ledger>(
     ensures file_failed { result ≡ endings.FileFault → Rose (F.faults files.old) (F.faults files.new) }
     ensures read_failed { result ≡ endings.Ran finishes.ReadFault → Rose (I.faults input.old) (I.faults input.new) }
     ensures write_failed { result ≡ endings.Ran finishes.WriteFault → Rose (O.faults out.old) (O.faults out.new) }
+    ensures file_count { F.faults files.new ≡ file_faults_after (F.faults files.old) result }
+    ensures input_count { I.faults input.new ≡ input_faults_after (I.faults input.old) result }
+    ensures output_count { O.faults out.new ≡ output_faults_after (O.faults out.old) result }
 {
     match files.read_whole(alloc, name, PROGRAM_BYTE_LIMIT as u64) {
         FileAnswer::Bytes(bytes) => {
@@ -103,6 +111,8 @@ fn run_bytes<I: Source, O: Sink, L: Ledger>(
     ensures not_run { IfErr result (λ _. (input.new ≡ input.old) × (out.new ≡ out.old)) }
     ensures read_failed { result ≡ Ok finishes.ReadFault → Rose (I.faults input.old) (I.faults input.new) }
     ensures write_failed { result ≡ Ok finishes.WriteFault → Rose (O.faults out.old) (O.faults out.new) }
+    ensures read_count { IfOk result (λ finish. I.faults input.new ≡ read_faults_after_run (I.faults input.old) finish) }
+    ensures write_count { IfOk result (λ finish. O.faults out.new ≡ write_faults_after_run (O.faults out.old) finish) }
 {
     match open_bytes(alloc, bytes, budget, &mut steps) {
         Ok(world) => {

@@ -1,20 +1,33 @@
-//! Reads one source over and over, so that bench/run can time it. The words: what is read, its size, and how often.
+//! Reads one source over and over, so that bench/run can time it. The words: what is read, its size, and how often. With no words it says
+//! what the check of the program on the standard input comes to.
 #![tactic(auto)]
 
+mod checked_programs;
 mod programs;
 mod work;
 
+use std::io::Read;
 use std::{env, io};
+use task_model::OutOfMemory;
+use typed_programs::checked_text;
 use work::Work;
 
 fn main(rt: HostRuntime) -> io::Result<()> {
     let mut words = env::args(&rt)?.skip(1);
-    let (Some(work), Some(size), Some(times)) = (words.next(), words.next(), words.next()) else {
+    let Some(work) = words.next() else {
+        let mut source = Vec::new(rt.alloc());
+        rt.stdin().read_to_end(&mut source)?;
+        return match checked_text(rt.alloc(), source.as_slice()) {
+            Ok(text) => print!(rt; "{}", text.as_str()),
+            Err(OutOfMemory) => rt.println("workbench: out of memory"),
+        };
+    };
+    let (Some(size), Some(times)) = (words.next(), words.next()) else {
         return rt.println("workbench: the words are what is read, its size, and how often");
     };
     let Some(work) = Work::named(work.as_str()) else {
         return rt.println(
-            "workbench: the first word is text, list, tokens, program, parameters, parameter, definitions or parentheses",
+            "workbench: the first word is text, list, tokens, program, parameters, parameter, definitions, parentheses, small, deep or names",
         );
     };
     let (Ok(size), Ok(times)) = (

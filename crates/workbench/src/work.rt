@@ -1,4 +1,6 @@
+use crate::checked_programs::{deep_of, names_of, small_of};
 use crate::programs::{definitions_of, parameter_of, parameters_of, parentheses_of, program_of};
+use host_types::check;
 use literal_text::read_any;
 use std::alloc::{AllocError, Global};
 use task_reader::read_program;
@@ -23,6 +25,12 @@ pub(crate) enum Work {
     Definitions,
     /// So many parentheses, which are no program.
     Parentheses,
+    /// A program of so many definitions, which is checked too.
+    Small,
+    /// A program of 95 lists of so many numbers, one inside the next, which is checked too.
+    Deep,
+    /// A program of so many look-ups of the outermost of 200 names, which is checked too.
+    Names,
 }
 
 impl Work {
@@ -36,6 +44,9 @@ impl Work {
             "parameter" => Some(Work::Parameter),
             "definitions" => Some(Work::Definitions),
             "parentheses" => Some(Work::Parentheses),
+            "small" => Some(Work::Small),
+            "deep" => Some(Work::Deep),
+            "names" => Some(Work::Names),
             _ => None,
         }
     }
@@ -50,6 +61,9 @@ impl Work {
             Work::Parameter => parameter_of(alloc, size),
             Work::Definitions => definitions_of(alloc, size),
             Work::Parentheses => parentheses_of(alloc, size),
+            Work::Small => small_of(alloc, size),
+            Work::Deep => deep_of(alloc, size),
+            Work::Names => names_of(alloc, size),
         }
     }
 
@@ -69,8 +83,17 @@ impl Work {
             Work::Text | Work::List => read_any(alloc, source.as_bytes()).is_ok(),
             Work::Tokens => lex(alloc, source).is_ok(),
             Work::Parentheses => read_program(alloc, source.as_bytes()).is_err(),
+            Work::Small | Work::Deep | Work::Names => is_checked(alloc, source),
             _ => read_program(alloc, source.as_bytes()).is_ok(),
         }
+    }
+}
+
+// Whether the program is read and accepted.
+fn is_checked(alloc: Global, source: &str) -> bool {
+    match read_program(alloc, source.as_bytes()) {
+        Ok(read) => check(alloc, read.program).is_ok(),
+        Err(_) => false,
     }
 }
 

@@ -16,8 +16,10 @@ use Rattle.task_model.specs.Checked.{CheckedTerm, checked_term}
 use Rattle.task_model.specs.Judgements.{Normal}
 use Rattle.task_model.specs.Spends.{Spends}
 use Rattle.task_model.specs.Outcome.{IsTaken}
-use Rattle.task_model.specs.Accepted.{symbols_of, main_name}
-use Rattle.task_model.specs.State.{IsOpening, IsState, IsLegal, IsTerminal, IsSeat, HaveSeats, version_of}
+use Rattle.task_model.specs.TypeParts.{symbols_of}
+use Rattle.task_model.specs.Program.{main_name}
+use Rattle.task_model.specs.Accepted.{IsAccepted, typed_program}
+use Rattle.task_model.specs.State.{IsOpening, IsReached, IsState, IsLegal, IsTerminal, IsEntry, AreEntries, version_of}
 use Rattle.task_model.specs.declared.tree.Tree.{Tree}
 use Rattle.task_model.specs.declared.input.Entry.{Entry}
 use Rattle.task_model.specs.declared.item.Item.{Item}
@@ -46,28 +48,28 @@ pub few_nodes : (t : TreeTerm) → IsSmallTree t → tree_nodes t ≤ 64
 few_nodes t s = let e = plain_nodes t s.type s.plain in let l = s.small in omega arith
 
 -- ---- histories
-pub seats_more : (items : List ItemTerm) (e : EntryTerm) → HaveSeats items → IsSeat e.seat → HaveSeats (items ++ took e ∷ [])
-seats_more [] e h s = (s, tt)
-seats_more (opened p b ∷ items) e h s = absurd h
-seats_more (took a ∷ items) e h s = (h.0, seats_more items e h.1 s)
+pub entries_more : (items : List ItemTerm) (e : EntryTerm) → AreEntries items → IsEntry e → AreEntries (items ++ took e ∷ [])
+entries_more [] e h s = (s, tt)
+entries_more (opened p b ∷ items) e h s = absurd h
+entries_more (took a ∷ items) e h s = (h.0, entries_more items e h.1 s)
 
-pub version_length : (items : List ItemTerm) → HaveSeats items → version_of items ≡ length items
+pub version_length : (items : List ItemTerm) → AreEntries items → version_of items ≡ length items
 version_length [] h = refl
 version_length (opened p b ∷ items) h = absurd h
 version_length (took a ∷ items) h = ap suc (version_length items h.1)
 
 pub standing_version : (w : WorldTerm) → IsStanding w → length w.history ≡ suc (version_of w.history)
-standing_version w s = ap length s.begins ∙ ap suc (sym (version_length s.entries s.seats)) ∙ ap (λ h. suc (version_of h)) (sym s.begins)
+standing_version w s = ap length s.begins ∙ ap suc (sym (version_length s.entries s.valid)) ∙ ap (λ h. suc (version_of h)) (sym s.begins)
 
 -- ---- one entry more
-pub standing_more : (w : WorldTerm) (e : EntryTerm) (t : State) → IsStanding w → IsSeat e.seat
+pub standing_more : (w : WorldTerm) (e : EntryTerm) (t : State) → IsStanding w → IsEntry e
     → IsTaken w.checked w.budget w.state e.input t → IsStanding (with_entry w e t)
-standing_more w e t s seat d = record {
+standing_more w e t s entry d = record {
   accepted = s.accepted;
   budget = s.budget;
   entries = s.entries ++ took e ∷ [];
   begins = ap (λ h. h ++ took e ∷ []) s.begins;
-  seats = seats_more s.entries e s.seats seat;
+  valid = entries_more s.entries e s.valid entry;
   reached = (s.reached.0, s.reached.1, lead_to_more w.checked w.budget s.entries s.reached.0 w.state t (took e) s.reached.2 (t, d, refl));
 }
 
@@ -80,16 +82,27 @@ opening_never view c budget old new Over bu bh e p s o = let w = o.3 in let wu =
 opening_never view c budget old new Memory bu bh e p s o = absurd (cc)
 
 -- ---- what a standing world shows
+-- the types of an accepted program are those that it gives
+typed_alone : (c : CheckedTerm) → IsAccepted c → c ≡ typed_program c.program
+typed_alone c a = ap (λ types. record { program = c.program; types = types }) a.types
+
+standing_typed : (w : WorldTerm) (s : IsStanding w) → IsAccepted (typed_program w.checked.program)
+    × IsReached (typed_program w.checked.program) w.budget s.entries w.state
+standing_typed w s =
+    let e = typed_alone w.checked s.accepted in
+    (subst IsAccepted e s.accepted, subst (λ c. IsReached c w.budget s.entries w.state) e s.reached)
+
 pub standing_state : (w : WorldTerm) → IsStanding w → IsState w.history w.state
-standing_state w s = subst (λ h. IsState h w.state) (sym s.begins) (w.checked.types, s.accepted, s.reached)
+standing_state w s = subst (λ h. IsState h w.state) (sym s.begins) (standing_typed w s)
 
 pub standing_legal : (w : WorldTerm) → IsStanding w → IsLegal w.history
-standing_legal w s = subst IsLegal (sym s.begins) (s.budget, s.seats, (w.state, (w.checked.types, s.accepted, s.reached)))
+standing_legal w s = subst IsLegal (sym s.begins) (s.budget, s.valid, (w.state, standing_typed w s))
 
 pub standing_terminal : (w : WorldTerm) (seat : ℕ) (text : Text) → IsStanding w → IsWorldPage w seat text → IsTerminal w.history seat text
 standing_terminal w seat text s p =
+    let widgets = subst (λ c. AreWidgets c w.budget w.state.tree w.state.store p.0) (typed_alone w.checked s.accepted) p.1 in
     subst (λ h. IsTerminal h seat text) (sym s.begins)
-    (p.0, (w.checked.types, w.state, s.accepted, s.reached, p.1), p.2 ∙ ap (λ h. page_text (version_of h) seat p.0) s.begins)
+    (p.0, (w.state, (standing_typed w s).0, (standing_typed w s).1, widgets), p.2 ∙ ap (λ h. page_text (version_of h) seat p.0) s.begins)
 
 -- a text that is the page of any widgets of the tree is the world's page
 pub page_of : (w : WorldTerm) (seat version : ℕ) (text : Text) → version ≡ version_of w.history
@@ -136,7 +149,7 @@ module _ (w : SeenWorld) (history : List Item) (tree : Tree) (e : Entry) where
   refuses act_stops.Over p a = (a.0 (checked_term w.checked) (map value_term w.store), same_world p a.1)
   refuses act_stops.Memory p a = same_world p a
 
-  module _ (k : IsKept w) (seat : IsSeat e.seat) (p : history ≡ w.history ++ item_kinds.Took e ∷ [])
+  module _ (k : IsKept w) (entry : IsEntry (entry_term e)) (p : history ≡ w.history ++ item_kinds.Took e ∷ [])
       (a : Acts (tree_term w.tree) w.budget (input_term e.input) (tree_term tree) (Ok tt)) where
     taken_here : IsTaken (checked_term w.checked) w.budget (world_term w).state (input_term e.input)
         (at (tree_term tree) (map value_term w.store))
@@ -144,7 +157,7 @@ module _ (w : SeenWorld) (history : List Item) (tree : Tree) (e : Entry) where
 
     grown_standing : IsStanding (world_term (world_with w history tree))
     grown_standing = subst IsStanding (sym (grown_world p))
-        (standing_more (world_term w) (entry_term e) (at (tree_term tree) (map value_term w.store)) k.standing seat taken_here)
+        (standing_more (world_term w) (entry_term e) (at (tree_term tree) (map value_term w.store)) k.standing entry taken_here)
 
     pub keeps : ((b : BasicTerm) → PlainTree (tree_term w.tree) b → PlainTree (tree_term tree) b) → IsKept (world_with w history tree)
     keeps plain = record {

@@ -7,7 +7,8 @@ use Rattle.task_model.specs.Host.{HostTerm, int_expr}
 use Rattle.task_model.specs.Task.{TaskTerm}
 use Rattle.task_model.specs.Tree.{TreeTerm, edit_tree, enter_tree, share_tree, then_tree, next_tree, fail_tree, and_tree, or_tree, xor_tree}
 use Rattle.task_model.specs.Checked.{CheckedTerm, nodes_of}
-use Rattle.task_model.specs.Accepted.{PlainType, symbols_of}
+use Rattle.task_model.specs.Accepted.{PlainType}
+use Rattle.task_model.specs.TypeParts.{symbols_of}
 use Rattle.task_model.specs.declared.input.Turn.{Turn}
 use Rattle.task_model.specs.declared.input.Turn.TheVariants as turns
 

@@ -10,7 +10,7 @@ use Rattle.task_model.specs.Outcome.{IsOutcome, taken, not_offered, over_budget}
 use Rattle.task_model.specs.Widget.{WidgetTerm, AreWidgets}
 use Rattle.task_model.specs.Page.{page_text}
 use Rattle.task_model.specs.Accepted.{IsAccepted}
-use Rattle.task_model.specs.State.{IsReached, IsBudget, HaveSeats, version_of}
+use Rattle.task_model.specs.State.{IsReached, IsBudget, AreEntries, version_of}
 use Rattle.task_model.specs.declared.value.Value.{Value}
 use Rattle.task_model.specs.declared.tree.Tree.{Tree}
 use Rattle.task_model.specs.declared.item.Item.{Item}
@@ -41,14 +41,14 @@ world_term w = record {
   state = at (tree_term w.tree) (map value_term w.store);
 }
 
--- The history begins with the opening of the accepted program within the budget, entries of seats follow, and the state is the
+-- The history begins with the opening of the accepted program within the budget, entries follow, and the state is the
 -- history's.
 pub record IsStanding (w : WorldTerm) : Type 0 where
   pub accepted : IsAccepted w.checked
   pub budget : IsBudget w.budget
   pub entries : List ItemTerm
   pub begins : w.history ≡ opened w.checked.program w.budget ∷ entries
-  pub seats : HaveSeats entries
+  pub valid : AreEntries entries
   pub reached : IsReached w.checked w.budget entries w.state
 
 -- a world where one entry more was taken, which led to this state

@@ -1,8 +1,9 @@
-ghost use Rattle.std.specs.Prelude.{◌≡◌, IfOk};
+ghost use Rattle.std.specs.Prelude.{◌≡◌, IfOk, OnOk};
 ghost use Rattle.task_model.specs.Basic.{BasicTerm, basic_term};
 ghost use Rattle.task_model.specs.Value.{value_term};
 ghost use Rattle.task_model.specs.Tree.{tree_term, edit_tree};
 ghost use Rattle.task_model.specs.Input.{input_term};
+ghost use Rattle.task_model.specs.Held.{IsHeldAct};
 ghost use Rattle.task_model.specs.PlainTree.{PlainTree};
 ghost use Rattle.world_core.specs.Acting.{Judges, Acts};
 
@@ -17,6 +18,7 @@ use task_model::{
 pub(crate) fn act(tree: &mut Tree, budget: u32, input: &Input) -> Result<(), ActStop>
     requires { (b : BasicTerm) × PlainTree (tree_term tree.old) b }
     ensures acts { Acts (tree_term tree.old) budget (input_term input.now) (tree_term tree.new) result }
+    ensures held { OnOk result (IsHeldAct (input_term input.now).act) }
     ensures plain { (b : BasicTerm) → PlainTree (tree_term tree.old) b → PlainTree (tree_term tree.new) b }
 {
     let node = judge(tree, input)?;
@@ -34,7 +36,8 @@ pub(crate) fn act(tree: &mut Tree, budget: u32, input: &Input) -> Result<(), Act
 // The node that an input puts in its place.
 fn judge(tree: &Tree, input: &Input) -> Result<Tree, ActStop>
     requires { (b : BasicTerm) × PlainTree (tree_term tree.now) b }
-    ensures { Judges (tree_term tree.now) (input_term input.now) result }
+    ensures judges { Judges (tree_term tree.now) (input_term input.now) result }
+    ensures held { OnOk result (IsHeldAct (input_term input.now).act) }
 {
     let Act::Set(v) = &input.act else {
         return Err(ActStop::NotOffered);

@@ -9,7 +9,8 @@ ghost use Rattle.task_model.specs.Checked.{CheckedTerm, checked_term, nodes_of, 
 ghost use Rattle.task_model.specs.Plan.{gives_value, evaluates};
 ghost use Rattle.task_model.specs.Rules.{evaluate_rule};
 ghost use Rattle.task_model.specs.Calls.{RunsJudgement, RunsPlan};
-ghost use Rattle.task_model.specs.Accepted.{PlainType, main_name, IsAccepted};
+ghost use Rattle.task_model.specs.Accepted.{PlainType, IsPlainChecked};
+ghost use Rattle.task_model.specs.Program.{main_name};
 ghost use Rattle.task_model.specs.PlainTree.{PlainTree, IsSmallTree};
 ghost use Rattle.world_core.specs.InnerTree.{IsNumberExpression, HasNumber, IsInt, IsSmallTask, plain_env, MayEvaluate};
 
@@ -18,7 +19,7 @@ use task_model::{Checked, DefBody, Host, Purse, Stop, Task, Tree, Value, boxed, 
 
 /// The tree of the call `main()`, by its rule.
 pub(crate) fn call_main(alloc: Global, c: &Checked, purse: &mut Purse) -> Result<Tree, Stop>
-    requires { IsAccepted (checked_term c.now) }
+    requires { IsPlainChecked (checked_term c.now) }
     ensures height { OnOk result (purse.new.height ≡ purse.old.height) }
     ensures plain { IfOk result (λ t. IsSmallTree (tree_term t)) }
     ensures asked { (σ : List ValueTerm) →
@@ -36,7 +37,7 @@ pub(crate) fn call_main(alloc: Global, c: &Checked, purse: &mut Purse) -> Result
 
 // The task of the program's one definition.
 fn main_task(c: &Checked) -> &Task
-    requires { IsAccepted (checked_term c.now) }
+    requires { IsPlainChecked (checked_term c.now) }
     ensures named { task_named (checked_term c.now).program main_name ≡ Some (record { params = []; task = task_term result.now; first = 0 }) }
     ensures may { MayEvaluate (checked_term c.now) (task_term result.now) 0 }
     ensures small { IsSmallTask (task_term result.now) }

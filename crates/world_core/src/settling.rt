@@ -10,7 +10,8 @@ ghost use Rattle.task_model.specs.Rules.{stride_rule};
 ghost use Rattle.task_model.specs.Judgements.{Settles, Normal};
 ghost use Rattle.task_model.specs.Spends.{Spends};
 ghost use Rattle.task_model.specs.Calls.{RunsJudgement, RunsPlan};
-ghost use Rattle.task_model.specs.Accepted.{main_name, IsAccepted};
+ghost use Rattle.task_model.specs.Accepted.{IsPlainChecked};
+ghost use Rattle.task_model.specs.Program.{main_name};
 ghost use Rattle.task_model.specs.PlainTree.{PlainTree, IsSmallTree};
 
 use crate::evaluation::call_main;
@@ -19,7 +20,7 @@ use task_model::{Checked, Purse, Stop, Tree};
 
 /// The tree of `main()`, evaluated and settled in the empty store.
 pub(crate) fn open_tree(alloc: Global, c: &Checked, purse: &mut Purse) -> Result<Tree, Stop>
-    requires { IsAccepted (checked_term c.now) }
+    requires { IsPlainChecked (checked_term c.now) }
     ensures plain { IfOk result (λ t. IsSmallTree (tree_term t)) }
     ensures spends { Spends (Normal (checked_term c.now) (call_task main_name []) empty_env []) (λ t. at (tree_term t) []) purse.old purse.new result }
 {
@@ -35,7 +36,7 @@ pub(crate) fn settle(t: &Tree, purse: &mut Purse) -> Result<(), Stop>
 }
 
 fn normal_at(alloc: Global, c: &Checked, purse: &mut Purse) -> Result<Tree, Stop>
-    requires { IsAccepted (checked_term c.now) }
+    requires { IsPlainChecked (checked_term c.now) }
     ensures plain { IfOk result (λ t. IsSmallTree (tree_term t)) }
     ensures asked { RunsJudgement (checked_term c.now) (normal (call_task main_name []) empty_env []) (λ t. at (tree_term t) []) purse.old purse.new result }
 {

@@ -4,6 +4,7 @@ ghost use Rattle.task_model.specs.Tree.{tree_term, State, at};
 ghost use Rattle.task_model.specs.Input.{input_term};
 ghost use Rattle.task_model.specs.Item.{opened, history_term};
 ghost use Rattle.task_model.specs.Checked.{checked_term};
+ghost use Rattle.task_model.specs.Accepted.{IsPlainChecked};
 ghost use Rattle.task_model.specs.State.{IsOpening, IsState, IsLegal, IsTerminal, IsSeat, IsBudget, version_of};
 ghost use Rattle.task_model.specs.PlainTree.{IsSmallTree};
 ghost use Rattle.world_core.specs.InnerTree.{tree_nodes};
@@ -59,7 +60,8 @@ impl World {
         budget: u32,
         _steps: &mut Steps<L>,
     ) -> Result<World, OpenStop>
-        requires { IsBudget budget }
+        requires budget { IsBudget budget }
+        requires plain { IsPlainChecked (checked_term c) }
         ensures program { IfOk result (λ w. checked_term w.checked ≡ checked_term c) }
         ensures budget { IfOk result (λ w. w.budget ≡ budget) }
         ensures history { IfOk result (λ w. history_term w.history ≡ opened (checked_term c).program budget ∷ []) }
@@ -167,6 +169,7 @@ fn opening_item(alloc: Global, c: &Checked, budget: u32) -> Result<Row<Item>, Ou
 
 // The tree at the opening.
 fn opened_tree(alloc: Global, c: &Checked, budget: u32) -> Result<Tree, OpenStop>
+    requires { IsPlainChecked (checked_term c.now) }
     ensures ok { IfOk result (λ t. IsSmallTree (tree_term t) × IsOpening (checked_term c.now) budget (at (tree_term t) [])) }
     ensures over { IfErr result (λ stop. stop ≡ OpenStop.Over → (s : State) → IsOpening (checked_term c.now) budget s → ⊥) }
 {

@@ -1,22 +1,18 @@
 use Rattle.std.proofs.Common.{ℕ, List, refl, subst}
-use Rattle.line_frame.proofs.StandsLemmas.{stops_lf, stops_line, stands_line}
+use Rattle.line_frame.proofs.StandsLemmas.{stops_line, stands_line}
 use Rattle.line_frame.specs.Stands.{RunsLine, EndsAt}
 use Rattle.line_frame.proofs.lines.take_lf.Goals as goal
 
-pub returns-then-cursor-limit-clause-goes : goal.returns-then-cursor-limit-clause-goes
-returns-then-cursor-limit-clause-goes g c = λ start first bytes at. stops_lf at (g.met.M.Machine.no_lines c.args.machine.now)
-    c.if-cursor-limit.true
-
 pub returns-in-Some-clause-goes : goal.returns-in-Some-clause-goes
-returns-in-Some-clause-goes g c = λ start first bytes at.
-    stops_line at c.if-cursor-limit.false
+returns-in-Some-clause-goes g c = λ limit below behind start first begun bytes at.
+    stops_line at (g.met.M.Machine.no_lines c.args.machine.now) behind below
     (subst (λ (z : List ℕ). EndsAt (g.M.Machine.tells c.args.machine.now) (g.O.Sink.taken c.args.out.now)
     (g.O.Sink.taken c.end_line.new.out) g.M.Machine.LONGEST c.args.cursor.now.number z c.in-Some.finish) c.as_slice.ensures
     c.in-Some.ensures.line)
 
 pub returns-in-None-clause-goes : goal.returns-in-None-clause-goes
-returns-in-None-clause-goes g c = λ start first bytes at.
-    stands_line at _ c.if-cursor-limit.false refl refl c.truncate.ensures
+returns-in-None-clause-goes g c = λ limit below start first begun bytes at.
+    stands_line at _ below refl refl c.truncate.ensures
     (subst (λ (z : List ℕ). RunsLine (g.M.Machine.tells c.args.machine.now) (g.M.Machine.tells c.end_line.new.machine)
     (g.O.Sink.taken c.args.out.now) (g.O.Sink.taken c.end_line.new.out) g.M.Machine.LONGEST z) c.as_slice.ensures
     c.in-None.ensures.line)

@@ -1,45 +1,101 @@
-use Rattle.std.proofs.Common.{◌≡◌, ◌+◌, ◌<◌, ℕ, List, [], ◌∷◌, ◌++◌, get_or, take, drop, length, None, Some, sym, ◌∙◌, ap, arith}
-use Rattle.std.proofs.lemmas.List.{take_more, take-append-drop}
-use Rattle.line_frame.proofs.StandsLemmas.{stands_run, stops_leaving}
-use Rattle.line_frame.proofs.Going.{goes_stop, goes_then}
+use Rattle.std.proofs.Common.{◌≡◌, ◌+◌, ◌<◌, ◌≤◌, ℕ, zero, suc, List, [], ◌∷◌, ◌++◌, get_or, take, drop, length, None, Some, subst, sym, ◌∙◌, ap, arith, length-take, length-drop}
+use Rattle.std.proofs.lemmas.List.{take_more, take-append-drop, drop_more}
+use Rattle.line_frame.specs.RanOut.{IsBehindLine}
+use Rattle.line_frame.specs.Stands.{StopsRun}
+use Rattle.line_frame.specs.declared.finish.Finish.TheVariants.{Memory}
+use Rattle.line_frame.proofs.StandsLemmas.{stands_run, stops_long, stops_memory}
+use Rattle.line_frame.proofs.Going.{goes_then}
 use Rattle.line_frame.proofs.lines.take_line.Goals as goal
 
 -- the bytes of a line and its LF
 with_lf : (bytes : List ℕ) (n : ℕ) → n < length bytes → get_or bytes n 0 ≡ 10 → take n bytes ++ 10 ∷ [] ≡ take (n + 1) bytes
 with_lf bytes n lt lf = sym (take_more bytes n 0 lt ∙ ap (λ z. take n bytes ++ z ∷ []) lf)
 
+-- the bytes of a line, its LF and what stands behind it
+with_behind : (bytes : List ℕ) (n : ℕ) → n < length bytes → get_or bytes n 0 ≡ 10 → take n bytes ++ 10 ∷ drop (n + 1) bytes ≡ bytes
+with_behind bytes n lt lf =
+    ap (λ z. take n bytes ++ z) (sym (drop_more bytes n 0 lt ∙ ap (λ z. z ∷ drop (n + 1) bytes) lf)) ∙ take-append-drop n bytes
+
+-- behind the bytes of a line comes its LF, or nothing
+behind_line : (bytes : List ℕ) (n : ℕ) → (n < length bytes → get_or bytes n 0 ≡ 10) → IsBehindLine (drop n bytes)
+behind_line [] zero lf = tt
+behind_line [] (suc n) lf = tt
+behind_line (byte ∷ bytes) zero lf = lf (omega arith)
+behind_line (byte ∷ bytes) (suc n) lf = behind_line bytes n (λ lt. lf (omega arith))
+
+pub returns-then-taken-saturating_sub-clause-goes : goal.returns-then-taken-saturating_sub-clause-goes
+returns-then-taken-saturating_sub-clause-goes g c = λ start first begun bytes at.
+    let over = c.if-taken-saturating_sub.true in
+    let taken = c.min-taken.ensures in
+    let left = c.saturating_sub.ensures in
+    stops_long at (g.met.M.Machine.no_lines c.args.machine.now) c.run_length-run.result c.min-taken.result c.args.bytes.now
+    c.run_length-run.ensures.no_lf (omega arith) (omega arith) (omega arith)
+
 pub returns-in-Some-clause-goes : goal.returns-in-Some-clause-goes
-returns-in-Some-clause-goes g c =
-    let bytes = c.args.bytes.now in
-    goes_stop g.M.Machine.tells c.args.machine.now c.args.machine.now _ _ _ _ _ c.take_run.new.self _ _ _ _
-    (take-append-drop c.run_length-run.result bytes)
-    (λ start first bytes at. stops_leaving at (g.met.M.Machine.no_lines c.args.machine.now) _ _ c.run_length-run.ensures.no_lf
-    c.in-Some.ensures)
+returns-in-Some-clause-goes g c = λ start first begun bytes at.
+    let piece = c.args.bytes.now in
+    let run = c.run_length-run.result in
+    let fits = c.run_length-run.ensures.fits in
+    let under = c.if-taken-saturating_sub.false in
+    let taken = c.min-taken.ensures in
+    let left = c.saturating_sub.ensures in
+    let counted = at.counted in
+    let within = at.within in
+    let whole = g.M.Machine.tells start 1 in
+    let now = g.O.Sink.taken c.args.out.now in
+    subst (λ finish. StopsRun whole first now begun c.args.limit (bytes ++ piece) finish) (sym c.in-Some.ensures)
+    (subst (λ (z : List ℕ). StopsRun whole first now begun c.args.limit (bytes ++ z) Memory) (take-append-drop run piece)
+    (stops_memory at (g.met.M.Machine.no_lines c.args.machine.now) (take run piece) (drop run piece) c.run_length-run.ensures.no_lf
+    (behind_line piece run c.run_length-run.ensures.lf)
+    (omega (arith, length-take run piece, length-drop run piece, length-take 1 (drop run piece)))))
 
 pub returns-then-run-bytes-clause-goes : goal.returns-then-run-bytes-clause-goes
-returns-then-run-bytes-clause-goes g c = λ start first bytes at. stands_run at _ c.LONGEST.ensures c.run_length-run.ensures.no_lf
-    c.in_default.ensures
+returns-then-run-bytes-clause-goes g c = λ start first begun bytes at.
+    let run = c.run_length-run.result in
+    let fits = c.run_length-run.ensures.fits in
+    let under = c.if-taken-saturating_sub.false in
+    let taken = c.min-taken.ensures in
+    let left = c.saturating_sub.ensures in
+    let within = at.within in
+    stands_run at _ c.LONGEST.ensures c.run_length-run.ensures.no_lf (omega (arith, length-take run c.args.bytes.now)) c.in_default.ensures
 
 pub returns-in-Some-take_lf-clause-goes : goal.returns-in-Some-take_lf-clause-goes
-returns-in-Some-take_lf-clause-goes g c =
-    let bytes = c.args.bytes.now in
+returns-in-Some-take_lf-clause-goes g c = λ start first begun bytes at.
+    let piece = c.args.bytes.now in
     let run = c.run_length-run.result in
     let before = c.args.machine.now in
-    let later = c.take_lf.new.machine in
-    let lt : run < length bytes = omega arith in
-    goes_stop g.M.Machine.tells before later _ _ _ _ _ c.take_lf.new.cursor _ (take (run + 1) bytes) (drop (run + 1) bytes) _
-    (take-append-drop (run + 1) bytes)
-    (goes_then g.M.Machine.tells before before later _ (g.O.Sink.taken c.args.out.now) _ _ _ _ c.take_run.new.self c.take_lf.new.cursor
-    (Some c.in-Some-take_lf.finish) _ _ _ (with_lf bytes run lt (c.run_length-run.ensures.lf lt))
-    (λ start first bytes at. stands_run at _ c.LONGEST.ensures c.run_length-run.ensures.no_lf c.in_default.ensures)
-    c.in-Some-take_lf.ensures.goes)
+    let fits = c.run_length-run.ensures.fits in
+    let under = c.if-taken-saturating_sub.false in
+    let taken = c.min-taken.ensures in
+    let left = c.saturating_sub.ensures in
+    let within = at.within in
+    let whole = c.if-run-bytes.false in
+    let counted = c.in_default.ensures.counted in
+    let lt : run < length piece = omega arith in
+    let le : c.args.cursor.now.count + length (take run piece) ≤ c.args.limit = omega (arith, length-take run piece) in
+    let below : c.take_run.new.self.count < c.args.limit = omega (arith, length-take run piece) in
+    goes_then g.M.Machine.tells before before c.take_lf.new.machine _ (g.O.Sink.taken c.args.out.now) _ _ _ _ c.take_run.new.self
+    c.take_lf.new.cursor
+    (Some c.in-Some-take_lf.finish) _ _ _ (with_behind piece run lt (c.run_length-run.ensures.lf lt))
+    (λ start first begun bytes at. stands_run at _ c.LONGEST.ensures c.run_length-run.ensures.no_lf le c.in_default.ensures)
+    (c.in-Some-take_lf.ensures.goes c.args.limit below (drop (run + 1) piece)) start first begun bytes at
 
 pub returns-in-None-clause-goes : goal.returns-in-None-clause-goes
-returns-in-None-clause-goes g c =
-    let bytes = c.args.bytes.now in
+returns-in-None-clause-goes g c = λ start first begun bytes at.
+    let piece = c.args.bytes.now in
     let run = c.run_length-run.result in
     let before = c.args.machine.now in
-    let lt : run < length bytes = omega arith in
+    let fits = c.run_length-run.ensures.fits in
+    let under = c.if-taken-saturating_sub.false in
+    let taken = c.min-taken.ensures in
+    let left = c.saturating_sub.ensures in
+    let within = at.within in
+    let whole = c.if-run-bytes.false in
+    let counted = c.in_default.ensures.counted in
+    let lt : run < length piece = omega arith in
+    let le : c.args.cursor.now.count + length (take run piece) ≤ c.args.limit = omega (arith, length-take run piece) in
+    let below : c.take_run.new.self.count < c.args.limit = omega (arith, length-take run piece) in
     goes_then g.M.Machine.tells before before c.take_lf.new.machine _ (g.O.Sink.taken c.args.out.now) _ _ _ _ c.take_run.new.self
-    c.take_lf.new.cursor None _ _ _ (with_lf bytes run lt (c.run_length-run.ensures.lf lt))
-    (λ start first bytes at. stands_run at _ c.LONGEST.ensures c.run_length-run.ensures.no_lf c.in_default.ensures) c.in-None.ensures.goes
+    c.take_lf.new.cursor None _ _ _ (with_lf piece run lt (c.run_length-run.ensures.lf lt))
+    (λ start first begun bytes at. stands_run at _ c.LONGEST.ensures c.run_length-run.ensures.no_lf le c.in_default.ensures)
+    (c.in-None.ensures.goes c.args.limit below) start first begun bytes at

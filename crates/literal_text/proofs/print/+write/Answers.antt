@@ -5,7 +5,7 @@ use Rattle.task_model.specs.declared.value.Value as value
 use Rattle.task_model.specs.Value.{list_value, as_values, value_term}
 use Rattle.task_model.specs.Literal.{value_text}
 use Rattle.task_model.proofs.RowLemmas.{value_term-List}
-use Rattle.literal_text.specs.Prints.{IsHeld}
+use Rattle.task_model.specs.Held.{IsHeld}
 use Rattle.literal_text.proofs.print.+write.Goals as goal
 
 pub write_value-returns-in-List-clause-text : goal.write_value-returns-in-List-clause-text

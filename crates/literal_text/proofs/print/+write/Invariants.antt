@@ -3,7 +3,7 @@ use Rattle.std.specs.Prelude.{string_bytes}
 use Rattle.task_model.specs.Text.{Text}
 use Rattle.task_model.specs.Value.{ValueTerms, value_term, list_value, as_values}
 use Rattle.task_model.specs.Literal.{value_text, rest_text}
-use Rattle.literal_text.specs.Prints.{AreHeld}
+use Rattle.task_model.specs.Held.{AreHeld}
 use Rattle.literal_text.proofs.print.+write.Given as goal
 
 -- what is still to be written of a list

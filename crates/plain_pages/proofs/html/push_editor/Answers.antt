@@ -1,3 +1,4 @@
+use Rattle.std.specs.Prelude.{string_bytes}
 use Rattle.std.proofs.Common.{◌++◌, codes, ap, ◌∙◌}
 use Rattle.task_model.specs.Text.{Text}
 use Rattle.task_model.specs.Basic.{basic_term}
@@ -15,10 +16,10 @@ returns c =
     let line = paragraph (path ++ codes " " ++ c.args.word.now ++ codes " " ++ basic_text b) in
     let start = form_start path (codes "set") in
     let fields = editor_fields b c.args.shown.now in
-    let x = c.push_editor_line.new.text.list in
+    let x = string_bytes c.push_editor_line.new.text in
     let form = more x start fields c.in_ok-push_form.ensures c.in_ok-push_fields.ensures in
     on_ok c.push_button.result
-    (λ last. more c.args.text.now.list line (form_text path (codes "set") fields (codes "set")) c.in_ok-push_editor_line.ensures
+    (λ last. more (string_bytes c.args.text.now) line (form_text path (codes "set") fields (codes "set")) c.in_ok-push_editor_line.ensures
     (more x (start ++ fields) (form_end (codes "set")) form last
     ∙ ap (λ (l : Text). x ++ l) (form_parts path (codes "set") fields (codes "set"))))
     c.push_button.ensures

@@ -1,9 +1,11 @@
-use Rattle.std.proofs.Common.{◌≡◌, ◌++◌, length}
+use Rattle.std.proofs.Common.{◌≡◌, ◌++◌}
+use Rattle.std.specs.Prelude.{string_bytes}
+use Rattle.std.specs.Str.{encode_utf8_all}
 use Rattle.task_model.specs.Html.{html_escaped}
 use Rattle.plain_pages.proofs.html.push_entities.Given as goal
 
-abbrev pub invariant-loop-rest : goal.invariant-loop-rest
-invariant-loop-rest l = l.text.list ++ html_escaped l.rest ≡ l.initial.text.list ++ html_escaped l.bytes
-
-abbrev pub decreases-loop-rest : goal.decreases-loop-rest
-decreases-loop-rest l = length l.rest
+abbrev pub invariant-loop-character : goal.invariant-loop-character
+invariant-loop-character l = record {
+  written : string_bytes l.text ≡ string_bytes l.initial.text ++ html_escaped (encode_utf8_all l.yielded);
+  left : encode_utf8_all l.yielded ++ l.character-iterator.rest.now ≡ l.content;
+}

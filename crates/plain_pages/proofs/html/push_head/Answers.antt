@@ -1,10 +1,11 @@
+use Rattle.std.specs.Prelude.{string_bytes}
 use Rattle.std.proofs.Common.{◌++◌, codes, decimal}
 use Rattle.plain_pages.proofs.Pieces.{on_ok, more}
 use Rattle.plain_pages.proofs.html.push_head.Goals as goal
 
 pub returns : goal.returns
 returns c =
-    let t = c.args.text.now.list in
+    let t = string_bytes c.args.text.now in
     let numbers = codes "version " ++ decimal c.args.version ++ codes " seat " ++ decimal c.args.seat in
     on_ok c.push-2.result
     (λ last. more t (codes "<p>" ++ numbers) (codes "</p>\n")

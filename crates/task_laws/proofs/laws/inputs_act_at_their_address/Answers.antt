@@ -1,8 +1,7 @@
-use Rattle.std.proofs.Common.{None, subst, sym}
+use Rattle.std.proofs.Common.{subst, sym}
 use Rattle.task_model.specs.Plan.{plan_work, Derives}
 use Rattle.task_model.specs.Rules.{rule_of}
-use Rattle.task_model.specs.Work.{gives}
-use Rattle.task_laws.proofs.AddressLemmas.{acts_at_address, lacks_without_address}
+use Rattle.task_laws.proofs.AddressLemmas.{acts_at_address, lacks_without_address, turns_of_address}
 use Rattle.task_laws.proofs.laws.inputs_act_at_their_address.Goals as goal
 
 pub returns-clause-acts : goal.returns-clause-acts
@@ -14,3 +13,6 @@ returns-clause-lacking k = λ c t σ path act e r n h.
       (λ d. subst (λ p. plan_work (Derives (rule_of c)) p r n h) plan d),
       (λ d. subst (λ p. plan_work (Derives (rule_of c)) p r n h) (sym plan) d),
     )
+
+pub returns-clause-turns : goal.returns-clause-turns
+returns-clause-turns k = λ t σ path act a e. turns_of_address t σ path act a e

@@ -1,4 +1,4 @@
-use Rattle.std.proofs.Common.{◌≡◌, ◌∙◌, ◌<◌, ◌≤◌, ℕ, true, false, cond, length, map, refl, ap, sym, arith}
+use Rattle.std.proofs.Common.{◌≡◌, ◌∙◌, ◌<◌, ◌≤◌, ℕ, true, false, cond, length, map, refl, ap, sym, subst, arith}
 use Rattle.std.specs.Prelude.{nat_le}
 use Rattle.std.proofs.lemmas.Bool.Decides.{nat_tests}
 use Rattle.std.proofs.lemmas.List.{length-map}
@@ -6,8 +6,9 @@ use Rattle.std.specs.declared.alloc.Global.{Global}
 use Rattle.std.specs.declared.sync.Arc.{Arc}
 use Rattle.task_model.specs.Rowed.{Rowed}
 use Rattle.task_model.specs.Basic.{BasicTerm, list_type}
-use Rattle.task_model.specs.Value.{value_term, as_values, value_has, values_have}
+use Rattle.task_model.specs.Value.{value_term, list_value, as_values, value_has, values_have}
 use Rattle.task_model.specs.declared.value.Value as value
+use Rattle.task_model.specs.Held.{IsHeld}
 use Rattle.task_model.proofs.RowLemmas.{value_term-List, count_of-as_values}
 use Rattle.task_model.proofs.has.+has.Goals as goal
 
@@ -26,16 +27,23 @@ within n le = grind (arith, nat_tests)
 over : (n : ℕ) → 1024 < n → nat_le n 1024 ≡ false
 over n lt = grind (arith, nat_tests)
 
-pub value_has-returns-then-items-le-LIST_ELEMENT_LIMIT : goal.value_has-returns-then-items-le-LIST_ELEMENT_LIMIT
-value_has-returns-then-items-le-LIST_ELEMENT_LIMIT t c =
+pub value_has-returns-then-items-le-LIST_ELEMENT_LIMIT-clause-has : goal.value_has-returns-then-items-le-LIST_ELEMENT_LIMIT-clause-has
+value_has-returns-then-items-le-LIST_ELEMENT_LIMIT-clause-has t c =
     let items = c.as_slice-items.ensures ∙ ap (λ (r : Rowed value.Value). r.list) c.deref-in-List-List.ensures in
     let fits = within (length c.as_slice-items.result.now) c.if-items-le-LIST_ELEMENT_LIMIT.true in
     let item = c.deref-then-items-le-LIST_ELEMENT_LIMIT.ensures in
     rw (c.in-List-List.is-0, c.in-List-List.is-1)
-    (sym (list_has c.in-List-List.items _ ∙ rw (← items, fits, ← item) (sym c.values_have.ensures)))
+    (sym (list_has c.in-List-List.items _ ∙ rw (← items, fits, ← item) (sym c.values_have.ensures.has)))
 
-pub value_has-returns-else-items-le-LIST_ELEMENT_LIMIT : goal.value_has-returns-else-items-le-LIST_ELEMENT_LIMIT
-value_has-returns-else-items-le-LIST_ELEMENT_LIMIT t c =
+pub value_has-returns-else-items-le-LIST_ELEMENT_LIMIT-clause-has : goal.value_has-returns-else-items-le-LIST_ELEMENT_LIMIT-clause-has
+value_has-returns-else-items-le-LIST_ELEMENT_LIMIT-clause-has t c =
     let items = c.as_slice-items.ensures ∙ ap (λ (r : Rowed value.Value). r.list) c.deref-in-List-List.ensures in
     let many = over (length c.as_slice-items.result.now) c.if-items-le-LIST_ELEMENT_LIMIT.false in
     rw (c.in-List-List.is-0, c.in-List-List.is-1) (sym (list_has c.in-List-List.items _ ∙ rw (← items, many) refl))
+
+pub value_has-returns-then-items-le-LIST_ELEMENT_LIMIT-clause-held : goal.value_has-returns-then-items-le-LIST_ELEMENT_LIMIT-clause-held
+value_has-returns-then-items-le-LIST_ELEMENT_LIMIT-clause-held t c = λ yes.
+    let items = c.as_slice-items.ensures ∙ ap (λ (r : Rowed value.Value). r.list) c.deref-in-List-List.ensures in
+    let e = ap (λ l. list_value (as_values (map value_term l))) items ∙ sym (value_term-List c.in-List-List.items)
+    ∙ ap value_term (sym c.in-List-List.is-0) in
+    subst IsHeld e (c.values_have.ensures.held yes)

@@ -1,4 +1,4 @@
-use Rattle.tophat.proofs.ReportLemmas.{report_exists, report_once}
+use Rattle.tophat.proofs.ReportLemmas.{report_exists, report_once, lines_reported}
 use Rattle.tophat.proofs.laws.one_report.Goals as goal
 
 pub returns-clause-some : goal.returns-clause-some
@@ -6,3 +6,6 @@ returns-clause-some k = λ l command file verdict script. report_exists l comman
 
 pub returns-clause-one : goal.returns-clause-one
 returns-clause-one k = λ l command file verdict script one other d e. report_once l command file verdict script one other d e
+
+pub returns-clause-lines : goal.returns-clause-lines
+returns-clause-lines k = λ l command file verdict lines finish. lines_reported l command file verdict lines finish

@@ -21,7 +21,7 @@ pub returns-in-Ok-clause-verdict_is : goal.returns-in-Ok-clause-verdict_is
 returns-in-Ok-clause-verdict_is g c =
     readable_after c.args.bytes.now c.open_read.result
     (readable_program c.args.bytes.now (program_term c.in-Ok.read.program) c.in-Ok.read.places.list c.in-Ok.ensures.found
-    c.open_read.ensures.decided)
+    c.in-Ok.ensures.written c.open_read.ensures.decided)
 
 pub returns-in-Err-Fault-clause-verdict_is : goal.returns-in-Err-Fault-clause-verdict_is
 returns-in-Err-Fault-clause-verdict_is g c = (

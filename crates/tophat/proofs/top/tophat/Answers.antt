@@ -5,7 +5,7 @@ use Rattle.tophat.specs.Ending.{text_of}
 use Rattle.tophat.specs.Top.{limits}
 use Rattle.tophat.specs.Worked.{Worked}
 use Rattle.tophat.proofs.PromiseLemmas.{promised, usage_is}
-use Rattle.tophat.proofs.WorkLemmas.{heard, is_read_fault, is_write_fault}
+use Rattle.tophat.proofs.WorkLemmas.{heard, is_read_fault, is_write_fault, failed_by}
 use Rattle.tophat.proofs.top.tophat.Goals as goal
 
 pub returns-clause-went : goal.returns-clause-went
@@ -24,6 +24,9 @@ returns-clause-went g c =
       file_fault = c.work-ending.ensures.file_failed;
       read_fault = c.work-ending.ensures.read_failed;
       write_fault = c.work-ending.ensures.write_failed;
+      file_count = c.work-ending.ensures.file_count;
+      input_count = c.work-ending.ensures.input_count;
+      output_count = c.work-ending.ensures.output_count;
       not_run = c.work-ending.ensures.not_run;
     }
 
@@ -48,3 +51,7 @@ pub returns-clause-write_fault : goal.returns-clause-write_fault
 returns-clause-write_fault g c = λ e.
     let six : c.status.result ≡ 6 = cc in
     c.work-ending.ensures.write_failed (is_write_fault c.work-ending.result (sym c.status.ensures ∙ six))
+
+pub returns-clause-faults : goal.returns-clause-faults
+returns-clause-faults g c = failed_by c.work-ending.result _ _ _ _ c.status.ensures c.work-ending.ensures.file_count
+    c.work-ending.ensures.input_count c.work-ending.ensures.output_count

@@ -30,7 +30,7 @@ invariant_of-self-2 g c =
     }) c.push.new.self.list c.act.new.tree (record {
       seat = c.args.seat;
       input = c.args.input;
-    }) c.self.invariant c.requires
+    }) c.self.invariant (c.requires, c.in_ok-act.ensures.held)
     (c.in-Ok-push.ensures.ok ∙ ap (λ l. l ++ Took (record { seat = c.args.seat; input = c.args.input }) ∷ []) c.reserve.ensures.list)
     c.in_ok-act.ensures.acts c.in_ok-act.ensures.plain
 
@@ -50,6 +50,6 @@ returns g c =
     }) c.push.new.self.list c.act.new.tree (record {
       seat = c.args.seat;
       input = c.args.input;
-    }) c.self.invariant c.requires
+    }) c.self.invariant (c.requires, c.in_ok-act.ensures.held)
     (c.in-Ok-push.ensures.ok ∙ ap (λ l. l ++ Took (record { seat = c.args.seat; input = c.args.input }) ∷ []) c.reserve.ensures.list)
     c.in_ok-act.ensures.acts _ (omega arith))

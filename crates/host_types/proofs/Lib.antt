@@ -1,0 +1,13 @@
+pub mod BodyLemmas
+pub mod ListLemmas
+pub mod ScopeLemmas
+pub mod TypeLemmas
+pub mod Weights
+pub mod TypingLemmas
+pub mod MetLemmas
+pub mod TaskTypingLemmas
+pub mod TaskWithinLemmas
+pub mod WithinLemmas
+pub mod TaskMetLemmas
+pub mod CountLemmas
+pub mod CheckLemmas

@@ -1,0 +1,17 @@
+use Rattle.std.proofs.Common.{◌≡◌, ◌≤◌, drop, length, map}
+use Rattle.std.specs.Option.{option_map}
+use Rattle.std.specs.Str.{bytes_eq}
+use Rattle.indexmap.specs.IndexMap.{get_by}
+use Rattle.task_model.specs.Text.{Text}
+use Rattle.task_model.specs.Program.{def_term}
+use Rattle.task_model.specs.Names.{first_named}
+use Rattle.host_types.proofs.definitions.Definitions.new.Given as goal
+
+abbrev pub invariant-loop-left : goal.invariant-loop-left
+invariant-loop-left l =
+    (l.left ≤ length l.defs)
+    × ((f : Text) → get_by (λ k. bytes_eq f k.now) l.numbers ≡ option_map (λ d. d.index)
+    (first_named l.left (map def_term (drop l.left l.defs)) f))
+
+abbrev pub decreases-loop-left : goal.decreases-loop-left
+decreases-loop-left l = l.left

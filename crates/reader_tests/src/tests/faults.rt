@@ -1,0 +1,235 @@
+//! Where a text ends too early, and tokens in place of others.
+
+use super::{FUNCTION, TASK, assert_fault, assert_read, field};
+use std::process::Abort;
+use std::test::Fail;
+use task_reader::read_program;
+use task_syntax::{LexKind, ReadKind, ReadStop, lex};
+
+// The front of each production of definitions and types, and behind `@` what may stand there.
+const DEFINITIONS: &str = "fun@ f() : int = 1
+fun f@() : int = 1
+fun f(@) : int = 1
+fun f()@ : int = 1
+fun f() : int@ = 1
+fun f() : int =@ 1
+task@ f() : int = share r
+task f() : int =@ share r
+fun f(x :@ int) : int = 1
+fun f(x : ref@ int) : int = 1
+fun f(x : ref unit@) : int = 1
+fun f(x : bool@) : int = 1
+fun f(x : text,@ y : int) : int = 1
+fun f() : (int@, int) = 1
+fun f() : (int,@ int) = 1
+fun f() : (int, int)@ = 1
+fun f() : [@int] = 1
+fun f() : [int]@ = 1";
+
+// Each production of expressions, within parentheses.
+const EXPRESSIONS: &str = "let x = 1 in@ 1
+let x = 1 in 1@
+if true then 1 else@ 1
+if true then 1 else 1@
+case l of [] -> 1 | x :: y ->@ 1
+case l of [] -> 1 | x :: y -> 1@
+1 ||@ 1
+1 || 1@
+1 &&@ 1
+1 && 1@
+1 ==@ 1
+1 == 1@
+1 !=@ 1
+1 <@ 1
+1 <=@ 1
+1 >@ 1
+1 >=@ 1
+1 ::@ 1
+1 :: 1@
+1 +@ 1
+1 + 1@
+1 -@ 1
+1 ++@ 1
+1 *@ 1
+1 * 1@
+1 quot@ 1
+1 rem@ 1
+-@ 1
+- 1@
+not@ 1
+fst@ 1
+snd@ 1
+len@ 1
+1@
+\"a\"@
+true@
+false@
+()@
+x@
+!@r
+!r@
+f(@)
+f()@
+f(1,@ 1)
+(1)@
+(1,@ 1)
+(1, 1)@
+[@1]
+[1, 1]@
+nil@ int";
+
+// Each production of tasks, within parentheses.
+const TASKS: &str = "let x = 1 in@ share r
+let x = 1 in share r@
+if true then share r else@ share r
+if true then share r else share r@
+case l of [] -> share r | x :: y ->@ share r
+case l of [] -> share r | x :: y -> share r@
+new r = 1 in@ share r
+new r = 1 in share r@
+r := 1 ;@ share r
+r := 1 ; share r@
+share r >>=@ x . share r
+share r >>= x . share r@
+share r >>?@ x . share r
+share r >>? x . share r@
+share r <|>@ share r
+share r <|> share r@
+share r <?>@ share r
+share r <?> share r@
+share r <&>@ share r
+share r <&> share r@
+edit@ 1
+edit 1@
+enter@ int
+enter int@
+share@ r
+share r@
+fail@ int
+fail int@
+f(@)
+f()@
+f(1@)
+(share r)@";
+
+// A text that ends too early, and with what it wants.
+fn assert_cut(
+    rt: &(impl Abort + AllocGlobal),
+    head: &str,
+    row: &str,
+    end: &str,
+) -> Result<(), Fail> {
+    let (piece, rest) = field(row);
+    let early = format!(in rt.alloc(); "{head}{piece}")?;
+    let many = lex(rt.alloc(), early.as_str())?.list.as_slice().len();
+    let token = many as u64;
+    assert_fault(rt, early.as_str(), many, ReadKind::Unexpected { token })?;
+    let whole = format!(in rt.alloc(); "{head}{piece}{rest}{end}")?;
+    assert_read(rt, whole.as_str());
+    Ok(())
+}
+
+#[test]
+fn each_production_last(rt: HostRuntime) -> Result<(), Fail> {
+    for row in DEFINITIONS.split('\n') {
+        assert_cut(&rt, "", row, "")?;
+    }
+    let head = format!(in rt.alloc(); "{FUNCTION}(")?;
+    for row in EXPRESSIONS.split('\n') {
+        assert_cut(&rt, head.as_str(), row, ")")?;
+    }
+    let head = format!(in rt.alloc(); "{TASK}(")?;
+    for row in TASKS.split('\n') {
+        assert_cut(&rt, head.as_str(), row, ")")?;
+    }
+    Ok(())
+}
+
+// A program with most of the forms, its tokens with a space between each two.
+const PROGRAM: &str =
+    "fun f ( x : int , r : ref [ text ] ) : ( int , bool ) = case l of [ ] -> ( 1 , true ) | y :: z -> ( len z , not false ) task main ( ) : int = new r = nil int in enter int >>= x . ( edit x <&> share r <?> fail int )";
+
+// A token's number, what stands in its place, and the first faulty token, if there is one.
+const REPLACED: [(usize, &str, Option<usize>); 32] = [
+    (0, "let", Some(0)),
+    (3, ")", Some(6)),
+    (9, "(", Some(13)),
+    (12, ",", Some(12)),
+    (15, "[", Some(17)),
+    (20, "==", Some(20)),
+    (24, "(", Some(24)),
+    (28, "-", Some(29)),
+    (29, "+", None),
+    (29, "of", Some(29)),
+    (32, "||", Some(36)),
+    (34, "+", Some(34)),
+    (36, "::", Some(36)),
+    (44, "in", Some(44)),
+    (44, "+", Some(48)),
+    (51, "let", None),
+    (52, "(", Some(52)),
+    (54, "edit", Some(54)),
+    (57, "x", Some(58)),
+    (59, ":=", Some(59)),
+    (60, "1", Some(60)),
+    (61, "in", Some(61)),
+    (63, "enter", Some(64)),
+    (64, "!", Some(65)),
+    (65, "<?>", None),
+    (65, "*", Some(65)),
+    (67, "task", Some(67)),
+    (68, ";", Some(68)),
+    (70, "[", Some(71)),
+    (71, "]", Some(71)),
+    (71, "fun", Some(71)),
+    (71, ") +", Some(72)),
+];
+
+#[test]
+fn tokens_in_place_of_others(rt: HostRuntime) -> Result<(), Fail> {
+    for (at, word, fault) in REPLACED {
+        let mut source = String::new(rt.alloc());
+        for (number, token) in PROGRAM.split(' ').enumerate() {
+            if number == at {
+                source.push_str(word)?;
+            } else {
+                source.push_str(token)?;
+            }
+            source.push(' ')?;
+        }
+        match fault {
+            Some(token) => {
+                let kind = ReadKind::Unexpected {
+                    token: token as u64,
+                };
+                assert_fault(&rt, source.as_str(), token, kind)?;
+            }
+            None => assert_read(&rt, source.as_str()),
+        }
+    }
+    Ok(())
+}
+
+// The faults of a source before its grammar, by their bytes.
+#[test]
+fn sources_and_tokens(rt: HostRuntime) {
+    let table: [(&[u8], u64, ReadKind); 6] = [
+        (b"\xff", 0, ReadKind::NotUtf8),
+        (b"# \xc3\xa9\xc3", 4, ReadKind::NotUtf8),
+        (b"task @", 5, ReadKind::Lex(LexKind::BadChar)),
+        (b"task \"\\q", 6, ReadKind::Lex(LexKind::BadEscape)),
+        (b") \"", 2, ReadKind::Lex(LexKind::OpenText)),
+        (
+            b") 9223372036854775808",
+            2,
+            ReadKind::Lex(LexKind::WideNumber),
+        ),
+    ];
+    for (source, place, kind) in table {
+        assert_eq!(rt;
+            read_program(rt.alloc(), source).err(),
+            Some(ReadStop::Fault { place, kind }),
+            "{source:?}"
+        );
+    }
+}

@@ -1,0 +1,5 @@
+//! The top call on files, scripts and sinks in memory: tests alone.
+#![tactic(auto)]
+
+#[cfg(test)]
+mod tests;
