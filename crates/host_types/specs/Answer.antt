@@ -6,7 +6,6 @@ use Rattle.task_model.specs.Program.{ParamTerm, param_term}
 use Rattle.task_model.specs.declared.basic.Basic.{Basic}
 use Rattle.task_model.specs.declared.program.Def.{Def}
 use Rattle.task_model.specs.Names.{Numbered, CallsTerm, params_of, result_of}
-pub use Rattle.task_model.specs.TypeFault.{IsMet}
 use Rattle.task_model.specs.TypeFault.{TypeFaultTerm, Demands, first_fault, whole, wanted}
 use Rattle.task_model.specs.TypeKind.{type_kind_term}
 use Rattle.task_model.specs.FullTask.{FullTask}

@@ -1,6 +1,6 @@
 ghost use Rattle.std.specs.Prelude.{◌≡◌, ◌≤◌, ℕ, List, Option};
 ghost use Rattle.outer_io.specs.Causes.{Rose};
-ghost use Rattle.outer_io.specs.Files.{AnswersFile, IsWithin, KeepsFile, faults_after_request};
+ghost use Rattle.outer_io.specs.Files.{AnswersFile, HasAtMost, KeepsFile, faults_after_request};
 
 use std::alloc::Global;
 use task_model::{Row, TaskText};
@@ -27,7 +27,7 @@ pub trait Files {
     /// Reads a whole file of at most `limit` bytes.
     fn read_whole(&mut self, alloc: Global, name: &TaskText, limit: u64) -> FileAnswer
         ensures file { AnswersFile (holds self.old name.now) limit result }
-        ensures within { IsWithin limit result }
+        ensures within { HasAtMost limit result }
         ensures keeps { (other : List ℕ) → KeepsFile (holds self.old other) (holds self.new other) }
         ensures count { faults self.old ≤ faults self.new }
         ensures failed { result ≡ FileAnswer.Failed → Rose (faults self.old) (faults self.new) }

@@ -1,7 +1,7 @@
 ghost use Rattle.std.specs.Prelude.{◌≡◌, ◌≤◌, ◌↔◌, ℕ, List, IsTrue, Some};
 ghost use Rattle.outer_io.specs.Causes.{Rose};
 ghost use Rattle.outer_io.specs.FailingCalls.{fails_next, IsCounted};
-ghost use Rattle.outer_io.specs.Files.{AnswersFile, IsWithin, faults_after_request};
+ghost use Rattle.outer_io.specs.Files.{AnswersFile, HasAtMost, faults_after_request};
 ghost use Rattle.outer_io.specs.PlainFiles.{held};
 
 use crate::failing_calls::FailingCalls;
@@ -39,7 +39,7 @@ impl Files for MemFiles {
 
     fn read_whole(&mut self, alloc: Global, name: &TaskText, limit: u64) -> FileAnswer
         ensures file { AnswersFile (Some (file_of self.old.plain name.now)) limit result }
-        ensures within { IsWithin limit result }
+        ensures within { HasAtMost limit result }
         ensures keeps { self.new.plain ≡ self.old.plain }
         ensures count { self.old.plan.faults ≤ self.new.plan.faults }
         ensures failed { result ≡ FileAnswer.Failed → Rose self.old.plan.faults self.new.plan.faults }

@@ -1,5 +1,5 @@
 ghost use Rattle.std.specs.Prelude.{◌≡◌, ℕ, List, Some, option_map, option_copied};
-ghost use Rattle.outer_io.specs.Files.{AnswersFile, IsWithin};
+ghost use Rattle.outer_io.specs.Files.{AnswersFile, HasAtMost};
 ghost use Rattle.outer_io.specs.PlainFiles.{held};
 
 use crate::files::{FileAnswer, Files};
@@ -31,7 +31,7 @@ impl Files for PlainFiles {
 
     fn read_whole(&mut self, alloc: Global, name: &TaskText, limit: u64) -> FileAnswer
         ensures file { AnswersFile (Some (file_of self.old name.now)) limit result }
-        ensures within { IsWithin limit result }
+        ensures within { HasAtMost limit result }
         ensures keeps { self.new ≡ self.old }
         ensures told { result ≡ FileAnswer.Failed → ⊥ }
     {
@@ -60,7 +60,7 @@ fn find<'a>(names: &[TaskText], contents: &'a [Row<u8>], name: &TaskText) -> Opt
 // A file of these bytes, if they are few enough.
 fn whole(alloc: Global, bytes: &Row<u8>, limit: u64) -> FileAnswer
     ensures file { AnswersFile (Some (Some bytes.now.list)) limit result }
-    ensures within { IsWithin limit result }
+    ensures within { HasAtMost limit result }
     ensures told { result ≡ FileAnswer.Failed → ⊥ }
 {
     if bytes.as_slice().len() as u64 > limit {

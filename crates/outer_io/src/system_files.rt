@@ -1,6 +1,6 @@
 ghost use Rattle.std.specs.Prelude.{◌≡◌, ◌≢◌, ◌+◌, ◌≤◌, ◌↔◌, min, IfErr, IfOk, IfSome, IsErrAnd, None, Some, option_map};
 ghost use Rattle.std.specs.IoError.{error_kind};
-ghost use Rattle.outer_io.specs.Files.{AnswersFile, IsWithin};
+ghost use Rattle.outer_io.specs.Files.{AnswersFile, HasAtMost};
 
 use crate::files::{FileAnswer, Files};
 use crate::reader_source::read_some;
@@ -69,7 +69,7 @@ fn unless_interrupted<F: Drop>(opened: io::Result<F>) -> Option<io::Result<F>>
 // Reads a file that was opened. It is absent exactly where the system says that there is no such file.
 fn read_opened<F: Read + Drop>(alloc: Global, opened: io::Result<F>, limit: u64) -> FileAnswer
     ensures file { IfOk opened (λ file. AnswersFile (option_map Some (F.remaining file)) limit result) }
-    ensures within { IsWithin limit result }
+    ensures within { HasAtMost limit result }
     ensures absent { (result ≡ FileAnswer.Absent) ↔ IsErrAnd opened (λ error. error_kind error ≡ ErrorKind.NotFound) }
     ensures failed { IfErr opened (λ error. error_kind error ≢ ErrorKind.NotFound → result ≡ FileAnswer.Failed) }
 {
@@ -86,7 +86,7 @@ const ROOM: usize = 65536;
 /// Reads a file that was opened to its end, or to the first byte beyond the limit.
 pub fn read_file<F: Read>(alloc: Global, file: &mut F, limit: u64) -> FileAnswer
     ensures file { AnswersFile (option_map Some (F.remaining file.old)) limit result }
-    ensures within { IsWithin limit result }
+    ensures within { HasAtMost limit result }
     ensures exists { result ≡ FileAnswer.Absent → ⊥ }
 {
     let mut bytes = Row::new(alloc);

@@ -6,7 +6,6 @@ pub mod SeriesLemmas
 pub mod PassingLemmas
 pub mod OptionalLemmas
 pub mod CountLemmas
-pub mod BodyCounts
 pub mod ExpressionRules
 pub mod ParsedLemmas
 pub mod StartLemmas

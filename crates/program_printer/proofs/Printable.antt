@@ -10,7 +10,7 @@ use Rattle.program_printer.specs.PrintedPlaces.{task_form}
 use Rattle.task_model.specs.Printed.{BodyText, body_numbered, body_text, body_texts}
 use Rattle.program_printer.proofs.Placing.{IsSpelled}
 use Rattle.program_printer.proofs.ExpressionPlaces.{Own}
-use Rattle.program_grammar.proofs.BodyCounts.{bodies_count}
+use Rattle.task_model.proofs.BodyCounts.{bodies_count}
 use Rattle.program_printer.proofs.TaskPlaces.{Agrees, agrees_left, agrees_right, agrees_head, agrees_self, TaskMeaning, task_in, OwnTask}
 use Rattle.program_printer.proofs.TaskProductions.{own_together, own_internal, own_external, own_then, own_next, own_task_let, own_task_new, own_put, own_task_if, own_task_case, body_of, step_body}
 

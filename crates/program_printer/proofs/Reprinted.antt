@@ -24,7 +24,7 @@ use Rattle.program_printer.proofs.ExpressionProductions.{ShownType, ShownList, S
 use Rattle.program_printer.proofs.TaskPlaces.{Agrees, agrees_left, agrees_right, task_in, wider_task, task_grouped}
 use Rattle.program_printer.proofs.TaskProductions.{own_edit, own_enter, own_fail, own_share, own_task_call}
 use Rattle.program_printer.proofs.DefinitionProductions.{ShownParameter, ShownParameters, ShownEnclosed, value_shown, reference_shown, one_parameter, more_parameters, no_parameters, some_parameters, definition_in, names_of, function_shown, task_shown}
-use Rattle.program_grammar.proofs.BodyCounts.{bodies_count}
+use Rattle.task_model.proofs.BodyCounts.{bodies_count}
 use Rattle.program_printer.proofs.Printable.{PrintableTask, print_together, print_internal, print_external, print_then, print_next, print_let, print_new, print_put, print_if, print_case}
 use Rattle.program_printer.proofs.ProgramLines.{ProgramMeaning, ShownProgram, program_in, no_definitions_shown, more_definitions_shown}
 

@@ -20,7 +20,7 @@ use Rattle.task_builder.specs.Tasks.{shown_task}
 use Rattle.program_reader.specs.Definitions.{shown_enclosed, ShownDefinition, shown_meaning, ShownProgram, shown_program, more_shown, function_definition, task_definition}
 use Rattle.program_reader.specs.DefinitionKeywords.{word_of}
 use Rattle.program_reader.specs.declared.definition_words.DefinitionWord.{DefinitionWord}
-use Rattle.program_grammar.proofs.BodyCounts.{bodies_count}
+use Rattle.task_model.proofs.BodyCounts.{bodies_count}
 use Rattle.program_reader.proofs.ProgramLemmas.{Tail, start_right, more_stop, more_found, end, begins_word}
 
 pub function_shown : (next p : ℕ) (x : Text) (q : ℕ) (ps : Parse (enclosed parameters)) (r : ℕ) (b : Parse basic) (s : ℕ)

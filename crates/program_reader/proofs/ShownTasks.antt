@@ -18,7 +18,7 @@ use Rattle.task_builder.specs.declared.step.Step.TheVariants.{ByItself, ByUser}
 use Rattle.task_builder.specs.TaskOperators.{stepped}
 use Rattle.task_builder.specs.Numbers.{renumbered, parsed_renumbered}
 use Rattle.task_builder.specs.Tasks.{shown_task, shown_atom, shown_chain, shown_choice, body_part, external_choice, chosen_task, choice_number, followed_task}
-use Rattle.program_grammar.proofs.BodyCounts.{bodies_count}
+use Rattle.task_model.proofs.BodyCounts.{bodies_count}
 use Rattle.program_reader.proofs.NumberLemmas.{term_next, bodies_next}
 use Rattle.program_reader.proofs.StepRules.{step_parse}
 use Rattle.expression_reader.proofs.ReadingLemmas.{count_within}

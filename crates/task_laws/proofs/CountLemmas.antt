@@ -7,7 +7,8 @@ use Rattle.task_model.specs.Checked.{nodes_in, body_nodes, counts_from}
 use Rattle.task_model.specs.Grammar.{Form, choice, chain, internal, external, Parse, task_let, task_if, task_case, task_new, task_put, task_plain, task_then, task_next, task_edit, task_enter, task_share, task_fail, task_call, task_group, single, joined}
 use Rattle.task_model.specs.Meaning.{meaning, bodies, bodies_of}
 use Rattle.task_model.specs.Placed.{edit_nodes, task_firsts}
-use Rattle.task_laws.proofs.ParseLemmas.{IsTask, term_at, whole, two, both, task_bodies, Finds, finds_first, finds_second}
+use Rattle.task_model.proofs.BodyCounts.{two, bodies_count}
+use Rattle.task_laws.proofs.ParseLemmas.{IsTask, term_at, whole, both, Finds, finds_first, finds_second}
 
 -- ---- counts by their numbers
 pub count_passed : (n : ℕ) (b : BodyTerm) (bs : List BodyTerm) (j : ℕ) → suc n ≤ j
@@ -38,13 +39,13 @@ pub counted : {f : Form} (d : Parse f) → IsTask f → (xs : List Text) (next :
     → Counts i cs next (bodies_of d xs next ++ after) → nodes_in cs i (term_at f (meaning d) next) ≡ edit_nodes (whole d xs)
 counted (task_let p x q r e s t) h xs next after i cs k = counted t tt _ next after i cs k
 counted (task_if p e q t r u) h xs next after i cs k =
-    let many = task_bodies t tt xs next in
+    let many = bodies_count t xs next in
     let m = next + bodies t in
     both (λ y z. y + z)
     (counted t tt xs next _ i cs (counts_first i cs next (bodies_of t xs next) (bodies_of u xs m) after k))
     (counted u tt xs m after i cs (counts_second i cs next m (bodies_of t xs next) (bodies_of u xs m) after (omega (arith, many)) k))
 counted (task_case p e q r s a t b x i' j y k' c u) h xs next after i cs k =
-    let many = task_bodies t tt xs next in
+    let many = bodies_count t xs next in
     let m = next + bodies t in
     let inner = bodies_of u (xs ++ x ∷ y ∷ []) m in
     both (λ y z. y + z)
@@ -54,7 +55,7 @@ counted (task_new p x q r e s t) h xs next after i cs k = counted t tt _ next af
 counted (task_put x p q e r t) h xs next after i cs k = counted t tt xs next after i cs k
 counted (task_plain t) h xs next after i cs k = counted t tt xs next after i cs k
 counted (task_then t p x q r u) h xs next after i cs k =
-    let many = task_bodies t tt xs next in
+    let many = bodies_count t xs next in
     let m = next + bodies t in
     let b : BodyTerm = record { scope = xs; binder = Some x; task = meaning u (suc m) } in
     let inner = bodies_of u (xs ++ x ∷ []) (suc m) in
@@ -64,7 +65,7 @@ counted (task_then t p x q r u) h xs next after i cs k =
     (there m (le_refl m) ∙ count_here m b (inner ++ after)
     ∙ counted u tt (xs ++ x ∷ []) (suc m) after (suc m) (counts_from (suc m) (inner ++ after)) (λ j le. refl))
 counted (task_next t p x q r u) h xs next after i cs k =
-    let many = task_bodies t tt xs next in
+    let many = bodies_count t xs next in
     let m = next + bodies t in
     let b : BodyTerm = record { scope = xs; binder = Some x; task = meaning u (suc m) } in
     let inner = bodies_of u (xs ++ x ∷ []) (suc m) in
@@ -82,13 +83,13 @@ counted (task_group p t q) h xs next after i cs k = counted t tt xs next after i
 counted (single choice t) h xs next after i cs k = counted t tt xs next after i cs k
 counted (single chain t) h xs next after i cs k = counted t tt xs next after i cs k
 counted (joined choice t internal p u) h xs next after i cs k =
-    let many = task_bodies t tt xs next in
+    let many = bodies_count t xs next in
     let m = next + bodies t in
     both (λ y z. y + z)
     (counted t tt xs next _ i cs (counts_first i cs next (bodies_of t xs next) (bodies_of u xs m) after k))
     (counted u tt xs m after i cs (counts_second i cs next m (bodies_of t xs next) (bodies_of u xs m) after (omega (arith, many)) k))
 counted (joined choice t external p u) h xs next after i cs k =
-    let many = task_bodies t tt xs (suc next) in
+    let many = bodies_count t xs (suc next) in
     let m = suc (next + bodies t) in
     let left : BodyTerm = record { scope = xs; binder = None; task = meaning t (suc next) } in
     let right : BodyTerm = record { scope = xs; binder = None; task = meaning u (suc m) } in
@@ -103,7 +104,7 @@ counted (joined choice t external p u) h xs next after i cs k =
     (there m (le_refl m) ∙ count_here m right (second ++ after)
     ∙ counted u tt xs (suc m) after (suc m) (counts_from (suc m) (second ++ after)) (λ j le. refl))
 counted (joined chain t o p u) h xs next after i cs k =
-    let many = task_bodies t tt xs next in
+    let many = bodies_count t xs next in
     let m = next + bodies t in
     both (λ y z. y + z)
     (counted t tt xs next _ i cs (counts_first i cs next (bodies_of t xs next) (bodies_of u xs m) after k))

@@ -6,6 +6,7 @@ use Rattle.task_model.specs.Text.{Text}
 use Rattle.task_model.specs.Task.{TaskTerm, share, BodyTerm}
 use Rattle.task_model.specs.Grammar.{Form, task, task_atom, series, choice, chain, internal, external, Parse, task_let, task_if, task_case, task_new, task_put, task_plain, task_then, task_next, task_edit, task_enter, task_share, task_fail, task_call, task_group, single, joined}
 use Rattle.task_model.specs.Meaning.{Meaning, meaning, bodies, bodies_of}
+use Rattle.task_model.proofs.BodyCounts.{bodies_count}
 use Rattle.task_model.specs.FullTask.{FullTask, full_edit, full_enter, full_share, full_fail, full_call, full_step, full_and, full_or, full_xor, full_let, full_if, full_case, full_new, full_put, full_absent, FullBody, full_body_numbered, step_over, sides_of, full_in, full_body, full_bodies}
 
 -- the forms of tasks
@@ -46,44 +47,6 @@ whole (joined choice t internal p u) xs = full_or (whole t xs) (whole u xs)
 whole (joined choice t external p u) xs = full_xor xs (whole t xs) xs (whole u xs)
 whole (joined chain t o p u) xs = full_and (whole t xs) (whole u xs)
 whole d xs = full_absent
-
--- ---- how many bodies
-pub two : {A : Type 0} (xs ys : List A) {n m : ℕ} → length xs ≡ n → length ys ≡ m → length (xs ++ ys) ≡ n + m
-two xs ys h k = let e = length-append xs ys in omega (arith, e, h, k)
-
--- a task's parse has as many bodies as it says
-pub task_bodies : {f : Form} (d : Parse f) → IsTask f → (xs : List Text) (next : ℕ) → length (bodies_of d xs next) ≡ bodies d
-task_bodies (task_let p x q r e s t) h xs next = task_bodies t tt _ next
-task_bodies (task_if p e q t r u) h xs next = two _ _ (task_bodies t tt xs next) (task_bodies u tt xs (next + bodies t))
-task_bodies (task_case p e q r s a t b x i j y k c u) h xs next =
-    two _ _ (task_bodies t tt xs next) (task_bodies u tt _ (next + bodies t))
-task_bodies (task_new p x q r e s t) h xs next = task_bodies t tt _ next
-task_bodies (task_put x p q e r t) h xs next = task_bodies t tt xs next
-task_bodies (task_plain t) h xs next = task_bodies t tt xs next
-task_bodies (task_then t p x q r u) h xs next =
-    two (bodies_of t xs next) (record { scope = xs; binder = Some x; task = meaning u (suc (next + bodies t)) }
-    ∷ bodies_of u (xs ++ x ∷ []) (suc (next + bodies t)))
-    (task_bodies t tt xs next) (ap suc (task_bodies u tt _ (suc (next + bodies t))))
-task_bodies (task_next t p x q r u) h xs next =
-    two (bodies_of t xs next) (record { scope = xs; binder = Some x; task = meaning u (suc (next + bodies t)) }
-    ∷ bodies_of u (xs ++ x ∷ []) (suc (next + bodies t)))
-    (task_bodies t tt xs next) (ap suc (task_bodies u tt _ (suc (next + bodies t))))
-task_bodies (task_edit p e) h xs next = refl
-task_bodies (task_enter p b) h xs next = refl
-task_bodies (task_share p x q) h xs next = refl
-task_bodies (task_fail p b) h xs next = refl
-task_bodies (task_call x p es) h xs next = refl
-task_bodies (task_group p t q) h xs next = task_bodies t tt xs next
-task_bodies (single choice t) h xs next = task_bodies t tt xs next
-task_bodies (single chain t) h xs next = task_bodies t tt xs next
-task_bodies (joined choice t internal p u) h xs next = two _ _ (task_bodies t tt xs next) (task_bodies u tt xs (next + bodies t))
-task_bodies (joined choice t external p u) h xs next =
-    two (record { scope = xs; binder = None; task = meaning t (suc next) } ∷ bodies_of t xs (suc next))
-    (record { scope = xs; binder = None; task = meaning u (suc (suc (next + bodies t))) }
-    ∷ bodies_of u xs (suc (suc (next + bodies t))))
-    (ap suc (task_bodies t tt xs (suc next))) (ap suc (task_bodies u tt xs (suc (suc (next + bodies t)))))
-task_bodies (joined chain t o p u) h xs next = two _ _ (task_bodies t tt xs next) (task_bodies u tt xs (next + bodies t))
-task_bodies d h xs next = absurd h
 
 -- ---- bodies by their numbers
 -- of a function that looks up the bodies of a list, of which the first has a given number, and passes those before
@@ -140,13 +103,13 @@ pub in_place : {f : Form} (d : Parse f) → IsTask f → (xs : List Text) (next 
     → Places i fs next (bodies_of d xs next ++ after) → full_in i fs (term_at f (meaning d) next) ≡ whole d xs
 in_place (task_let p x q r e s t) h xs next after i fs k = ap (λ z. full_let x (meaning e) z) (in_place t tt _ next after i fs k)
 in_place (task_if p e q t r u) h xs next after i fs k =
-    let many = task_bodies t tt xs next in
+    let many = bodies_count t xs next in
     both (λ y z. full_if (meaning e) y z)
     (in_place t tt xs next _ i fs (places_first i fs next (bodies_of t xs next) (bodies_of u xs (next + bodies t)) after k))
     (in_place u tt xs (next + bodies t) after i fs
     (places_second i fs next (next + bodies t) (bodies_of t xs next) (bodies_of u xs (next + bodies t)) after (omega (arith, many)) k))
 in_place (task_case p e q r s a t b x i' j y k' c u) h xs next after i fs k =
-    let many = task_bodies t tt xs next in
+    let many = bodies_count t xs next in
     let inner = bodies_of u (xs ++ x ∷ y ∷ []) (next + bodies t) in
     both (λ v z. full_case (meaning e) v x y z)
     (in_place t tt xs next _ i fs (places_first i fs next (bodies_of t xs next) inner after k))
@@ -156,7 +119,7 @@ in_place (task_new p x q r e s t) h xs next after i fs k = ap (λ z. full_new x 
 in_place (task_put x p q e r t) h xs next after i fs k = ap (λ z. full_put x (meaning e) z) (in_place t tt xs next after i fs k)
 in_place (task_plain t) h xs next after i fs k = in_place t tt xs next after i fs k
 in_place (task_then t p x q r u) h xs next after i fs k =
-    let many = task_bodies t tt xs next in
+    let many = bodies_count t xs next in
     let m = next + bodies t in
     let b : BodyTerm = record { scope = xs; binder = Some x; task = meaning u (suc m) } in
     let inner = bodies_of u (xs ++ x ∷ []) (suc m) in
@@ -167,7 +130,7 @@ in_place (task_then t p x q r u) h xs next after i fs k =
     (in_place t tt xs next _ i fs (places_first i fs next (bodies_of t xs next) (b ∷ inner) after k))
     (in_place u tt (xs ++ x ∷ []) (suc m) after (suc m) later (λ j le. refl))
 in_place (task_next t p x q r u) h xs next after i fs k =
-    let many = task_bodies t tt xs next in
+    let many = bodies_count t xs next in
     let m = next + bodies t in
     let b : BodyTerm = record { scope = xs; binder = Some x; task = meaning u (suc m) } in
     let inner = bodies_of u (xs ++ x ∷ []) (suc m) in
@@ -186,13 +149,13 @@ in_place (task_group p t q) h xs next after i fs k = in_place t tt xs next after
 in_place (single choice t) h xs next after i fs k = in_place t tt xs next after i fs k
 in_place (single chain t) h xs next after i fs k = in_place t tt xs next after i fs k
 in_place (joined choice t internal p u) h xs next after i fs k =
-    let many = task_bodies t tt xs next in
+    let many = bodies_count t xs next in
     both (λ y z. full_or y z)
     (in_place t tt xs next _ i fs (places_first i fs next (bodies_of t xs next) (bodies_of u xs (next + bodies t)) after k))
     (in_place u tt xs (next + bodies t) after i fs
     (places_second i fs next (next + bodies t) (bodies_of t xs next) (bodies_of u xs (next + bodies t)) after (omega (arith, many)) k))
 in_place (joined choice t external p u) h xs next after i fs k =
-    let many = task_bodies t tt xs (suc next) in
+    let many = bodies_count t xs (suc next) in
     let m = suc (next + bodies t) in
     let left : BodyTerm = record { scope = xs; binder = None; task = meaning t (suc next) } in
     let right : BodyTerm = record { scope = xs; binder = None; task = meaning u (suc m) } in
@@ -208,7 +171,7 @@ in_place (joined choice t external p u) h xs next after i fs k =
     (subst (λ l. Places (suc next) (full_bodies (suc next) ((first ++ right ∷ second) ++ after)) (suc next) l) whole_first (λ j le. refl)))
     (in_place u tt xs (suc m) after (suc m) (full_bodies (suc m) (second ++ after)) (λ j le. refl))
 in_place (joined chain t o p u) h xs next after i fs k =
-    let many = task_bodies t tt xs next in
+    let many = bodies_count t xs next in
     both (λ y z. full_and y z)
     (in_place t tt xs next _ i fs (places_first i fs next (bodies_of t xs next) (bodies_of u xs (next + bodies t)) after k))
     (in_place u tt xs (next + bodies t) after i fs

@@ -12,7 +12,8 @@ use Rattle.task_model.specs.FullTask.{full_in}
 use Rattle.task_model.specs.TaskDemands.{bodies_in_place}
 use Rattle.task_model.specs.Placed.{Placed, IsPlacedIn, IsPlaced}
 use Rattle.task_model.specs.Written.{IsWritten}
-use Rattle.task_laws.proofs.ParseLemmas.{IsTask, whole, task_bodies, Places, places_first, places_second, in_place}
+use Rattle.task_model.proofs.BodyCounts.{bodies_count}
+use Rattle.task_laws.proofs.ParseLemmas.{IsTask, whole, Places, places_first, places_second, in_place}
 
 placed_whole : {f : Form} (d : Parse f) → IsTask f → (xs : List Text) → Placed xs (whole d xs)
 placed_whole (task_let p x q r e s t) h xs = placed_whole t tt (xs ++ x ∷ [])
@@ -41,19 +42,6 @@ placed_whole (joined chain t o p u) h xs = (placed_whole t tt xs, placed_whole u
 placed_whole d h xs = absurd h
 
 -- ---- definitions
--- a program's parse has as many bodies as it says
-pub program_bodies : (ds : Parse program) → length (bodies_of ds [] 0) ≡ bodies ds
-program_bodies no_definitions = refl
-program_bodies (more_definitions ds (function p x q ps r b s e)) =
-    let front = program_bodies ds in
-    let all = length-append (bodies_of ds [] 0) [] in
-    omega (arith, all, front)
-program_bodies (more_definitions ds (task_named p x q ps r b s t)) =
-    let front = program_bodies ds in
-    let last = task_bodies t tt (param_names (meaning ps)) (0 + bodies ds) in
-    let all = length-append (bodies_of ds [] 0) (bodies_of t (param_names (meaning ps)) (0 + bodies ds)) in
-    omega (arith, all, front, last)
-
 module _ (p : ProgramTerm) where
   -- from this number on, the program has these bodies
   abbrev pub PlacesFrom : ℕ → List BodyTerm → Type 0
@@ -73,7 +61,7 @@ module _ (p : ProgramTerm) where
       let xs = param_names (meaning ps) in
       let n = 0 + bodies ds in
       let same : n ≡ bodies ds = omega arith in
-      let many = program_bodies ds in
+      let many = bodies_count ds [] 0 in
       let there = places_second 0 (bodies_in_place p) 0 n (bodies_of ds [] 0) (bodies_of t xs n) after (omega (arith, many)) k in
       let is = in_place t tt xs n after 0 (bodies_in_place p) there in
       let last : Placed xs (full_in 0 (bodies_in_place p) (meaning t (bodies ds))) =

@@ -13,7 +13,8 @@ use Rattle.task_model.specs.Grammar.{Form, choice, chain, internal, external, Pa
 use Rattle.task_model.specs.Meaning.{meaning, bodies, bodies_of}
 use Rattle.task_model.specs.TaskDemands.{bodies_in_place}
 use Rattle.task_model.specs.Placed.{edit_nodes, task_firsts}
-use Rattle.task_laws.proofs.ParseLemmas.{IsTask, term_at, whole, task_bodies, Places, places_first, places_second, body_passed}
+use Rattle.task_model.proofs.BodyCounts.{bodies_count}
+use Rattle.task_laws.proofs.ParseLemmas.{IsTask, term_at, whole, Places, places_first, places_second, body_passed}
 use Rattle.task_laws.proofs.CountLemmas.{Counts, counts_first, counts_second, count_passed, count_here, counted, firsts_long, Lists, lists_first, lists_second, lists_tail, lists_head}
 
 -- a body's start is among these
@@ -93,7 +94,7 @@ module _ (program : ProgramTerm) (table : List ℕ) where
       × Stands next (bodies_of t xs next ++ (bodies_of u ys (next + bodies t) ++ after)) (task_firsts n (whole t xs))
       × Stands (next + bodies t) (bodies_of u ys (next + bodies t) ++ after) (task_firsts (n + edit_nodes (whole t xs)) (whole u ys))
   halves t h u xs ys next n after s =
-      let many = task_bodies t h xs next in
+      let many = bodies_count t xs next in
       let long = firsts_long t h xs n in
       let m = next + bodies t in
       let ns = task_firsts n (whole t xs) in
@@ -112,7 +113,7 @@ module _ (program : ProgramTerm) (table : List ℕ) where
       × Stands next (bodies_of t xs next ++ (b ∷ inner ++ after)) (task_firsts n (whole t xs))
       × (slice_get table m ≡ Some v) × Stands (suc m) (inner ++ after) ms
   parts t h xs next n m is b inner after v ms s =
-      let many = task_bodies t h xs next in
+      let many = bodies_count t xs next in
       let long = firsts_long t h xs n in
       let ns = task_firsts n (whole t xs) in
       let left = stands_first next (bodies_of t xs next) (b ∷ inner) after ns (v ∷ ms) s in

@@ -13,8 +13,8 @@ use Rattle.task_model.specs.Meaning.{meaning, bodies, bodies_of, program_of}
 use Rattle.task_model.specs.TaskDemands.{bodies_in_place}
 use Rattle.task_model.specs.Placed.{edit_nodes, task_firsts, what_edits, what_firsts, firsts_in, firsts_of}
 use Rattle.task_model.specs.Written.{IsWritten}
+use Rattle.task_model.proofs.BodyCounts.{bodies_count}
 use Rattle.task_laws.proofs.ParseLemmas.{both, in_place}
-use Rattle.task_laws.proofs.PlacedLemmas.{program_bodies}
 use Rattle.task_laws.proofs.CountLemmas.{counted, firsts_long}
 use Rattle.task_laws.proofs.StartLemmas.{Known, known_second, Walked, Right, start_found, Stands, stands_first, stands_second, right_starts, stay, composed, relisted}
 use Rattle.task_laws.proofs.WalkLemmas.{Covers, cover_first, walked}
@@ -123,7 +123,7 @@ module _ (program : ProgramTerm) (table : List ℕ) where
       let there : Stands program table 0 ((bs ++ cs) ++ after) (fs ++ gs) =
       subst (λ l. Stands program table 0 ((bs ++ cs) ++ after) l) more numbered in
       let left = program_starts ds (cs ++ after) (stands_first program table 0 bs cs after fs gs there) in
-      let many = program_bodies ds in
+      let many = bodies_count ds [] 0 in
       let long = left.long in
       let right = definition_starts d n e after
       (stands_second program table 0 n bs cs after fs gs (omega (arith, many)) (omega (arith, long)) there) in
@@ -176,4 +176,4 @@ nodes_before p w =
 pub entries : (p : ProgramTerm) → IsWritten p → length (firsts_of p) ≡ length p.bodies
 entries p w =
     let ds = w.1.parse in
-    subst (λ q. length (firsts_of q) ≡ length q.bodies) w.1.stands_for ((all_starts_there ds).long ∙ sym (program_bodies ds))
+    subst (λ q. length (firsts_of q) ≡ length q.bodies) w.1.stands_for ((all_starts_there ds).long ∙ sym (bodies_count ds [] 0))

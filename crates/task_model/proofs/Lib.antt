@@ -9,3 +9,4 @@ pub mod RowLemmas
 pub mod RanLemmas
 pub mod DemandLemmas
 pub mod PlainAccepted
+pub mod BodyCounts

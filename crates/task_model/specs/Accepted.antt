@@ -4,9 +4,9 @@ use Rattle.task_model.specs.Basic.{BasicTerm, int_type, pair_type}
 use Rattle.task_model.specs.Host.{int_expr}
 use Rattle.task_model.specs.Task.{TaskTerm, edit, enter, and_task}
 use Rattle.task_model.specs.Program.{task_body, ProgramTerm}
-pub use Rattle.task_model.specs.Program.{main_name}
+use Rattle.task_model.specs.Program.{main_name}
 use Rattle.task_model.specs.Checked.{CheckedTerm, defs_nodes}
-pub use Rattle.task_model.specs.TypeParts.{symbols_of}
+use Rattle.task_model.specs.TypeParts.{symbols_of}
 use Rattle.task_model.specs.TaskDemands.{fault_of, types_of}
 use Rattle.task_model.specs.Written.{IsWritten}
 

@@ -5,7 +5,7 @@ use Rattle.task_model.specs.Text.{Text}
 use Rattle.task_model.specs.Grammar.{parameters, arguments, list, choice, chain, internal, external, Form, Parse, more_definitions, task_named, task_let, task_if, task_case, task_new, task_put, task_plain, task_then, task_next, task_group, single, joined, full}
 use Rattle.task_model.specs.Meaning.{meaning, bodies, bodies_of}
 
-two : {A : Type 0} (xs ys : List A) {n m : ℕ} → length xs ≡ n → length ys ≡ m → length (xs ++ ys) ≡ n + m
+pub two : {A : Type 0} (xs ys : List A) {n m : ℕ} → length xs ≡ n → length ys ≡ m → length (xs ++ ys) ≡ n + m
 two xs ys h k = let e = length-append xs ys in omega (arith, e, h, k)
 
 pub bodies_count : {f : Form} (d : Parse f) (scope : List Text) (next : ℕ) → length (bodies_of d scope next) ≡ bodies d
