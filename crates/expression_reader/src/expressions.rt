@@ -27,26 +27,26 @@ pub fn expression<'t>(
         if room < 2 {
             return Err(too_nested(tokens));
         }
-        return bound(alloc, room, place, rest);
+        return let_in(alloc, room, place, rest);
     }
     if let Some((place, rest)) = strip_keyword(tokens, Keyword::If) {
         if room < 2 {
             return Err(too_nested(tokens));
         }
-        return tested(alloc, room, place, rest);
+        return if_then(alloc, room, place, rest);
     }
     if let Some((place, rest)) = strip_keyword(tokens, Keyword::Case) {
         if room < 2 {
             return Err(too_nested(tokens));
         }
-        return cased(alloc, room, place, rest);
+        return case_of(alloc, room, place, rest);
     }
     operators(alloc, Level::Either, room, tokens)
 }
 
 /// What stands behind `let`.
 #[cycle(expression)]
-fn bound<'t>(
+fn let_in<'t>(
     alloc: Global,
     room: usize,
     place: u64,
@@ -60,12 +60,12 @@ fn bound<'t>(
     let (value, rest) = expression(alloc, room - 1, rest)?;
     let (_, rest) = expect_keyword(rest, Keyword::In)?;
     let (body, rest) = expression(alloc, room - 1, rest)?;
-    Ok((value.bound(alloc, place, name, body)?, rest))
+    Ok((value.let_in(alloc, place, name, body)?, rest))
 }
 
 /// What stands behind `if`.
 #[cycle(expression)]
-fn tested<'t>(
+fn if_then<'t>(
     alloc: Global,
     room: usize,
     place: u64,
@@ -79,12 +79,12 @@ fn tested<'t>(
     let (yes, rest) = expression(alloc, room - 1, rest)?;
     let (_, rest) = expect_keyword(rest, Keyword::Else)?;
     let (no, rest) = expression(alloc, room - 1, rest)?;
-    Ok((test.tested(alloc, place, yes, no)?, rest))
+    Ok((test.if_then(alloc, place, yes, no)?, rest))
 }
 
 /// What stands behind `case`.
 #[cycle(expression)]
-fn cased<'t>(
+fn case_of<'t>(
     alloc: Global,
     room: usize,
     place: u64,
@@ -105,5 +105,5 @@ fn cased<'t>(
     let (tail, _, rest) = expect_name(rest)?;
     let (_, rest) = expect_symbol(rest, Symbol::Arrow)?;
     let (more, rest) = expression(alloc, room - 1, rest)?;
-    Ok((list.cased(alloc, place, empty, head, tail, more)?, rest))
+    Ok((list.case_of(alloc, place, empty, head, tail, more)?, rest))
 }

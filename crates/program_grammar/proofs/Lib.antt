@@ -1,11 +1,13 @@
 pub mod GrammarLemmas
 pub mod RuleLemmas
+pub mod PartlyRead
 pub mod Exits
 pub mod TypeRules
 pub mod SeriesLemmas
 pub mod PassingLemmas
 pub mod OptionalLemmas
 pub mod CountLemmas
+pub mod BodyTokens
 pub mod ExpressionRules
 pub mod ParsedLemmas
 pub mod StartLemmas

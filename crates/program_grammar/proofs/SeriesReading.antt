@@ -1,12 +1,13 @@
 -- A series as the loop over its operators goes on, whatever is shown of it and of its parts: expressions, tasks and listings alike.
-use Rattle.std.proofs.Common.{◌≡◌, ℕ, ◌+◌, ◌≤◌, ◌<◌, max, List, ◌∷◌, length, Ok, Err, sym, ap, ◌∙◌, arith}
+use Rattle.std.proofs.Common.{◌≡◌, ℕ, ◌+◌, ◌≤◌, ◌<◌, max, List, ◌∷◌, ◌++◌, length, Ok, Err, sym, ap, ◌∙◌, arith, append_assoc}
 use Rattle.exact_reading.specs.declared.stop.ParseStop.{ParseStop}
 use Rattle.exact_reading.specs.declared.stop.ParseStop.TheVariants.{Fault}
 use Rattle.exact_reading.specs.declared.stop.FaultKind.TheVariants.{TooNested}
 use Rattle.exact_reading.specs.Reading.{IsWithinLevels, Answer, Right}
 use Rattle.task_model.specs.Lexemes.{Lexeme}
-use Rattle.task_model.specs.Grammar.{Series, series, Operator, operator, part_of, above, Parse, single, joined, levels}
+use Rattle.task_model.specs.Grammar.{Series, series, Operator, operator, part_of, above, Parse, single, joined, tokens, levels}
 use Rattle.program_grammar.specs.Languages.{Of, EndsForm, Reads}
+use Rattle.program_grammar.proofs.BodyTokens.{before_rest}
 use Rattle.program_grammar.proofs.GrammarLemmas.{least_levels}
 use Rattle.program_grammar.proofs.SeriesLemmas.{Tail}
 use Rattle.program_grammar.proofs.SeriesLemmas as chains
@@ -18,6 +19,7 @@ pub record Going (s : Series) {Y : Type 0} (show : Parse (series s) → Y) (room
   pub parse : Parse (series s) × ℕ
   pub shows : show parse.0 ≡ left
   pub levels_are : levels parse.0 ≡ parse.1
+  pub split : ts ≡ tokens parse.0 ++ rest
   pub fits : parse.1 ≤ room
   pub goes_on : (r : Answer Lexeme (Parse (series s) × ℕ))
       → Right (Tail s parse) (IsWithinLevels room) (EndsForm (series s)) rest r
@@ -37,6 +39,7 @@ module _ (s : Series) {Y : Type 0} (show : Parse (series s) → Y) {room : ℕ} 
         parse = (single s x.0, x.1);
         shows = alone x.0 shows;
         levels_are = right.by.found.1;
+        split = before_rest right;
         fits = right.by.fits;
         goes_on = λ r tail. chains.part_found s right tail;
       }
@@ -69,7 +72,7 @@ module _ (s : Series) {Y : Type 0} (show : Parse (series s) → Y) {room : ℕ} 
         pub next : {X : Type 0} {part : Parse (part_of s) → X} {right : X} {new : Y} {behind : List Lexeme}
             → ((x : Parse (series s)) (y : Parse (part_of s)) → show x ≡ left → part y ≡ right → show (joined s x o p y) ≡ new)
             → Reads (part_of s) part within after (Ok (right, behind)) → Going s show room ts new behind
-        next both h =
+        next {behind = behind} both h =
             let (y, shows, found) = h.by in
             let fits = found.by.fits in
             let left_levels = g.levels_are in
@@ -78,6 +81,9 @@ module _ (s : Series) {Y : Type 0} (show : Parse (series s) → Y) {room : ℕ} 
               parse = (joined s g.parse.0 o p y.0, above s + max g.parse.1 y.1);
               shows = both g.parse.0 y.0 g.shows shows;
               levels_are = omega (arith, left_levels, right_levels);
+              split = g.split
+                  ∙ ap (λ l. tokens g.parse.0 ++ l) (e ∙ ap (λ l. operator o p ∷ l) (before_rest found))
+                  ∙ sym (append_assoc (tokens g.parse.0) (operator o p ∷ tokens y.0) behind);
               fits = omega (arith, up, enough, fits);
               goes_on = λ r tail. g.goes_on r
                   (chains.more s (operators_apart s) o p e some enough (chains.next_found s g.parse o p up enough found tail));

@@ -140,6 +140,10 @@ no_parts = record { levels = 0; places = []; bodies = [] }
 abbrev pub one_part : {V : Type 0} → ParsedTerm V → PartsTerm
 one_part a = record { levels = a.levels; places = a.places; bodies = a.bodies }
 
+-- something that was read, as a part
+abbrev pub parts_of : {T : Type 0} → Parsed T → PartsTerm
+parts_of n = record { levels = n.levels; places = n.places.items; bodies = map body_term n.bodies.items }
+
 abbrev pub both_parts : PartsTerm → PartsTerm → PartsTerm
 both_parts a b = record { levels = max a.levels b.levels; places = a.places ++ b.places; bodies = a.bodies ++ b.bodies }
 

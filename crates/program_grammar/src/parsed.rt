@@ -33,6 +33,8 @@ pub fn name_text(alloc: Global, name: &str) -> Result<TaskText, ParseStop>
 }
 
 impl<T: Drop> Parsed<T> {
+    ghost use Rattle.program_grammar.specs.Parts.{parts_term, parts_of, both_parts};
+
     /// The term, and what is said of its parts where it is part of a node.
     pub fn into_parts(self) -> (Box<T>, Parts)
         ensures term { result.0 ≡ self.term }
@@ -46,6 +48,18 @@ impl<T: Drop> Parsed<T> {
             bodies: self.bodies,
         };
         (self.term, parts)
+    }
+
+    /// Both terms, and what is said of both where they are parts of one node.
+    pub fn beside<U: Drop>(self, other: Parsed<U>) -> Result<(Box<T>, Box<U>, Parts), ParseStop>
+        ensures first { IfOk result (λ r. r.0 ≡ self.term) }
+        ensures second { IfOk result (λ r. r.1 ≡ other.term) }
+        ensures parts { IfOk result (λ r. parts_term r.2 ≡ both_parts (parts_of self) (parts_of other)) }
+        ensures memory { IfErr result (λ e. e ≡ ParseStop.Memory) }
+    {
+        let (first, parts) = self.into_parts();
+        let (second, others) = other.into_parts();
+        Ok((first, second, parts.and(others)?))
     }
 
     /// This part in parentheses, the first of which stands here.
@@ -104,10 +118,8 @@ impl Parsed<Host> {
         ensures memory { IfErr result (λ e. e ≡ ParseStop.Memory) }
     {
         let start = self.start;
-        let (left, parts) = self.into_parts();
-        let (right, others) = right.into_parts();
-        let host = Host::Op { op, left, right };
-        parts.and(others)?.node(alloc, host, start)
+        let (left, right, parts) = self.beside(right)?;
+        parts.node(alloc, Host::Op { op, left, right }, start)
     }
 
     /// A pair, whose parenthesis stands here.
@@ -122,11 +134,8 @@ impl Parsed<Host> {
         ensures shown { IfOk result (λ r. shown_host r ≡ over_two pair_expr place (shown_host self) (shown_host second)) }
         ensures memory { IfErr result (λ e. e ≡ ParseStop.Memory) }
     {
-        let (first, parts) = self.into_parts();
-        let (second, others) = second.into_parts();
-        parts
-            .and(others)?
-            .node(alloc, Host::Pair(first, second), place)
+        let (first, second, parts) = self.beside(second)?;
+        parts.node(alloc, Host::Pair(first, second), place)
     }
 
     /// A name alone.
@@ -158,7 +167,7 @@ impl Parsed<Host> {
     }
 
     /// `let`, which stands here, of this value.
-    pub fn bound(
+    pub fn let_in(
         self,
         alloc: Global,
         place: u64,
@@ -171,14 +180,12 @@ impl Parsed<Host> {
         ensures memory { IfErr result (λ e. e ≡ ParseStop.Memory) }
     {
         let name = name_text(alloc, name)?;
-        let (bound, parts) = self.into_parts();
-        let (rest, others) = rest.into_parts();
-        let host = Host::Let { name, bound, rest };
-        parts.and(others)?.node(alloc, host, place)
+        let (bound, rest, parts) = self.beside(rest)?;
+        parts.node(alloc, Host::Let { name, bound, rest }, place)
     }
 
     /// `if`, which stands here, of this test.
-    pub fn tested(
+    pub fn if_then(
         self,
         alloc: Global,
         place: u64,
@@ -192,14 +199,13 @@ impl Parsed<Host> {
         ensures memory { IfErr result (λ e. e ≡ ParseStop.Memory) }
     {
         let (test, parts) = self.into_parts();
-        let (yes, others) = yes.into_parts();
-        let (no, last) = no.into_parts();
+        let (yes, no, others) = yes.beside(no)?;
         let host = Host::If { test, yes, no };
-        parts.and(others.and(last)?)?.node(alloc, host, place)
+        parts.and(others)?.node(alloc, host, place)
     }
 
     /// `case`, which stands here, of this list, with the names of its head and tail.
-    pub fn cased(
+    pub fn case_of(
         self,
         alloc: Global,
         place: u64,
@@ -217,8 +223,7 @@ impl Parsed<Host> {
         let head = name_text(alloc, head)?;
         let tail = name_text(alloc, tail)?;
         let (list, parts) = self.into_parts();
-        let (empty, others) = empty.into_parts();
-        let (more, last) = more.into_parts();
+        let (empty, more, others) = empty.beside(more)?;
         let host = Host::Case {
             list,
             empty,
@@ -226,6 +231,6 @@ impl Parsed<Host> {
             tail,
             more,
         };
-        parts.and(others.and(last)?)?.node(alloc, host, place)
+        parts.and(others)?.node(alloc, host, place)
     }
 }

@@ -14,8 +14,8 @@ use Rattle.task_model.specs.Grammar.{Parse, tokens, levels}
 use Rattle.task_model.specs.Meaning.{meaning, bodies, bodies_of}
 use Rattle.task_model.specs.Printed.{BodyText, basic_tokens, parameter_tokens, parameters_tokens, definition_body, definition_tokens}
 use Rattle.program_printer.proofs.Placing.{IsSpelled}
-use Rattle.program_printer.proofs.Showing.{Shown, looser, leaf_two, pass, between, enclose, word_spelled, sign_spelled}
-use Rattle.program_printer.proofs.LongShowing.{front_two, front_three, headed}
+use Rattle.program_printer.proofs.Showing.{Shown, looser, two_tokens, part_alone, token_between, tokens_around, word_spelled, sign_spelled}
+use Rattle.program_printer.proofs.LongShowing.{two_tokens_and_part, three_tokens_and_part, two_tokens_and_three_parts}
 use Rattle.program_printer.proofs.ExpressionPlaces.{Own, at_place}
 use Rattle.program_printer.proofs.ExpressionProductions.{ShownType}
 use Rattle.program_printer.proofs.TaskPlaces.{TaskMeaning, OwnTask, task_place}
@@ -30,13 +30,14 @@ ShownParameter q k = Shown parameter_of q k (parameter_tokens q)
 pub value_shown : (x : Text) (b : BasicTerm) (k : ℕ) → IsSpelled (name x 0) → ShownType b k
     → ShownParameter (record { name = x; kind = plain_kind b }) k
 value_shown x b k s t =
-    front_two (name x 0) (symbol signs.Colon 0) s (sign_spelled signs.Colon 0) (λ n m d. grammar.value_named x n m d) (λ n m d. refl)
+    two_tokens_and_part (name x 0) (symbol signs.Colon 0) s (sign_spelled signs.Colon 0) (λ n m d. grammar.value_named x n m d)
+    (λ n m d. refl)
     (λ n m d e. ap {A = BasicTerm} {B = ParamTerm} (λ z. record { name = x; kind = plain_kind z }) e) (λ n m d. refl) t
 
 pub reference_shown : (x : Text) (b : BasicTerm) (k : ℕ) → IsSpelled (name x 0) → ShownType b k
     → ShownParameter (record { name = x; kind = ref_kind b }) k
 reference_shown x b k s t =
-    front_three (name x 0) (symbol signs.Colon 0) (keyword words.Ref 0) s (sign_spelled signs.Colon 0) (word_spelled words.Ref 0)
+    three_tokens_and_part (name x 0) (symbol signs.Colon 0) (keyword words.Ref 0) s (sign_spelled signs.Colon 0) (word_spelled words.Ref 0)
     (λ n m r d. grammar.reference_named x n m r d) (λ n m r d. refl)
     (λ n m r d e. ap {A = BasicTerm} {B = ParamTerm} (λ z. record { name = x; kind = ref_kind z }) e) (λ n m r d. refl) t
 
@@ -59,23 +60,25 @@ parameters_more q (p ∷ qs) r = ap (λ l. parameter_tokens q ++ codes "," ∷ l
     ∙ sym (append_assoc (parameter_tokens q) (codes "," ∷ parameters_tokens (p ∷ qs)) (codes "," ∷ parameter_tokens r))
 
 pub one_parameter : (q : ParamTerm) (k : ℕ) → ShownParameter q k → ShownParameters (q ∷ []) k
-one_parameter q k s = pass (λ d. grammar.single (grammar.list grammar.parameters) d) (λ d. refl) (λ d e. ap (λ x. x ∷ []) e) (λ d. refl) s
+one_parameter q k s = part_alone (λ d. grammar.single (grammar.list grammar.parameters) d) (λ d. refl) (λ d e. ap (λ x. x ∷ []) e)
+    (λ d. refl) s
 
 pub more_parameters : (q : ParamTerm) (qs : List ParamTerm) (r : ParamTerm) (j k : ℕ) → ShownParameters (q ∷ qs) j → ShownParameter r k
     → ShownParameters ((q ∷ qs) ++ r ∷ []) (0 + max j k)
 more_parameters q qs r j k s t =
     subst (λ ts. Shown parameters_of ((q ∷ qs) ++ r ∷ []) (0 + max j k) ts) (sym (parameters_more q qs r))
-    (between 0 (symbol signs.Comma 0) (sign_spelled signs.Comma 0)
+    (token_between 0 (symbol signs.Comma 0) (sign_spelled signs.Comma 0)
     (λ a n b. grammar.joined (grammar.list grammar.parameters) a (grammar.comma grammar.parameters) n b) (λ a n b. refl)
     (λ a n b e f. ap (λ x. x ++ meaning b ∷ []) e ∙ ap (λ x. (q ∷ qs) ++ x ∷ []) f) (λ a n b. refl) s t)
 
 pub no_parameters : ShownEnclosed [] 0
-no_parameters = leaf_two 0 (symbol signs.Open 0) (symbol signs.Close 0) (sign_spelled signs.Open 0) (sign_spelled signs.Close 0)
+no_parameters = two_tokens 0 (symbol signs.Open 0) (symbol signs.Close 0) (sign_spelled signs.Open 0) (sign_spelled signs.Close 0)
     (λ n m. grammar.empty grammar.parameters n m) (λ n m. refl) (λ n m. refl) (λ n m. omega arith)
 
 pub some_parameters : (qs : List ParamTerm) (k : ℕ) → ShownParameters qs k → ShownEnclosed qs k
 some_parameters qs k s =
-    looser (omega arith) (enclose 0 (symbol signs.Open 0) (symbol signs.Close 0) (sign_spelled signs.Open 0) (sign_spelled signs.Close 0)
+    looser (omega arith) (tokens_around 0 (symbol signs.Open 0) (symbol signs.Close 0) (sign_spelled signs.Open 0)
+    (sign_spelled signs.Close 0)
     (λ n d m. grammar.full grammar.parameters n d m) (λ n d m. refl) (λ n d m e. e) (λ n d m. omega arith) s)
 
 -- ---- definitions
@@ -104,7 +107,7 @@ function_shown x qs b e next bs i j k s p t o =
     let whole = let z : DefinitionMeaning = (make x qs b (fun_body e), 0, []) in z in
     subst (λ ts. Shown (definition_in next) whole (max i (max j k)) ts)
     (head_texts (codes "fun") x (parameters_tokens qs) (basic_tokens b) (definition_body bs (fun_body e)))
-    (headed (keyword words.Fun 0) (name x 0) (symbol signs.Colon 0) (symbol signs.Define 0) (word_spelled words.Fun 0) s
+    (two_tokens_and_three_parts (keyword words.Fun 0) (name x 0) (symbol signs.Colon 0) (symbol signs.Define 0) (word_spelled words.Fun 0) s
     (sign_spelled signs.Colon 0) (sign_spelled signs.Define 0)
     (λ n m a r c q d. grammar.function n x m a r c q d) (λ n m a r c q d. refl)
     (λ n m a r c q d f g h.
@@ -121,7 +124,8 @@ task_shown x qs b v next bs i j k s p t o =
     let whole = let z : DefinitionMeaning = (make x qs b (task_body v.0), v.1, v.2) in z in
     subst (λ ts. Shown (definition_in next) whole (max i (max j k)) ts)
     (head_texts (codes "task") x (parameters_tokens qs) (basic_tokens b) (definition_body bs (task_body v.0)))
-    (headed (keyword words.Task 0) (name x 0) (symbol signs.Colon 0) (symbol signs.Define 0) (word_spelled words.Task 0) s
+    (two_tokens_and_three_parts (keyword words.Task 0) (name x 0) (symbol signs.Colon 0) (symbol signs.Define 0)
+    (word_spelled words.Task 0) s
     (sign_spelled signs.Colon 0) (sign_spelled signs.Define 0)
     (λ n m a r c q d. grammar.task_named n x m a r c q d) (λ n m a r c q d. refl)
     (λ n m a r c q d f g h.

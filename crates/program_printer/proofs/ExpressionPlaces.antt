@@ -12,7 +12,7 @@ use Rattle.task_model.specs.Grammar as grammar
 use Rattle.task_model.specs.Grammar.{Form, Parse, tokens, levels}
 use Rattle.program_printer.specs.PrintedPlaces.{term_at}
 use Rattle.task_model.specs.Printed.{expression_at, expression_rank, expression_tokens, operator_rank}
-use Rattle.program_printer.proofs.Showing.{Shown, looser, pass, enclose, sign_spelled}
+use Rattle.program_printer.proofs.Showing.{Shown, looser, part_alone, tokens_around, sign_spelled}
 
 -- ---- the nonterminals of expressions
 -- each one reaches the productions of the one before it
@@ -20,14 +20,14 @@ abbrev IsShown : ℕ → HostTerm → ℕ → List Text → Type 0
 IsShown p e k ts = Shown (term_at p) e k ts
 
 up_one : (p : ℕ) {e : HostTerm} {k : ℕ} {ts : List Text} → IsShown p e k ts → IsShown (suc p) e k ts
-up_one zero s = pass (λ d. grammar.unprefixed d) (λ d. refl) (λ d e. e) (λ d. refl) s
-up_one (suc zero) s = pass (λ d. grammar.single grammar.product d) (λ d. refl) (λ d e. e) (λ d. refl) s
-up_one (suc (suc zero)) s = pass (λ d. grammar.single grammar.sum d) (λ d. refl) (λ d e. e) (λ d. refl) s
-up_one (suc (suc (suc zero))) s = pass (λ d. grammar.unlisted d) (λ d. refl) (λ d e. e) (λ d. refl) s
-up_one (suc (suc (suc (suc zero)))) s = pass (λ d. grammar.uncompared d) (λ d. refl) (λ d e. e) (λ d. refl) s
-up_one (suc (suc (suc (suc (suc zero))))) s = pass (λ d. grammar.single grammar.both d) (λ d. refl) (λ d e. e) (λ d. refl) s
-up_one (suc (suc (suc (suc (suc (suc zero)))))) s = pass (λ d. grammar.single grammar.either d) (λ d. refl) (λ d e. e) (λ d. refl) s
-up_one (suc (suc (suc (suc (suc (suc (suc zero))))))) s = pass (λ d. grammar.plain d) (λ d. refl) (λ d e. e) (λ d. refl) s
+up_one zero s = part_alone (λ d. grammar.unprefixed d) (λ d. refl) (λ d e. e) (λ d. refl) s
+up_one (suc zero) s = part_alone (λ d. grammar.single grammar.product d) (λ d. refl) (λ d e. e) (λ d. refl) s
+up_one (suc (suc zero)) s = part_alone (λ d. grammar.single grammar.sum d) (λ d. refl) (λ d e. e) (λ d. refl) s
+up_one (suc (suc (suc zero))) s = part_alone (λ d. grammar.unlisted d) (λ d. refl) (λ d e. e) (λ d. refl) s
+up_one (suc (suc (suc (suc zero)))) s = part_alone (λ d. grammar.uncompared d) (λ d. refl) (λ d e. e) (λ d. refl) s
+up_one (suc (suc (suc (suc (suc zero))))) s = part_alone (λ d. grammar.single grammar.both d) (λ d. refl) (λ d e. e) (λ d. refl) s
+up_one (suc (suc (suc (suc (suc (suc zero)))))) s = part_alone (λ d. grammar.single grammar.either d) (λ d. refl) (λ d e. e) (λ d. refl) s
+up_one (suc (suc (suc (suc (suc (suc (suc zero))))))) s = part_alone (λ d. grammar.plain d) (λ d. refl) (λ d e. e) (λ d. refl) s
 up_one (suc (suc (suc (suc (suc (suc (suc (suc p)))))))) s = s
 
 -- as many places further
@@ -95,7 +95,7 @@ pub record Own (p : ℕ) (e : HostTerm) (most : ℕ) : Type 0 where
   pub enclosed : nat_lt p (expression_rank e) ≡ true → suc least ≤ most
 
 grouped : {e : HostTerm} {k : ℕ} {ts : List Text} → IsShown 8 e k ts → IsShown 0 e (1 + k) (codes "(" ∷ ts ++ codes ")" ∷ [])
-grouped s = enclose 1 (symbol signs.Open 0) (symbol signs.Close 0) (sign_spelled signs.Open 0) (sign_spelled signs.Close 0)
+grouped s = tokens_around 1 (symbol signs.Open 0) (symbol signs.Close 0) (sign_spelled signs.Open 0) (sign_spelled signs.Close 0)
     (λ n d m. grammar.group n d m) (λ n d m. refl) (λ n d m e. e) (λ n d m. omega arith) s
 
 pub at_place : (p : ℕ) (e : HostTerm) {k : ℕ} → p ≤ 8 → Own p e k → Shown (term_at p) e k (expression_at p e)

@@ -1,4 +1,3 @@
-pub mod BodyLemmas
 pub mod DefinitionProductions
 pub mod ExpressionPlaces
 pub mod ExpressionProductions

@@ -9,13 +9,13 @@ use Rattle.program_printer.proofs.Placing.{put, spelling, IsSpelled, behind, beh
 use Rattle.program_printer.proofs.Showing.{Shown, before, joined, word_before, sign_before}
 
 -- two tokens and a part
-pub front_two :
+pub two_tokens_and_part :
     {V W : Type 0} {f g : Form} {val : Parse f → V} {part : Parse g → W} {v : V} {w : W} {k : ℕ} {ts : List Text} (l1 l2 : Lexeme)
     → IsSpelled l1 → IsSpelled l2 → (C : ℕ → ℕ → Parse g → Parse f)
     → ((n1 n2 : ℕ) (d : Parse g) → tokens (C n1 n2 d) ≡ put l1 n1 ∷ put l2 n2 ∷ tokens d)
     → ((n1 n2 : ℕ) (d : Parse g) → part d ≡ w → val (C n1 n2 d) ≡ v)
     → ((n1 n2 : ℕ) (d : Parse g) → levels (C n1 n2 d) ≡ levels d) → Shown part w k ts → Shown val v k (spelling l1 ∷ spelling l2 ∷ ts)
-front_two l1 l2 s1 s2 C toks mean same s = record {
+two_tokens_and_part l1 l2 s1 s2 C toks mean same s = record {
   written = before l1 s1 (before l2 s2 s.written);
   stands = λ n1.
       let n2 = behind n1 l1 in
@@ -29,14 +29,14 @@ front_two l1 l2 s1 s2 C toks mean same s = record {
 }
 
 -- three tokens and a part
-pub front_three :
+pub three_tokens_and_part :
     {V W : Type 0} {f g : Form} {val : Parse f → V} {part : Parse g → W} {v : V} {w : W} {k : ℕ} {ts : List Text} (l1 l2 l3 : Lexeme)
     → IsSpelled l1 → IsSpelled l2 → IsSpelled l3 → (C : ℕ → ℕ → ℕ → Parse g → Parse f)
     → ((n1 n2 n3 : ℕ) (d : Parse g) → tokens (C n1 n2 n3 d) ≡ put l1 n1 ∷ put l2 n2 ∷ put l3 n3 ∷ tokens d)
     → ((n1 n2 n3 : ℕ) (d : Parse g) → part d ≡ w → val (C n1 n2 n3 d) ≡ v)
     → ((n1 n2 n3 : ℕ) (d : Parse g) → levels (C n1 n2 n3 d) ≡ levels d) → Shown part w k ts
     → Shown val v k (spelling l1 ∷ spelling l2 ∷ spelling l3 ∷ ts)
-front_three l1 l2 l3 s1 s2 s3 C toks mean same s = record {
+three_tokens_and_part l1 l2 l3 s1 s2 s3 C toks mean same s = record {
   written = before l1 s1 (before l2 s2 (before l3 s3 s.written));
   stands = λ n1.
       let n2 = behind n1 l1 in
@@ -51,7 +51,7 @@ front_three l1 l2 l3 s1 s2 s3 C toks mean same s = record {
 }
 
 -- two tokens, a part, a token and a part
-pub changed :
+pub two_tokens_and_two_parts :
     {U V W : Type 0} {f g h : Form} {val : Parse f → V} {left : Parse g → U} {right : Parse h → W} {v : V} {u : U} {w : W} {j k : ℕ}
     {ts us : List Text}
     (l1 l2 m : Lexeme) → IsSpelled l1 → IsSpelled l2 → IsSpelled m → (C : ℕ → ℕ → Parse g → ℕ → Parse h → Parse f)
@@ -59,7 +59,7 @@ pub changed :
     → ((n1 n2 : ℕ) (a : Parse g) (o : ℕ) (b : Parse h) → left a ≡ u → right b ≡ w → val (C n1 n2 a o b) ≡ v)
     → ((n1 n2 : ℕ) (a : Parse g) (o : ℕ) (b : Parse h) → levels (C n1 n2 a o b) ≡ suc (max (levels a) (levels b)))
     → Shown left u j ts → Shown right w k us → Shown val v (suc (max j k)) (spelling l1 ∷ spelling l2 ∷ ts ++ spelling m ∷ us)
-changed l1 l2 m s1 s2 sm C toks mean same a b = record {
+two_tokens_and_two_parts l1 l2 m s1 s2 sm C toks mean same a b = record {
   written = before l1 s1 (before l2 s2 (joined a.written (before m sm b.written)));
   stands = λ n1.
       let n2 = behind n1 l1 in
@@ -78,7 +78,7 @@ changed l1 l2 m s1 s2 sm C toks mean same a b = record {
 }
 
 -- two parts with three tokens between them
-pub stepped :
+pub three_tokens_between :
     {U V W : Type 0} {f g h : Form} {val : Parse f → V} {left : Parse g → U} {right : Parse h → W} {v : V} {u : U} {w : W} {j k : ℕ}
     {ts us : List Text}
     (l1 l2 l3 : Lexeme) → IsSpelled l1 → IsSpelled l2 → IsSpelled l3 → (C : Parse g → ℕ → ℕ → ℕ → Parse h → Parse f)
@@ -86,7 +86,7 @@ pub stepped :
     → ((a : Parse g) (n1 n2 n3 : ℕ) (b : Parse h) → left a ≡ u → right b ≡ w → val (C a n1 n2 n3 b) ≡ v)
     → ((a : Parse g) (n1 n2 n3 : ℕ) (b : Parse h) → levels (C a n1 n2 n3 b) ≡ suc (max (levels a) (levels b)))
     → Shown left u j ts → Shown right w k us → Shown val v (suc (max j k)) (ts ++ spelling l1 ∷ spelling l2 ∷ spelling l3 ∷ us)
-stepped l1 l2 l3 s1 s2 s3 C toks mean same a b = record {
+three_tokens_between l1 l2 l3 s1 s2 s3 C toks mean same a b = record {
   written = joined a.written (before l1 s1 (before l2 s2 (before l3 s3 b.written)));
   stands = λ n.
       let x = a.stands n in
@@ -106,7 +106,7 @@ stepped l1 l2 l3 s1 s2 s3 C toks mean same a b = record {
 }
 
 -- two tokens, a part, a token, a part, a token and a part
-pub headed :
+pub two_tokens_and_three_parts :
     {T U V W : Type 0} {f g h i : Form} {val : Parse f → V} {first : Parse g → T} {second : Parse h → U} {third : Parse i → W} {v : V}
     {t : T} {u : U} {w : W} {j k q : ℕ} {ts us vs : List Text}
     (l1 l2 m r : Lexeme) → IsSpelled l1 → IsSpelled l2 → IsSpelled m → IsSpelled r
@@ -119,7 +119,7 @@ pub headed :
     → levels (C n1 n2 a o b p c) ≡ max (levels a) (max (levels b) (levels c)))
     → Shown first t j ts → Shown second u k us → Shown third w q vs
     → Shown val v (max j (max k q)) (spelling l1 ∷ spelling l2 ∷ ts ++ spelling m ∷ us ++ spelling r ∷ vs)
-headed l1 l2 m r s1 s2 sm sr C toks mean same a b c = record {
+two_tokens_and_three_parts l1 l2 m r s1 s2 sm sr C toks mean same a b c = record {
   written = before l1 s1 (before l2 s2 (joined (joined a.written (before m sm b.written)) (before r sr c.written)));
   stands = λ n1.
       let n2 = behind n1 l1 in
@@ -144,7 +144,7 @@ headed l1 l2 m r s1 s2 sm sr C toks mean same a b c = record {
 }
 
 -- `case`, its list, and the parts for an empty list and for another
-pub matched :
+pub case_of_three_parts :
     {T U V W : Type 0} {f g h i : Form} {val : Parse f → V} {first : Parse g → T} {second : Parse h → U} {third : Parse i → W} {v : V}
     {t : T} {u : U} {w : W} {j k q : ℕ} {ts us vs : List Text}
     (x y : Text) → IsSpelled (name x 0) → IsSpelled (name y 0)
@@ -164,7 +164,7 @@ pub matched :
     (spelling (keyword words.Case 0) ∷ ts ++ spelling (keyword words.Of 0) ∷ spelling (symbol signs.OpenBracket 0)
     ∷ spelling (symbol signs.CloseBracket 0) ∷ spelling (symbol signs.Arrow 0) ∷ us
     ++ spelling (symbol signs.Bar 0) ∷ x ∷ spelling (symbol signs.Cons 0) ∷ y ∷ spelling (symbol signs.Arrow 0) ∷ vs)
-matched x y sx sy C toks mean same a b c = record {
+case_of_three_parts x y sx sy C toks mean same a b c = record {
   written = word_before words.Case
       (joined (joined a.written
       (word_before words.Of (sign_before signs.OpenBracket (sign_before signs.CloseBracket (sign_before signs.Arrow b.written)))))

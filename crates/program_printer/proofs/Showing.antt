@@ -64,30 +64,30 @@ looser le s = record {
 }
 
 -- one token
-pub leaf :
+pub one_token :
     {V : Type 0} {f : Form} {val : Parse f → V} {v : V} (l : Lexeme) → IsSpelled l → (C : ℕ → Parse f)
     → ((n : ℕ) → tokens (C n) ≡ put l n ∷ []) → ((n : ℕ) → val (C n) ≡ v) → ((n : ℕ) → levels (C n) ≤ 1) → Shown val v 1 (spelling l ∷ [])
-leaf l s C toks mean few = record {
+one_token l s C toks mean few = record {
   written = before l s ended;
   stands = λ n. record { parse = C n; tokens_are = toks n; means = mean n; within = few n };
 }
 
 -- two tokens
-pub leaf_two :
+pub two_tokens :
     {V : Type 0} {f : Form} {val : Parse f → V} {v : V} (k : ℕ) (l m : Lexeme) → IsSpelled l → IsSpelled m → (C : ℕ → ℕ → Parse f)
     → ((n o : ℕ) → tokens (C n o) ≡ put l n ∷ put m o ∷ []) → ((n o : ℕ) → val (C n o) ≡ v) → ((n o : ℕ) → levels (C n o) ≤ k)
     → Shown val v k (spelling l ∷ spelling m ∷ [])
-leaf_two k l m s t C toks mean few = record {
+two_tokens k l m s t C toks mean few = record {
   written = before l s (before m t ended);
   stands = λ n. let o = behind n l in record { parse = C n o; tokens_are = toks n o; means = mean n o; within = few n o };
 }
 
 -- a part alone
-pub pass :
+pub part_alone :
     {V W : Type 0} {f g : Form} {val : Parse f → V} {part : Parse g → W} {v : V} {w : W} {k : ℕ} {ts : List Text} (C : Parse g → Parse f)
     → ((d : Parse g) → tokens (C d) ≡ tokens d) → ((d : Parse g) → part d ≡ w → val (C d) ≡ v) → ((d : Parse g) → levels (C d) ≡ levels d)
     → Shown part w k ts → Shown val v k ts
-pass C toks mean same s = record {
+part_alone C toks mean same s = record {
   written = s.written;
   stands = λ n. let d = s.stands n in record {
     parse = C d.parse;
@@ -99,12 +99,12 @@ pass C toks mean same s = record {
 }
 
 -- a token and a part
-pub front :
+pub token_and_part :
     {V W : Type 0} {f g : Form} {val : Parse f → V} {part : Parse g → W} {v : V} {w : W} {k : ℕ} {ts : List Text} (l : Lexeme) → IsSpelled l
     → (C : ℕ → Parse g → Parse f)
     → ((n : ℕ) (d : Parse g) → tokens (C n d) ≡ put l n ∷ tokens d) → ((n : ℕ) (d : Parse g) → part d ≡ w → val (C n d) ≡ v)
     → ((n : ℕ) (d : Parse g) → levels (C n d) ≡ suc (levels d)) → Shown part w k ts → Shown val v (suc k) (spelling l ∷ ts)
-front l sp C toks mean same s = record {
+token_and_part l sp C toks mean same s = record {
   written = before l sp s.written;
   stands = λ n. let d = s.stands (behind n l) in record {
     parse = C n d.parse;
@@ -115,7 +115,7 @@ front l sp C toks mean same s = record {
 }
 
 -- two parts with a token between them
-pub between :
+pub token_between :
     {U V W : Type 0} {f g h : Form} {val : Parse f → V} {left : Parse g → U} {right : Parse h → W} {v : V} {u : U} {w : W} {j k : ℕ}
     {ts us : List Text}
     (bump : ℕ) (l : Lexeme) → IsSpelled l → (C : Parse g → ℕ → Parse h → Parse f)
@@ -123,7 +123,7 @@ pub between :
     → ((a : Parse g) (n : ℕ) (b : Parse h) → left a ≡ u → right b ≡ w → val (C a n b) ≡ v)
     → ((a : Parse g) (n : ℕ) (b : Parse h) → levels (C a n b) ≡ bump + max (levels a) (levels b))
     → Shown left u j ts → Shown right w k us → Shown val v (bump + max j k) (ts ++ spelling l ∷ us)
-between bump l sp C toks mean same a b = record {
+token_between bump l sp C toks mean same a b = record {
   written = joined a.written (before l sp b.written);
   stands = λ n.
       let x = a.stands n in
@@ -139,14 +139,14 @@ between bump l sp C toks mean same a b = record {
 }
 
 -- a part between two tokens
-pub enclose :
+pub tokens_around :
     {V W : Type 0} {f g : Form} {val : Parse f → V} {part : Parse g → W} {v : V} {w : W} {k : ℕ} {ts : List Text} (bump : ℕ) (l r : Lexeme)
     → IsSpelled l → IsSpelled r → (C : ℕ → Parse g → ℕ → Parse f)
     → ((n : ℕ) (d : Parse g) (m : ℕ) → tokens (C n d m) ≡ put l n ∷ tokens d ++ put r m ∷ [])
     → ((n : ℕ) (d : Parse g) (m : ℕ) → part d ≡ w → val (C n d m) ≡ v)
     → ((n : ℕ) (d : Parse g) (m : ℕ) → levels (C n d m) ≡ bump + levels d) → Shown part w k ts
     → Shown val v (bump + k) (spelling l ∷ ts ++ spelling r ∷ [])
-enclose bump l r sl sr C toks mean same s = record {
+tokens_around bump l r sl sr C toks mean same s = record {
   written = before l sl (joined s.written (before r sr ended));
   stands = λ n.
       let d = s.stands (behind n l) in
@@ -161,7 +161,7 @@ enclose bump l r sl sr C toks mean same s = record {
 }
 
 -- two parts with a token before, between and behind them
-pub enclose_two :
+pub tokens_around_two :
     {U V W : Type 0} {f g h : Form} {val : Parse f → V} {left : Parse g → U} {right : Parse h → W} {v : V} {u : U} {w : W} {j k : ℕ}
     {ts us : List Text}
     (l m r : Lexeme) → IsSpelled l → IsSpelled m → IsSpelled r → (C : ℕ → Parse g → ℕ → Parse h → ℕ → Parse f)
@@ -170,7 +170,7 @@ pub enclose_two :
     → ((n : ℕ) (a : Parse g) (o : ℕ) (b : Parse h) (p : ℕ) → left a ≡ u → right b ≡ w → val (C n a o b p) ≡ v)
     → ((n : ℕ) (a : Parse g) (o : ℕ) (b : Parse h) (p : ℕ) → levels (C n a o b p) ≡ suc (max (levels a) (levels b)))
     → Shown left u j ts → Shown right w k us → Shown val v (suc (max j k)) (spelling l ∷ ts ++ spelling m ∷ us ++ spelling r ∷ [])
-enclose_two l m r sl sm sr C toks mean same a b = record {
+tokens_around_two l m r sl sm sr C toks mean same a b = record {
   written = before l sl (joined (joined a.written (before m sm b.written)) (before r sr ended));
   stands = λ n.
       let n1 = behind n l in
@@ -191,7 +191,7 @@ enclose_two l m r sl sm sr C toks mean same a b = record {
 }
 
 -- three tokens, a part, a token and a part
-pub bound :
+pub three_tokens_and_two_parts :
     {U V W : Type 0} {f g h : Form} {val : Parse f → V} {left : Parse g → U} {right : Parse h → W} {v : V} {u : U} {w : W} {j k : ℕ}
     {ts us : List Text}
     (l1 l2 l3 m : Lexeme) → IsSpelled l1 → IsSpelled l2 → IsSpelled l3 → IsSpelled m → (C : ℕ → ℕ → ℕ → Parse g → ℕ → Parse h → Parse f)
@@ -200,7 +200,7 @@ pub bound :
     → ((n1 n2 n3 : ℕ) (a : Parse g) (o : ℕ) (b : Parse h) → left a ≡ u → right b ≡ w → val (C n1 n2 n3 a o b) ≡ v)
     → ((n1 n2 n3 : ℕ) (a : Parse g) (o : ℕ) (b : Parse h) → levels (C n1 n2 n3 a o b) ≡ suc (max (levels a) (levels b)))
     → Shown left u j ts → Shown right w k us → Shown val v (suc (max j k)) (spelling l1 ∷ spelling l2 ∷ spelling l3 ∷ ts ++ spelling m ∷ us)
-bound l1 l2 l3 m s1 s2 s3 sm C toks mean same a b = record {
+three_tokens_and_two_parts l1 l2 l3 m s1 s2 s3 sm C toks mean same a b = record {
   written = before l1 s1 (before l2 s2 (before l3 s3 (joined a.written (before m sm b.written))));
   stands = λ n1.
       let n2 = behind n1 l1 in
@@ -220,7 +220,7 @@ bound l1 l2 l3 m s1 s2 s3 sm C toks mean same a b = record {
 }
 
 -- a token before each of three parts
-pub branched :
+pub token_before_each :
     {T U V W : Type 0} {f g h i : Form} {val : Parse f → V} {first : Parse g → T} {second : Parse h → U} {third : Parse i → W} {v : V}
     {t : T} {u : U} {w : W} {j k q : ℕ} {ts us vs : List Text}
     (l m r : Lexeme) → IsSpelled l → IsSpelled m → IsSpelled r → (C : ℕ → Parse g → ℕ → Parse h → ℕ → Parse i → Parse f)
@@ -232,7 +232,7 @@ pub branched :
     → levels (C n a o b p c) ≡ suc (max (levels a) (max (levels b) (levels c))))
     → Shown first t j ts → Shown second u k us → Shown third w q vs
     → Shown val v (suc (max j (max k q))) (spelling l ∷ ts ++ spelling m ∷ us ++ spelling r ∷ vs)
-branched l m r sl sm sr C toks mean same a b c = record {
+token_before_each l m r sl sm sr C toks mean same a b c = record {
   written = before l sl (joined (joined a.written (before m sm b.written)) (before r sr c.written));
   stands = λ n.
       let n1 = behind n l in

@@ -10,10 +10,10 @@ use Rattle.task_model.specs.Grammar as grammar
 use Rattle.task_model.specs.Grammar.{Form, Parse, tokens, levels}
 use Rattle.task_model.specs.Meaning.{meaning, bodies, bodies_of}
 use Rattle.program_printer.specs.PrintedPlaces.{task_form}
-use Rattle.task_model.specs.Printed.{BodyText, body_numbered, body_text, body_texts, task_rank, task_tokens, task_at}
+use Rattle.task_model.specs.Printed.{BodyText, no_body, body_numbered, body_text, body_texts, task_rank, task_tokens, task_at}
 use Rattle.program_printer.proofs.ExpressionPlaces.{climbed, climbed_sum}
-use Rattle.program_printer.proofs.BodyLemmas.{numbered_there}
-use Rattle.program_printer.proofs.Showing.{Shown, looser, pass, enclose, sign_spelled}
+use Rattle.task_model.proofs.BodyLemmas.{numbered_there}
+use Rattle.program_printer.proofs.Showing.{Shown, looser, part_alone, tokens_around, sign_spelled}
 
 -- ---- bodies by their numbers
 -- from this number on, the bodies as they are written are these
@@ -40,7 +40,10 @@ agrees_right first bs next n front more after many h = λ i le.
 
 pub agrees_head : (first : ℕ) (bs : List BodyText) (next : ℕ) (b : BodyTerm) (rest : List BodyTerm) → Agrees first bs next (b ∷ rest)
     → body_numbered first bs next ≡ body_text (suc next) (body_texts (suc next) rest) b
-agrees_head first bs next b rest h = h next (omega arith) ∙ numbered_there next (b ∷ rest) [] b rest next refl (omega arith)
+agrees_head first bs next b rest h =
+    h next (omega arith)
+    ∙ numbered_there body_texts body_text body_numbered (λ x. x) no_body (λ _ _. refl) (λ _ _ _ _. refl) next (b ∷ rest) [] b rest next refl
+    (omega arith)
 
 pub agrees_self : (next : ℕ) (rest : List BodyTerm) → Agrees next (body_texts next rest) next rest
 agrees_self next rest = λ i le. refl
@@ -62,9 +65,9 @@ module _ (scope : List Text) (next : ℕ) where
   IsShown p v k ts = Shown (task_in p scope next) v k ts
 
   up_one : (p : ℕ) (v : TaskMeaning) (k : ℕ) (ts : List Text) → IsShown p v k ts → IsShown (suc p) v k ts
-  up_one zero v k ts s = pass (λ d. grammar.single grammar.chain d) (λ d. refl) (λ d e. e) (λ d. refl) s
-  up_one (suc zero) v k ts s = pass (λ d. grammar.single grammar.choice d) (λ d. refl) (λ d e. e) (λ d. refl) s
-  up_one (suc (suc zero)) v k ts s = pass (λ d. grammar.task_plain d) (λ d. refl) (λ d e. e) (λ d. refl) s
+  up_one zero v k ts s = part_alone (λ d. grammar.single grammar.chain d) (λ d. refl) (λ d e. e) (λ d. refl) s
+  up_one (suc zero) v k ts s = part_alone (λ d. grammar.single grammar.choice d) (λ d. refl) (λ d e. e) (λ d. refl) s
+  up_one (suc (suc zero)) v k ts s = part_alone (λ d. grammar.task_plain d) (λ d. refl) (λ d e. e) (λ d. refl) s
   up_one (suc (suc (suc p))) v k ts s = s
 
   up : (n p : ℕ) (v : TaskMeaning) (k : ℕ) (ts : List Text) → IsShown p v k ts → IsShown (climbed n p) v k ts
@@ -77,7 +80,7 @@ module _ (scope : List Text) (next : ℕ) where
       subst (λ r. IsShown r v k ts) same (up (q - p) p v k ts s)
 
   grouped : (v : TaskMeaning) (k : ℕ) (ts : List Text) → IsShown 3 v k ts → IsShown 0 v (1 + k) (codes "(" ∷ ts ++ codes ")" ∷ [])
-  grouped v k ts s = enclose 1 (symbol signs.Open 0) (symbol signs.Close 0) (sign_spelled signs.Open 0) (sign_spelled signs.Close 0)
+  grouped v k ts s = tokens_around 1 (symbol signs.Open 0) (symbol signs.Close 0) (sign_spelled signs.Open 0) (sign_spelled signs.Close 0)
       (λ n d m. grammar.task_group n d m) (λ n d m. refl) (λ n d m e. e) (λ n d m. omega arith) s
 
 -- ---- a task at its place

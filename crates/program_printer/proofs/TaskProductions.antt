@@ -13,8 +13,8 @@ use Rattle.task_model.specs.Grammar.{Parse, tokens, levels}
 use Rattle.task_model.specs.Meaning.{meaning, bodies, bodies_of}
 use Rattle.task_model.specs.Printed.{BodyText, body_numbered, body_text, body_at, step_tokens, task_at}
 use Rattle.program_printer.proofs.Placing.{IsSpelled}
-use Rattle.program_printer.proofs.Showing.{Shown, leaf_two, front, between, bound, branched, word_spelled, sign_spelled}
-use Rattle.program_printer.proofs.LongShowing.{changed, stepped, matched}
+use Rattle.program_printer.proofs.Showing.{Shown, two_tokens, token_and_part, token_between, three_tokens_and_two_parts, token_before_each, word_spelled, sign_spelled}
+use Rattle.program_printer.proofs.LongShowing.{two_tokens_and_two_parts, three_tokens_between, case_of_three_parts}
 use Rattle.program_printer.proofs.ExpressionPlaces.{Own, at_place}
 use Rattle.program_printer.proofs.ExpressionProductions.{ShownType, ShownArguments}
 use Rattle.program_printer.proofs.TaskPlaces.{TaskMeaning, OwnTask, task_here, task_in, task_place}
@@ -98,32 +98,32 @@ module _ (scope : List Text) (next first : ℕ) (bs : List BodyText) where
   pub own_edit : (e : HostTerm) (k : ℕ) → Own 0 e k → OwnTask 0 scope next first bs (edit e, 0, []) (suc k)
   own_edit e k o =
       task_here 0 scope next first bs (edit e, 0, []) refl
-      (front (keyword words.Edit 0) (word_spelled words.Edit 0) (λ n d. grammar.task_edit n d) (λ n d. refl)
+      (token_and_part (keyword words.Edit 0) (word_spelled words.Edit 0) (λ n d. grammar.task_edit n d) (λ n d. refl)
       (λ n d p. ap {A = HostTerm} {B = TaskMeaning} (λ z. (edit z, 0, [])) p) (λ n d. refl) (at_place 0 e (omega arith) o))
 
   pub own_enter : (b : BasicTerm) (k : ℕ) → ShownType b k → OwnTask 0 scope next first bs (enter b, 0, []) (suc k)
   own_enter b k s =
       task_here 0 scope next first bs (enter b, 0, []) refl
-      (front (keyword words.Enter 0) (word_spelled words.Enter 0) (λ n d. grammar.task_enter n d) (λ n d. refl)
+      (token_and_part (keyword words.Enter 0) (word_spelled words.Enter 0) (λ n d. grammar.task_enter n d) (λ n d. refl)
       (λ n d p. ap {A = BasicTerm} {B = TaskMeaning} (λ z. (enter z, 0, [])) p) (λ n d. refl) s)
 
   pub own_fail : (b : BasicTerm) (k : ℕ) → ShownType b k → OwnTask 0 scope next first bs (fail b, 0, []) (suc k)
   own_fail b k s =
       task_here 0 scope next first bs (fail b, 0, []) refl
-      (front (keyword words.Fail 0) (word_spelled words.Fail 0) (λ n d. grammar.task_fail n d) (λ n d. refl)
+      (token_and_part (keyword words.Fail 0) (word_spelled words.Fail 0) (λ n d. grammar.task_fail n d) (λ n d. refl)
       (λ n d p. ap {A = BasicTerm} {B = TaskMeaning} (λ z. (fail z, 0, [])) p) (λ n d. refl) s)
 
   pub own_share : (x : Text) → IsSpelled (name x 0) → OwnTask 0 scope next first bs (share x, 0, []) 1
   own_share x s =
       task_here 0 scope next first bs (share x, 0, []) refl
-      (leaf_two 1 (keyword words.Share 0) (name x 0) (word_spelled words.Share 0) s (λ n m. grammar.task_share n x m) (λ n m. refl)
+      (two_tokens 1 (keyword words.Share 0) (name x 0) (word_spelled words.Share 0) s (λ n m. grammar.task_share n x m) (λ n m. refl)
       (λ n m. refl) (λ n m. omega arith))
 
   pub own_task_call : (x : Text) (es : List HostTerm) (k : ℕ) → IsSpelled (name x 0) → ShownArguments es k
       → OwnTask 0 scope next first bs (call_task x es, 0, []) (suc k)
   own_task_call x es k s a =
       task_here 0 scope next first bs (call_task x es, 0, []) refl
-      (front (name x 0) s (λ n d. grammar.task_call x n d) (λ n d. refl)
+      (token_and_part (name x 0) s (λ n d. grammar.task_call x n d) (λ n d. refl)
       (λ n d p. ap {A = List HostTerm} {B = TaskMeaning} (λ z. (call_task x z, 0, [])) p) (λ n d. refl) a)
 
   -- ---- operators
@@ -131,7 +131,7 @@ module _ (scope : List Text) (next first : ℕ) (bs : List BodyText) where
       → OwnTask 1 scope next first bs (and_task v.0 w.0, v.1 + w.1, v.2 ++ w.2) (1 + max j k)
   own_together v w j k o q =
       task_here 1 scope next first bs (and_task v.0 w.0, v.1 + w.1, v.2 ++ w.2) refl
-      (between 1 (symbol signs.Pair 0) (sign_spelled signs.Pair 0) (λ x n y. grammar.joined grammar.chain x grammar.together n y)
+      (token_between 1 (symbol signs.Pair 0) (sign_spelled signs.Pair 0) (λ x n y. grammar.joined grammar.chain x grammar.together n y)
       (λ x n y. refl)
       (λ x n y e f. two_are and_task next v w (meaning x next) (bodies x) (bodies_of x scope next) (meaning y) (bodies y)
       (bodies_of y scope) e f) (λ x n y. refl)
@@ -141,7 +141,7 @@ module _ (scope : List Text) (next first : ℕ) (bs : List BodyText) where
       → OwnTask 2 scope next first bs (or_task v.0 w.0, v.1 + w.1, v.2 ++ w.2) (1 + max j k)
   own_internal v w j k o q =
       task_here 2 scope next first bs (or_task v.0 w.0, v.1 + w.1, v.2 ++ w.2) refl
-      (between 1 (symbol signs.InternalChoice 0) (sign_spelled signs.InternalChoice 0)
+      (token_between 1 (symbol signs.InternalChoice 0) (sign_spelled signs.InternalChoice 0)
       (λ x n y. grammar.joined grammar.choice x grammar.internal n y) (λ x n y. refl)
       (λ x n y e f. two_are or_task next v w (meaning x next) (bodies x) (bodies_of x scope next) (meaning y) (bodies y)
       (bodies_of y scope) e f) (λ x n y. refl)
@@ -171,7 +171,7 @@ module _ (scope : List Text) (next first : ℕ) (bs : List BodyText) where
       ∙ ap (λ b. body_at 2 (body_numbered first bs next) ++ codes "<?>" ∷ body_at 1 b) (sym right) in
       task_here 2 scope next first bs whole refl
       (subst (λ ts. Shown (task_in 2 scope next) whole (1 + max j k) ts) texts
-      (between 1 (symbol signs.ExternalChoice 0) (sign_spelled signs.ExternalChoice 0)
+      (token_between 1 (symbol signs.ExternalChoice 0) (sign_spelled signs.ExternalChoice 0)
       (λ x n y. grammar.joined grammar.choice x grammar.external n y) (λ x n y. refl)
       (λ x n y e f. external_is scope next v w (meaning x (suc next)) (bodies x) (bodies_of x scope (suc next)) (meaning y) (bodies y)
       (bodies_of y scope) e f) (λ x n y. refl)
@@ -187,7 +187,7 @@ module _ (scope : List Text) (next first : ℕ) (bs : List BodyText) where
       task_here 3 scope next first bs whole refl
       (subst (λ ts. Shown (task_in 3 scope next) whole (suc (max j k)) ts)
       (ap (λ b. task_at 2 first bs v.0 ++ codes ">>=" ∷ step_tokens b) (sym there))
-      (stepped (symbol signs.InternalStep 0) (name x 0) (symbol signs.Dot 0) (sign_spelled signs.InternalStep 0) s
+      (three_tokens_between (symbol signs.InternalStep 0) (name x 0) (symbol signs.Dot 0) (sign_spelled signs.InternalStep 0) s
       (sign_spelled signs.Dot 0)
       (λ a n m r b. grammar.task_then a n x m r b) (λ a n m r b. refl)
       (λ a n m r b e f.
@@ -206,7 +206,8 @@ module _ (scope : List Text) (next first : ℕ) (bs : List BodyText) where
       task_here 3 scope next first bs whole refl
       (subst (λ ts. Shown (task_in 3 scope next) whole (suc (max j k)) ts)
       (ap (λ b. task_at 2 first bs v.0 ++ codes ">>?" ∷ step_tokens b) (sym there))
-      (stepped (symbol signs.UserStep 0) (name x 0) (symbol signs.Dot 0) (sign_spelled signs.UserStep 0) s (sign_spelled signs.Dot 0)
+      (three_tokens_between (symbol signs.UserStep 0) (name x 0) (symbol signs.Dot 0) (sign_spelled signs.UserStep 0) s
+      (sign_spelled signs.Dot 0)
       (λ a n m r b. grammar.task_next a n x m r b) (λ a n m r b. refl)
       (λ a n m r b e f.
       step_is next_task scope x next v w (meaning a next) (bodies a) (bodies_of a scope next) (meaning b) (bodies b)
@@ -219,7 +220,7 @@ module _ (scope : List Text) (next first : ℕ) (bs : List BodyText) where
       → OwnTask 3 (scope ++ x ∷ []) next first bs v k → OwnTask 3 scope next first bs (let_task x e v.0, v.1, v.2) (suc (max j k))
   own_task_let x e v j k s o q =
       task_here 3 scope next first bs (let_task x e v.0, v.1, v.2) refl
-      (bound (keyword words.Let 0) (name x 0) (symbol signs.Define 0) (keyword words.In 0) (word_spelled words.Let 0) s
+      (three_tokens_and_two_parts (keyword words.Let 0) (name x 0) (symbol signs.Define 0) (keyword words.In 0) (word_spelled words.Let 0) s
       (sign_spelled signs.Define 0) (word_spelled words.In 0)
       (λ n m r a p b. grammar.task_let n x m r a p b) (λ n m r a p b. refl)
       (λ n m r a p b f g. ap {A = HostTerm} {B = TaskMeaning}
@@ -231,7 +232,7 @@ module _ (scope : List Text) (next first : ℕ) (bs : List BodyText) where
       → OwnTask 3 (scope ++ x ∷ []) next first bs v k → OwnTask 3 scope next first bs (new_task x e v.0, v.1, v.2) (suc (max j k))
   own_task_new x e v j k s o q =
       task_here 3 scope next first bs (new_task x e v.0, v.1, v.2) refl
-      (bound (keyword words.New 0) (name x 0) (symbol signs.Define 0) (keyword words.In 0) (word_spelled words.New 0) s
+      (three_tokens_and_two_parts (keyword words.New 0) (name x 0) (symbol signs.Define 0) (keyword words.In 0) (word_spelled words.New 0) s
       (sign_spelled signs.Define 0) (word_spelled words.In 0)
       (λ n m r a p b. grammar.task_new n x m r a p b) (λ n m r a p b. refl)
       (λ n m r a p b f g. ap {A = HostTerm} {B = TaskMeaning}
@@ -243,7 +244,7 @@ module _ (scope : List Text) (next first : ℕ) (bs : List BodyText) where
       → OwnTask 3 scope next first bs (put_task x e v.0, v.1, v.2) (suc (max j k))
   own_put x e v j k s o q =
       task_here 3 scope next first bs (put_task x e v.0, v.1, v.2) refl
-      (changed (name x 0) (symbol signs.Assign 0) (symbol signs.Semicolon 0) s (sign_spelled signs.Assign 0)
+      (two_tokens_and_two_parts (name x 0) (symbol signs.Assign 0) (symbol signs.Semicolon 0) s (sign_spelled signs.Assign 0)
       (sign_spelled signs.Semicolon 0)
       (λ n m a p b. grammar.task_put x n m a p b) (λ n m a p b. refl)
       (λ n m a p b f g. ap {A = HostTerm} {B = TaskMeaning} (λ z. (put_task x z (meaning b next), bodies b, bodies_of b scope next)) f
@@ -256,7 +257,8 @@ module _ (scope : List Text) (next first : ℕ) (bs : List BodyText) where
       → OwnTask 3 scope next first bs (if_task e v.0 w.0, v.1 + w.1, v.2 ++ w.2) (suc (max i (max j k)))
   own_task_if e v w i j k p o q =
       task_here 3 scope next first bs (if_task e v.0 w.0, v.1 + w.1, v.2 ++ w.2) refl
-      (branched (keyword words.If 0) (keyword words.Then 0) (keyword words.Else 0) (word_spelled words.If 0) (word_spelled words.Then 0)
+      (token_before_each (keyword words.If 0) (keyword words.Then 0) (keyword words.Else 0) (word_spelled words.If 0)
+      (word_spelled words.Then 0)
       (word_spelled words.Else 0)
       (λ n x m y r z. grammar.task_if n x m y r z) (λ n x m y r z. refl)
       (λ n x m y r z f g h. ap {A = HostTerm} {B = TaskMeaning}
@@ -276,7 +278,7 @@ module _ (scope : List Text) (next first : ℕ) (bs : List BodyText) where
       → OwnTask 3 scope next first bs (case_task e v.0 x y w.0, v.1 + w.1, v.2 ++ w.2) (suc (max i (max j k)))
   own_task_case x y e v w i j k sx sy p o q =
       task_here 3 scope next first bs (case_task e v.0 x y w.0, v.1 + w.1, v.2 ++ w.2) refl
-      (matched x y sx sy (λ n d o1 o2 o3 o4 a p1 p2 p3 p4 p5 z. grammar.task_case n d o1 o2 o3 o4 a p1 x p2 p3 y p4 p5 z)
+      (case_of_three_parts x y sx sy (λ n d o1 o2 o3 o4 a p1 p2 p3 p4 p5 z. grammar.task_case n d o1 o2 o3 o4 a p1 x p2 p3 y p4 p5 z)
       (λ n d o1 o2 o3 o4 a p1 p2 p3 p4 p5 z. refl)
       (λ n d o1 o2 o3 o4 a p1 p2 p3 p4 p5 z f g h.
       ap {A = HostTerm} {B = TaskMeaning}

@@ -1,3 +1,2 @@
-pub mod LaterTexts
 pub mod Lines
 pub mod PrintedPlaces

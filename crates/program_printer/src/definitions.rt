@@ -6,11 +6,10 @@ ghost use Rattle.task_model.specs.Printed.{basic_tokens, body_texts, kind_tokens
 ghost use Rattle.program_printer.specs.Lines.{with_tokens};
 
 use crate::expressions::{EXPRESSION, write_expression};
-use crate::later::Later;
 use crate::printer::Printer;
 use crate::tasks::{TASK, write_task};
 use crate::types::{write_basic, write_typed};
-use task_model::{Body, Def, DefBody, Kind, OutOfMemory, Param};
+use task_model::{Body, Def, DefBody, Kind, LaterBodies, OutOfMemory, Param};
 
 fn write_kind(out: &mut Printer, kind: &Kind) -> Result<(), OutOfMemory>
     ensures { OnOk result (out.new ≡ with_tokens out.old (kind_tokens (kind_term kind.now))) }
@@ -69,7 +68,7 @@ fn write_body(out: &mut Printer, bodies: &[Body], what: &DefBody) -> Result<(), 
 {
     match what {
         DefBody::Fun(e) => write_expression(out, EXPRESSION, e),
-        DefBody::Task(t) => write_task(out, TASK, &Later { first: 0, bodies }, t),
+        DefBody::Task(t) => write_task(out, TASK, &LaterBodies { first: 0, bodies }, t),
     }
 }
 

@@ -3,9 +3,7 @@
 
 mod definitions;
 mod expressions;
-mod later;
 mod laws;
-mod numbered;
 mod operators;
 mod print;
 mod printer;

@@ -2,17 +2,15 @@ ghost use Rattle.std.specs.Prelude.{◌≡◌, ◌∷◌, ◌++◌, [], OnOk, co
 ghost use Rattle.task_model.specs.Host.{host_term};
 ghost use Rattle.task_model.specs.Task.{task_term, and_task, or_task, xor_task, if_task, case_task};
 ghost use Rattle.task_model.specs.Printed.{expression_at, binder_text, body_numbered, body_at, step_tokens, task_rank, task_tokens, task_at};
-ghost use Rattle.program_printer.specs.LaterTexts.{later_texts};
+ghost use Rattle.task_model.specs.LaterBodies.{later_texts};
 ghost use Rattle.program_printer.specs.Lines.{with_tokens};
 
 use crate::expressions::{
     ATOM as HOST_ATOM, EXPRESSION, write_call, write_elements, write_expression, write_no_elements,
 };
-use crate::later::Later;
-use crate::numbered::Numbered;
 use crate::printer::Printer;
 use crate::types::write_typed;
-use task_model::{Body, Host, OutOfMemory, Task};
+use task_model::{Body, Host, LaterBodies, NumberedBody, OutOfMemory, Task};
 
 // Of the nonterminals of tasks, from the tightest, each one reaches the productions of those before it.
 const ATOM: u8 = 0;
@@ -95,7 +93,7 @@ fn write_test(out: &mut Printer, test: &Host) -> Result<(), OutOfMemory>
 pub(crate) fn write_task(
     out: &mut Printer,
     place: u8,
-    later: &Later,
+    later: &LaterBodies,
     t: &Task,
 ) -> Result<(), OutOfMemory>
     ensures { OnOk result (out.new ≡ with_tokens out.old (task_at place later.now.first (later_texts later.now) (task_term t.now))) }
@@ -110,7 +108,7 @@ pub(crate) fn write_task(
 }
 
 #[cycle(task)]
-fn write_production(out: &mut Printer, later: &Later, t: &Task) -> Result<(), OutOfMemory>
+fn write_production(out: &mut Printer, later: &LaterBodies, t: &Task) -> Result<(), OutOfMemory>
     ensures { OnOk result (out.new ≡ with_tokens out.old (task_tokens later.now.first (later_texts later.now) (task_term t.now))) }
 {
     match t {
@@ -150,7 +148,7 @@ fn write_production(out: &mut Printer, later: &Later, t: &Task) -> Result<(), Ou
 #[cycle(task)]
 fn write_step(
     out: &mut Printer,
-    later: &Later,
+    later: &LaterBodies,
     left: &Task,
     sign: &str,
     number: u32,
@@ -162,7 +160,7 @@ fn write_step(
     write_task(out, CHOICE, later, left)?;
     out.token(sign)?;
     match later.numbered(number) {
-        Some(Numbered { body, later }) => {
+        Some(NumberedBody { body, later }) => {
             out.tokens(binder(body), ".")?;
             write_task(out, TASK, &later, &body.task)
         }
@@ -171,7 +169,12 @@ fn write_step(
 }
 
 #[cycle(task)]
-fn write_and(out: &mut Printer, later: &Later, left: &Task, right: &Task) -> Result<(), OutOfMemory>
+fn write_and(
+    out: &mut Printer,
+    later: &LaterBodies,
+    left: &Task,
+    right: &Task,
+) -> Result<(), OutOfMemory>
     ensures { OnOk result (out.new ≡ with_tokens out.old (task_tokens later.now.first (later_texts later.now) (and_task (task_term left.now) (task_term right.now)))) }
 {
     write_task(out, CHAIN, later, left)?;
@@ -180,7 +183,12 @@ fn write_and(out: &mut Printer, later: &Later, left: &Task, right: &Task) -> Res
 }
 
 #[cycle(task)]
-fn write_or(out: &mut Printer, later: &Later, left: &Task, right: &Task) -> Result<(), OutOfMemory>
+fn write_or(
+    out: &mut Printer,
+    later: &LaterBodies,
+    left: &Task,
+    right: &Task,
+) -> Result<(), OutOfMemory>
     ensures { OnOk result (out.new ≡ with_tokens out.old (task_tokens later.now.first (later_texts later.now) (or_task (task_term left.now) (task_term right.now)))) }
 {
     write_task(out, CHOICE, later, left)?;
@@ -189,7 +197,12 @@ fn write_or(out: &mut Printer, later: &Later, left: &Task, right: &Task) -> Resu
 }
 
 #[cycle(task)]
-fn write_xor(out: &mut Printer, later: &Later, left: u32, right: u32) -> Result<(), OutOfMemory>
+fn write_xor(
+    out: &mut Printer,
+    later: &LaterBodies,
+    left: u32,
+    right: u32,
+) -> Result<(), OutOfMemory>
     ensures { OnOk result (out.new ≡ with_tokens out.old (task_tokens later.now.first (later_texts later.now) (xor_task left right))) }
 {
     write_body(out, CHOICE, later, left)?;
@@ -199,11 +212,16 @@ fn write_xor(out: &mut Printer, later: &Later, left: u32, right: u32) -> Result<
 
 /// A body's task at a place, or nothing where there is no such body.
 #[cycle(task)]
-fn write_body(out: &mut Printer, place: u8, later: &Later, number: u32) -> Result<(), OutOfMemory>
+fn write_body(
+    out: &mut Printer,
+    place: u8,
+    later: &LaterBodies,
+    number: u32,
+) -> Result<(), OutOfMemory>
     ensures { OnOk result (out.new ≡ with_tokens out.old (body_at place (body_numbered later.now.first (later_texts later.now) number))) }
 {
     match later.numbered(number) {
-        Some(Numbered { body, later }) => write_task(out, place, &later, &body.task),
+        Some(NumberedBody { body, later }) => write_task(out, place, &later, &body.task),
         None => Ok(()),
     }
 }
@@ -211,7 +229,7 @@ fn write_body(out: &mut Printer, place: u8, later: &Later, number: u32) -> Resul
 #[cycle(task)]
 fn write_if(
     out: &mut Printer,
-    later: &Later,
+    later: &LaterBodies,
     test: &Host,
     yes: &Task,
     no: &Task,
@@ -227,7 +245,7 @@ fn write_if(
 #[cycle(task)]
 fn write_case(
     out: &mut Printer,
-    later: &Later,
+    later: &LaterBodies,
     list: &Host,
     empty: &Task,
     head: &str,

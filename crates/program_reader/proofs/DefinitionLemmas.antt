@@ -1,5 +1,5 @@
 -- What definitions and programs show, from what their parts do, and the loop over the definitions.
-use Rattle.std.proofs.Common.{◌≡◌, ℕ, suc, ◌+◌, ◌≤◌, max, List, [], ◌∷◌, ◌++◌, length, length-append, map, Ok, Err, refl, sym, ap, ◌∙◌, subst, arith, ◌<◌}
+use Rattle.std.proofs.Common.{◌≡◌, ℕ, suc, ◌+◌, ◌≤◌, max, List, [], ◌∷◌, ◌++◌, length, length-append, map, Ok, Err, refl, sym, ap, ◌∙◌, subst, arith, ◌<◌, append_assoc}
 use Rattle.task_model.specs.Text.{Text}
 use Rattle.task_model.specs.Basic.{BasicTerm}
 use Rattle.task_model.specs.Host.{HostTerm}
@@ -8,7 +8,7 @@ use Rattle.task_model.specs.declared.program.Param.{Param}
 use Rattle.exact_reading.specs.declared.stop.ParseStop.{ParseStop}
 use Rattle.exact_reading.specs.Reading.{IsWithinLevels, Answer, Right}
 use Rattle.task_model.specs.Lexemes.{Lexeme, keyword}
-use Rattle.task_model.specs.Grammar.{program, definition, basic, task, expression, enclosed, parameters, Parse, no_definitions, more_definitions, function, task_named}
+use Rattle.task_model.specs.Grammar.{program, definition, basic, task, expression, enclosed, parameters, Parse, no_definitions, more_definitions, function, task_named, tokens}
 use Rattle.task_model.specs.Meaning.{meaning, bodies, bodies_of}
 use Rattle.task_model.specs.Nodes.{places}
 use Rattle.program_grammar.specs.Languages.{Of, EndsForm, Reads}
@@ -21,6 +21,7 @@ use Rattle.program_reader.specs.Definitions.{shown_enclosed, ShownDefinition, sh
 use Rattle.program_reader.specs.DefinitionKeywords.{word_of}
 use Rattle.program_reader.specs.declared.definition_words.DefinitionWord.{DefinitionWord}
 use Rattle.task_model.proofs.BodyCounts.{bodies_count}
+use Rattle.program_grammar.proofs.BodyTokens.{before_rest, room_left}
 use Rattle.program_reader.proofs.ProgramLemmas.{Tail, start_right, more_stop, more_found, end, begins_word}
 
 pub function_shown : (next p : ℕ) (x : Text) (q : ℕ) (ps : Parse (enclosed parameters)) (r : ℕ) (b : Parse basic) (s : ℕ)
@@ -47,10 +48,10 @@ task_shown next p x q ps r b s t qs {where' = where'} {type' = type'} eps eb et 
 
 -- one more definition
 more_is : (x : Parse program) (d : Parse definition) {left : ShownProgram} {one : ShownDefinition} {next : ℕ} → shown_program x ≡ left
-    → next ≡ 0 + length left.bodies → shown_meaning next d ≡ one → shown_program (more_definitions x d) ≡ more_shown left one
+    → next ≡ length left.bodies → shown_meaning next d ≡ one → shown_program (more_definitions x d) ≡ more_shown left one
 more_is x d {left = left} {next = next} ex en ed =
-    let count : 0 + bodies x ≡ next = ap (λ n. 0 + n) (sym (bodies_count x [] 0)) ∙ ap (λ q. 0 + length q.bodies) ex ∙ sym en in
-    let plain : bodies x ≡ next = omega (arith, count) in
+    let plain : bodies x ≡ next = sym (bodies_count x [] 0) ∙ ap (λ q. length q.bodies) ex ∙ sym en in
+    let count : 0 + bodies x ≡ next = omega (arith, plain) in
     ap (λ n. record {
       defs = meaning x ++ meaning d n ∷ [];
       places = places x ++ places d;
@@ -68,13 +69,14 @@ more_is x d {left = left} {next = next} ex en ed =
 pub record Going (room : ℕ) (ts : List Lexeme) (left : ShownProgram) (rest : List Lexeme) : Type 0 where
   pub parse : Parse program × ℕ
   pub shows : shown_program parse.0 ≡ left
+  pub split : ts ≡ tokens parse.0 ++ rest
   pub fits : parse.1 ≤ room
   pub goes_on : (r : Answer Lexeme (Parse program × ℕ)) → Right (Tail parse) (IsWithinLevels room) (EndsForm program) rest r
       → Right (Of program) (IsWithinLevels room) (EndsForm program) ts r
 
 module _ {room : ℕ} {ts : List Lexeme} where
   pub begin : {left : ShownProgram} → left ≡ record { defs = []; places = []; bodies = [] } → Going room ts left ts
-  begin is = record { parse = (no_definitions, 0); shows = sym is; fits = omega arith; goes_on = λ r tail. start_right tail }
+  begin is = record { parse = (no_definitions, 0); shows = sym is; split = refl; fits = omega arith; goes_on = λ r tail. start_right tail }
 
   module _ {left : ShownProgram} {rest after : List Lexeme} (g : Going room ts left rest) (k : DefinitionWord) (p : ℕ)
       (e : rest ≡ keyword (word_of k) p ∷ after) {number : ℕ} where
@@ -85,7 +87,7 @@ module _ {room : ℕ} {ts : List Lexeme} where
           (more_stop k p e g.fits (subst (λ l. Right (Of definition) (IsWithinLevels room) (EndsForm definition) l (Err s)) (sym e) h.by));
     }
 
-    pub next : {one : ShownDefinition} {new : ShownProgram} {behind : List Lexeme} → number ≡ 0 + length left.bodies
+    pub next : {one : ShownDefinition} {new : ShownProgram} {behind : List Lexeme} → number ≡ length left.bodies
         → new ≡ more_shown left one → Reads definition (shown_meaning number) room (keyword (word_of k) p ∷ after) (Ok (one, behind))
         → Going room ts new behind
     next {behind = behind} number_is is h =
@@ -97,9 +99,17 @@ module _ {room : ℕ} {ts : List Lexeme} where
         record {
           parse = (more_definitions g.parse.0 y.0, max g.parse.1 y.1);
           shows = more_is g.parse.0 y.0 g.shows number_is shows ∙ sym is;
+          split = g.split ∙ ap (λ l. tokens g.parse.0 ++ l) (before_rest here) ∙ sym (append_assoc (tokens g.parse.0) (tokens y.0) behind);
           fits = omega (arith, few, fits);
           goes_on = λ r tail. g.goes_on r (more_found k p e g.fits here tail);
         }
+
+  -- the tokens that are left, and the bodies that were read, are no more than there were tokens
+  pub few : {left : ShownProgram} {rest : List Lexeme} → Going room ts left rest → length left.bodies + length rest ≤ length ts
+  few {left = left} {rest = rest} g =
+      let counted = ap (λ q. length q.bodies) (sym g.shows) ∙ bodies_count g.parse.0 [] 0 in
+      let least = room_left g.parse.0 ts rest (length left.bodies) counted g.split in
+      omega (arith, least)
 
   pub finish : {left : ShownProgram} {rest : List Lexeme} → Going room ts left rest
       → ((k : DefinitionWord) (p : ℕ) (y : List Lexeme) → rest ≡ keyword (word_of k) p ∷ y → ⊥)

@@ -1,13 +1,17 @@
--- What a task stands for where its bodies have the next numbers.
-use Rattle.std.proofs.Common.{◌≡◌, ℕ, suc, ◌+◌, List, [], ◌∷◌, ◌++◌, length, map, refl, sym, ap, ◌∙◌, arith, length-append}
+-- The numbers of a task's bodies: what it stands for where they have the next ones, and how far they go.
+use Rattle.std.proofs.Common.{◌≡◌, ℕ, suc, ◌+◌, ◌≤◌, List, [], ◌∷◌, ◌++◌, length, map, All, refl, sym, ap, ◌∙◌, subst, arith}
 use Rattle.std.specs.Prelude.{Option, None, Some}
 use Rattle.std.proofs.lemmas.List.{map-append}
+use Rattle.std.proofs.lemmas.List.Elements.{All-append, All-cons, All-nil}
 use Rattle.task_model.specs.Text.{Text}
 use Rattle.task_model.specs.Task.{TaskTerm, share, BodyTerm}
 use Rattle.task_model.specs.Task as tasks
 use Rattle.task_model.specs.Grammar.{Form, task, task_atom, series, choice, chain, internal, external, Parse, more_definitions, task_named, task_let, task_if, task_case, task_new, task_put, task_plain, task_then, task_next, task_group, list, parameters, arguments, single, joined, full}
 use Rattle.task_model.specs.Meaning.{Meaning, meaning, bodies, bodies_of}
-use Rattle.task_builder.specs.Numbers.{renumbered, body_renumbered}
+use Rattle.task_model.proofs.BodyCounts.{bodies_count}
+use Rattle.program_grammar.specs.Parts.{ParsedTerm}
+use Rattle.task_builder.specs.Tasks.{shown_choice}
+use Rattle.task_builder.specs.Numbers.{renumbered, body_renumbered, IsNumberedBelow, IsBodyNumberedBelow}
 
 later : (next n : ℕ) → suc next + n ≡ suc (next + n)
 later next n = omega arith
@@ -137,3 +141,92 @@ bodies_next (joined (list arguments) a o p b) scope next = refl
 bodies_next (full parameters p ps q) scope next = refl
 bodies_next (full arguments p es q) scope next = refl
 bodies_next d scope next = refl
+
+-- ---- how far they go
+pub term_below : {f : Form} (d : Parse f) (next n : ℕ) → next + bodies d ≤ n → IsNumberedBelow n (term_at f (meaning d) next)
+term_below (task_let p x q r e s t) next n le = term_below t next n le
+term_below (task_if p e q t r u) next n le =
+    (term_below t next n (omega (arith, le)), term_below u (next + bodies t) n (omega (arith, le)))
+term_below (task_case p e q r s a t b x i j y k c u) next n le =
+    (term_below t next n (omega (arith, le)), term_below u (next + bodies t) n (omega (arith, le)))
+term_below (task_new p x q r e s t) next n le = term_below t next n le
+term_below (task_put x p q e r t) next n le = term_below t next n le
+term_below (task_plain t) next n le = term_below t next n le
+term_below (task_then t p x q r u) next n le = (term_below t next n (omega (arith, le)), omega (arith, le))
+term_below (task_next t p x q r u) next n le = (term_below t next n (omega (arith, le)), omega (arith, le))
+term_below (task_group p t q) next n le = term_below t next n le
+term_below (single choice t) next n le = term_below t next n le
+term_below (single chain t) next n le = term_below t next n le
+term_below (joined choice t internal p u) next n le =
+    (term_below t next n (omega (arith, le)), term_below u (next + bodies t) n (omega (arith, le)))
+term_below (joined choice t external p u) next n le = (omega (arith, le), omega (arith, le))
+term_below (joined chain t o p u) next n le =
+    (term_below t next n (omega (arith, le)), term_below u (next + bodies t) n (omega (arith, le)))
+term_below d next n le = tt
+
+two_below : (n : ℕ) (xs ys : List BodyTerm) → All (IsBodyNumberedBelow n) xs → All (IsBodyNumberedBelow n) ys
+    → All (IsBodyNumberedBelow n) (xs ++ ys)
+two_below n xs ys h k = All-append (IsBodyNumberedBelow n) xs ys h k
+
+one_below : (n : ℕ) (b : BodyTerm) (bs : List BodyTerm) → IsBodyNumberedBelow n b → All (IsBodyNumberedBelow n) bs
+    → All (IsBodyNumberedBelow n) (b ∷ bs)
+one_below n b bs h k = All-cons (IsBodyNumberedBelow n) b bs h k
+
+pub bodies_below : {f : Form} (d : Parse f) (scope : List Text) (next n : ℕ) → next + bodies d ≤ n
+    → All (IsBodyNumberedBelow n) (bodies_of d scope next)
+bodies_below (more_definitions ds d) scope next n le =
+    two_below n _ _ (bodies_below ds scope next n (omega (arith, le))) (bodies_below d scope (next + bodies ds) n (omega (arith, le)))
+bodies_below (task_named p x q ps r b s t) scope next n le = bodies_below t _ next n le
+bodies_below (task_let p x q r e s t) scope next n le = bodies_below t _ next n le
+bodies_below (task_if p e q t r u) scope next n le =
+    two_below n _ _ (bodies_below t scope next n (omega (arith, le))) (bodies_below u scope (next + bodies t) n (omega (arith, le)))
+bodies_below (task_case p e q r s a t b x i j y k c u) scope next n le =
+    two_below n _ _ (bodies_below t scope next n (omega (arith, le))) (bodies_below u _ (next + bodies t) n (omega (arith, le)))
+bodies_below (task_new p x q r e s t) scope next n le = bodies_below t _ next n le
+bodies_below (task_put x p q e r t) scope next n le = bodies_below t scope next n le
+bodies_below (task_plain t) scope next n le = bodies_below t scope next n le
+bodies_below (task_then t p x q r u) scope next n le =
+    two_below n _ _ (bodies_below t scope next n (omega (arith, le)))
+    (one_below n _ _ (term_below u (suc (next + bodies t)) n (omega (arith, le)))
+    (bodies_below u _ (suc (next + bodies t)) n (omega (arith, le))))
+bodies_below (task_next t p x q r u) scope next n le =
+    two_below n _ _ (bodies_below t scope next n (omega (arith, le)))
+    (one_below n _ _ (term_below u (suc (next + bodies t)) n (omega (arith, le)))
+    (bodies_below u _ (suc (next + bodies t)) n (omega (arith, le))))
+bodies_below (task_group p t q) scope next n le = bodies_below t scope next n le
+bodies_below (single choice t) scope next n le = bodies_below t scope next n le
+bodies_below (single chain t) scope next n le = bodies_below t scope next n le
+bodies_below (joined choice t internal p u) scope next n le =
+    two_below n _ _ (bodies_below t scope next n (omega (arith, le))) (bodies_below u scope (next + bodies t) n (omega (arith, le)))
+bodies_below (joined choice t external p u) scope next n le =
+    let m = suc (suc (next + bodies t)) in
+    two_below n (record { scope = scope; binder = None; task = meaning t (suc next) } ∷ bodies_of t scope (suc next))
+    (record { scope = scope; binder = None; task = meaning u m } ∷ bodies_of u scope m)
+    (one_below n (record { scope = scope; binder = None; task = meaning t (suc next) }) (bodies_of t scope (suc next))
+    (term_below t (suc next) n (omega (arith, le))) (bodies_below t scope (suc next) n (omega (arith, le))))
+    (one_below n (record { scope = scope; binder = None; task = meaning u m }) (bodies_of u scope m)
+    (term_below u m n (omega (arith, le))) (bodies_below u scope m n (omega (arith, le))))
+bodies_below (joined chain t o p u) scope next n le =
+    two_below n _ _ (bodies_below t scope next n (omega (arith, le))) (bodies_below u scope (next + bodies t) n (omega (arith, le)))
+bodies_below (single (list parameters) a) scope next n le = All-nil (IsBodyNumberedBelow n)
+bodies_below (single (list arguments) a) scope next n le = All-nil (IsBodyNumberedBelow n)
+bodies_below (joined (list parameters) a o p b) scope next n le = All-nil (IsBodyNumberedBelow n)
+bodies_below (joined (list arguments) a o p b) scope next n le = All-nil (IsBodyNumberedBelow n)
+bodies_below (full parameters p ps q) scope next n le = All-nil (IsBodyNumberedBelow n)
+bodies_below (full arguments p es q) scope next n le = All-nil (IsBodyNumberedBelow n)
+bodies_below d scope next n le = All-nil (IsBodyNumberedBelow n)
+
+-- what was read of a choice has the numbers of its own bodies
+module _ (scope : List Text) (next n : ℕ) (d : Parse (series choice)) {left : ParsedTerm TaskTerm} (e : shown_choice scope next d ≡ left)
+    (le : next + length left.bodies ≤ n) where
+  enough : next + bodies d ≤ n
+  enough =
+      let many = bodies_count d scope next in
+      let same = ap (λ w. length w.bodies) e in
+      omega (arith, le, many, same)
+
+  pub left_term_below : IsNumberedBelow n left.term
+  left_term_below = subst (λ w. IsNumberedBelow n w.term) e (term_below d next n enough)
+
+  pub left_bodies_below : All (IsBodyNumberedBelow n) left.bodies
+  left_bodies_below = subst (λ w. All (IsBodyNumberedBelow n) w.bodies) e (bodies_below d scope next n enough)

@@ -1,5 +1,5 @@
 -- What holds of each answer of a reader of tasks.
-use Rattle.std.proofs.Common.{◌≡◌, ℕ, ◌≤◌, List, Result, Ok, Err, refl, sym, subst}
+use Rattle.std.proofs.Common.{◌≡◌, ℕ, ◌+◌, ◌≤◌, List, Result, length, Ok, Err, refl, sym, subst, arith}
 use Rattle.exact_reading.specs.declared.stop.ParseStop.{ParseStop}
 use Rattle.exact_reading.specs.declared.stop.ParseStop.TheVariants.{Memory}
 use Rattle.exact_reading.specs.Reading.{Language, Answer, Right}
@@ -10,6 +10,7 @@ use Rattle.task_model.specs.Meaning.{Meaning}
 use Rattle.program_grammar.specs.Languages.{ReadsAs, Reads}
 use Rattle.program_grammar.specs.Parts.{shown_type, Listed, shown_list}
 use Rattle.task_model.specs.Basic.{BasicTerm}
+use Rattle.exact_reading.proofs.Whole.{rest_within}
 use Rattle.expression_reader.proofs.ReadingLemmas.{count_within}
 
 -- want of memory says nothing of the tokens
@@ -26,6 +27,15 @@ listing_within f h = count_within {f = f} shown_list (λ s. s.levels) (λ d. ref
 
 pub type_within : {room : ℕ} {ts rest : List Lexeme} {s : BasicTerm × ℕ} → Reads basic shown_type room ts (Ok (s, rest)) → s.1 ≤ room
 type_within h = count_within shown_type (λ s. s.1) (λ d. refl) h
+
+-- parts of a production that is no node have the same levels as it has
+pub level : {room : ℕ} → 0 + room ≡ room
+level = omega arith
+
+-- no more tokens are left than there were
+pub read_past : {X Y : Type 0} {A : Language Lexeme X} {F : X → Type 0} {E : List Lexeme → Type 0} {show : X → Y}
+    {ts rest : List Lexeme} {y : Y} → ReadsAs A F E show ts (Ok (y, rest)) → length rest ≤ length ts
+read_past h = let (x, shows, right) = h.by in rest_within right
 
 -- an answer for a language is one for another
 pub onto_language : {X Y : Type 0} {A B : Language Lexeme X} {F : X → Type 0} {E : List Lexeme → Type 0} {show : X → Y} {ts : List Lexeme}

@@ -15,12 +15,15 @@ use Rattle.program_grammar.specs.Parts.{ParsedTerm, parsed, shown, shown_type, L
 use Rattle.program_grammar.proofs.StartLemmas.{start_joined, start_then, start_next}
 use Rattle.task_builder.specs.declared.step.Step.{Step}
 use Rattle.task_builder.specs.declared.step.Step.TheVariants.{ByItself, ByUser}
-use Rattle.task_builder.specs.TaskOperators.{stepped}
+use Rattle.task_builder.specs.declared.binding.Binding.{Binding}
+use Rattle.task_builder.specs.declared.binding.Binding.TheVariants.{Let, New}
+use Rattle.task_builder.specs.TaskOperators.{stepped, bound_task}
 use Rattle.task_builder.specs.Numbers.{renumbered, parsed_renumbered}
 use Rattle.task_builder.specs.Tasks.{shown_task, shown_atom, shown_chain, shown_choice, body_part, external_choice, chosen_task, choice_number, followed_task}
 use Rattle.task_model.proofs.BodyCounts.{bodies_count}
 use Rattle.program_reader.proofs.NumberLemmas.{term_next, bodies_next}
 use Rattle.program_reader.proofs.StepRules.{step_parse}
+use Rattle.program_reader.proofs.TaskRules.{binding_parse}
 use Rattle.expression_reader.proofs.ReadingLemmas.{count_within}
 
 -- the number behind the bodies of a task
@@ -155,25 +158,21 @@ module _ (scope : List Text) (next : ℕ) where
       ∙ ap (λ w. over_three (λ l v w. tasks.case_task l v head' tail' w) p list' w (shown_task inside number u)) et
       ∙ ap (λ w. over_three (λ l v w. tasks.case_task l v head' tail' w) p list' yes' w) eu
 
-  pub let_shown : {value : ParsedTerm HostTerm} {body : ParsedTerm TaskTerm} {text : Text} {inside : List Text} (p : ℕ) (x : Text) (q r : ℕ)
-      (e : Parse expression) (i : ℕ) (t : Parse task)
-      → text ≡ x → inside ≡ scope ++ text ∷ [] → shown e ≡ value → shown_task inside next t ≡ body
-      → shown_task scope next (task_let p x q r e i t) ≡ over_two (tasks.let_task text) p value body
-  let_shown {value = value} {text = text} {inside = inside} p x q r e i t named is ee et =
-      raised (shown_task scope next (task_let p x q r e i t)) (max (levels e) (levels t)) refl
-      ∙ ap (λ n. over_two (tasks.let_task n) p (shown e) (shown_task (scope ++ n ∷ []) next t)) (sym named)
-      ∙ ap (λ m. over_two (tasks.let_task text) p (shown e) (shown_task m next t)) (sym is)
-      ∙ ap (λ w. over_two (tasks.let_task text) p w (shown_task inside next t)) ee ∙ ap (λ w. over_two (tasks.let_task text) p value w) et
+  binding_is : (b : Binding) (p : ℕ) (x : Text) (q r : ℕ) (e : Parse expression) (i : ℕ) (t : Parse task)
+      → shown_task scope next (binding_parse b p x q r e i t)
+      ≡ over_two (bound_task b x) p (shown e) (shown_task (scope ++ x ∷ []) next t)
+  binding_is Let p x q r e i t = raised (shown_task scope next (task_let p x q r e i t)) (max (levels e) (levels t)) refl
+  binding_is New p x q r e i t = raised (shown_task scope next (task_new p x q r e i t)) (max (levels e) (levels t)) refl
 
-  pub new_shown : {value : ParsedTerm HostTerm} {body : ParsedTerm TaskTerm} {text : Text} {inside : List Text} (p : ℕ) (x : Text) (q r : ℕ)
-      (e : Parse expression) (i : ℕ) (t : Parse task)
+  pub binding_shown : (b : Binding) {value : ParsedTerm HostTerm} {body : ParsedTerm TaskTerm} {text : Text} {inside : List Text} (p : ℕ)
+      (x : Text) (q r : ℕ) (e : Parse expression) (i : ℕ) (t : Parse task)
       → text ≡ x → inside ≡ scope ++ text ∷ [] → shown e ≡ value → shown_task inside next t ≡ body
-      → shown_task scope next (task_new p x q r e i t) ≡ over_two (tasks.new_task text) p value body
-  new_shown {value = value} {text = text} {inside = inside} p x q r e i t named is ee et =
-      raised (shown_task scope next (task_new p x q r e i t)) (max (levels e) (levels t)) refl
-      ∙ ap (λ n. over_two (tasks.new_task n) p (shown e) (shown_task (scope ++ n ∷ []) next t)) (sym named)
-      ∙ ap (λ m. over_two (tasks.new_task text) p (shown e) (shown_task m next t)) (sym is)
-      ∙ ap (λ w. over_two (tasks.new_task text) p w (shown_task inside next t)) ee ∙ ap (λ w. over_two (tasks.new_task text) p value w) et
+      → shown_task scope next (binding_parse b p x q r e i t) ≡ over_two (bound_task b text) p value body
+  binding_shown b {value = value} {text = text} {inside = inside} p x q r e i t named is ee et =
+      binding_is b p x q r e i t
+      ∙ ap (λ n. over_two (bound_task b n) p (shown e) (shown_task (scope ++ n ∷ []) next t)) (sym named)
+      ∙ ap (λ m. over_two (bound_task b text) p (shown e) (shown_task m next t)) (sym is)
+      ∙ ap (λ w. over_two (bound_task b text) p w (shown_task inside next t)) ee ∙ ap (λ w. over_two (bound_task b text) p value w) et
 
   pub put_shown : {value : ParsedTerm HostTerm} {body : ParsedTerm TaskTerm} {text : Text} (x : Text) (p q : ℕ) (e : Parse expression)
       (r : ℕ) (t : Parse task)

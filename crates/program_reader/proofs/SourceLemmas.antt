@@ -1,10 +1,11 @@
 -- The tokens of the grammar and those of a source: the same, and faults in them too.
-use Rattle.std.proofs.Common.{◌≡◌, ℕ, ◌≤◌, List, [], ◌∷◌, ◌++◌, map, refl, sym, ap, ◌∙◌, subst, arith, eqb, append_assoc}
+use Rattle.std.proofs.Common.{◌≡◌, ◌≢◌, ℕ, ◌+◌, ◌<◌, ◌≤◌, List, [], ◌∷◌, ◌++◌, length, length-append, map, refl, sym, ap, ◌∙◌, subst, arith, eqb, append_assoc}
 use Rattle.std.specs.Prelude.{if◌then◌else◌}
 use Rattle.std.specs.Cmp.Lexicographic.{pointwise}
 use Rattle.std.proofs.lemmas.List.{map-append, length-map}
 use Rattle.task_model.specs.Text.{Text}
-use Rattle.task_model.specs.Token.{TokenTerm, text_token}
+use Rattle.task_model.specs.Token.{TokenTerm, text_token, Piece, blank, comment, lexeme, bytes_of, AreRight, tokens_from, HasTokens}
+use Rattle.task_syntax.proofs.Classes.{token_some}
 use Rattle.task_model.specs.declared.keyword.Keyword.{Keyword}
 use Rattle.task_model.specs.declared.keyword.Keyword.TheVariants as words
 use Rattle.task_model.specs.declared.symbol.Symbol.{Symbol}
@@ -230,3 +231,28 @@ program_fault {ls} {kind} {place} all f = record {
       λ some. dead (back_to (λ n. n ≤ 200) (f.front ++ (t ∷ []))
           (subst (λ l. IsViablePrefix IsProgram (IsWithinLevels 200) l) (sym (terms_append f.front (t ∷ []))) some)),
     )
+
+-- ---- a source has no more tokens than bytes
+few_pieces : (ps : List Piece) (place : ℕ) → AreRight ps → length (tokens_from place ps) ≤ length (bytes_of ps)
+few_pieces [] place right = omega arith
+few_pieces (blank byte ∷ ps) place right = let few = few_pieces ps (place + 1) right.1 in omega (arith, few)
+few_pieces (comment t ∷ ps) place right =
+    let few = few_pieces ps (place + 1 + length t) right.2 in
+    let parts = length-append t (bytes_of ps) in
+    omega (arith, few, parts)
+few_pieces (lexeme t kind ∷ ps) place right =
+    let few = few_pieces ps (place + length t) right.3 in
+    let parts = length-append t (bytes_of ps) in
+    let full = some t (token_some t kind right.0) in
+    omega (arith, few, parts, full)
+  where
+    some : (u : Text) → u ≢ [] → 0 < length u
+    some [] h = absurd (h refl)
+    some (b ∷ u) h = omega arith
+
+pub few_tokens : {source : Text} {ts : List TokenTerm} → HasTokens source ts → length ts ≤ length source
+few_tokens has =
+    let few = few_pieces has.pieces 0 has.right in
+    let bytes = ap length has.bytes in
+    let tokens' = ap length has.are in
+    omega (arith, few, bytes, tokens')

@@ -19,7 +19,9 @@ use Rattle.program_grammar.proofs.RuleLemmas.{tokens_of, most_of, built, build_u
 use Rattle.program_grammar.proofs.OptionalLemmas.{Optional}
 use Rattle.task_builder.specs.declared.step.Step.{Step}
 use Rattle.task_builder.specs.declared.step.Step.TheVariants.{ByItself, ByUser}
-use Rattle.task_builder.specs.TaskOperators.{step_symbol}
+use Rattle.task_builder.specs.declared.binding.Binding.{Binding}
+use Rattle.task_builder.specs.declared.binding.Binding.TheVariants.{Let, New}
+use Rattle.task_builder.specs.TaskOperators.{step_symbol, binding_keyword}
 use Rattle.task_builder.specs.Tasks.{IsStepping, Stepping}
 
 -- ---- a choice, and then perhaps a step
@@ -112,16 +114,16 @@ steps = record {
 }
 
 -- ---- the tokens begin with none of the words of tasks, and with no name
-module _ (ts : List Lexeme) (no_let : (p : ℕ) (s : List Lexeme) → ts ≡ keyword words.Let p ∷ s → ⊥) (no_if : (p : ℕ) (s : List Lexeme)
-    → ts ≡ keyword words.If p ∷ s → ⊥) (no_case : (p : ℕ) (s : List Lexeme) → ts ≡ keyword words.Case p ∷ s → ⊥)
-    (no_new : (p : ℕ) (s : List Lexeme) → ts ≡ keyword words.New p ∷ s → ⊥) (no_name : (x : Text) (p : ℕ) (s : List Lexeme)
+module _ (ts : List Lexeme) (no_binding : (b : Binding) (p : ℕ) (s : List Lexeme) → ts ≡ keyword (binding_keyword b) p ∷ s → ⊥)
+    (no_if : (p : ℕ) (s : List Lexeme) → ts ≡ keyword words.If p ∷ s → ⊥)
+    (no_case : (p : ℕ) (s : List Lexeme) → ts ≡ keyword words.Case p ∷ s → ⊥) (no_name : (x : Text) (p : ℕ) (s : List Lexeme)
     → ts ≡ name x p ∷ s
     → ⊥) where
   stepping : (d : Parse task) (s : List Lexeme) → ts ≡ head d ∷ s → IsStepping d
-  stepping (task_let p x q r e i t) s h = no_let p s h
+  stepping (task_let p x q r e i t) s h = no_binding Let p s h
   stepping (task_if p e q t r u) s h = no_if p s h
   stepping (task_case o e q r i a t b x l j y k c u) s h = no_case o s h
-  stepping (task_new p x q r e i t) s h = no_new p s h
+  stepping (task_new p x q r e i t) s h = no_binding New p s h
   stepping (task_put x p q e r t) s h = no_name x p s h
   stepping (task_plain t) s h = tt
   stepping (task_then t p x q r u) s h = tt

@@ -1,5 +1,5 @@
 -- The productions of tasks that begin with a keyword or a parenthesis.
-use Rattle.std.proofs.Common.{◌≡◌, ℕ, true, false, List, [], ◌∷◌, length, Err, refl, sym, ap, ◌∙◌, subst, arith, append_assoc}
+use Rattle.std.proofs.Common.{◌≡◌, ℕ, ◌+◌, true, false, List, [], ◌∷◌, length, Err, refl, sym, ap, ◌∙◌, subst, arith, append_assoc}
 use Rattle.task_model.specs.Text.{Text}
 use Rattle.task_model.specs.declared.keyword.Keyword.TheVariants as words
 use Rattle.task_model.specs.declared.symbol.Symbol.TheVariants as signs
@@ -9,59 +9,64 @@ use Rattle.exact_reading.specs.Reading.{IsWithinLevels, Right}
 use Rattle.exact_reading.proofs.Productions.{refused_first}
 use Rattle.exact_reading.proofs.Symbols.{Sym, one, part, Values}
 use Rattle.task_model.specs.Lexemes.{Lexeme, keyword, symbol, name}
-use Rattle.task_model.specs.Grammar.{basic, task, task_atom, expression, atom, series, enclosed, arguments, choice, Parse, task_let, task_if, task_case, task_new, task_plain, task_then, task_next, task_edit, task_enter, task_share, task_fail, task_call, task_group, tokens}
+use Rattle.task_model.specs.Grammar.{basic, task, task_atom, expression, atom, series, enclosed, arguments, choice, Parse, task_let, task_if, task_case, task_new, task_plain, task_then, task_next, task_edit, task_enter, task_share, task_fail, task_call, task_group, tokens, levels}
 use Rattle.program_grammar.specs.Languages.{Of, EndsForm}
 use Rattle.program_grammar.proofs.GrammarLemmas.{grammar, head, begins_head, head_starts, starts, a_word, a_sign, a_name}
-use Rattle.program_grammar.proofs.RuleLemmas.{Rule, tokens_of}
+use Rattle.program_grammar.proofs.RuleLemmas.{Rule, tokens_of, most_of}
+use Rattle.task_builder.specs.declared.binding.Binding.{Binding}
+use Rattle.task_builder.specs.declared.binding.Binding.TheVariants.{Let, New}
+use Rattle.task_builder.specs.TaskOperators.{binding_keyword}
 
 -- a choice begins with none of the words of tasks
 pub no_choice : (d : Parse (series choice)) (t : Lexeme) → starts (series choice) t ≡ false → head d ≡ t → ⊥
 no_choice d t none h = let yes' : starts (series choice) t ≡ true = subst (λ u. starts (series choice) u ≡ true) h (head_starts d) in cc
 
 -- ---- let and new
-abbrev pub let_symbols : List (Sym grammar)
-let_symbols = one a_name ∷ one (a_sign signs.Define) ∷ part expression ∷ one (a_word words.In) ∷ part task ∷ []
+abbrev pub binding_symbols : List (Sym grammar)
+binding_symbols = one a_name ∷ one (a_sign signs.Define) ∷ part expression ∷ one (a_word words.In) ∷ part task ∷ []
 
-abbrev pub let_build : ℕ → Values grammar let_symbols → Parse task
-let_build p vs = task_let p vs.0.0 vs.0.1 vs.1.0 vs.1.1.0 vs.1.1.1.0 vs.1.1.1.1.0
+-- the parse of a binding
+abbrev pub binding_parse : Binding → ℕ → Text → ℕ → ℕ → Parse expression → ℕ → Parse task → Parse task
+binding_parse Let p x q r e s t = task_let p x q r e s t
+binding_parse New p x q r e s t = task_new p x q r e s t
 
-pub let_back : (p : ℕ) (d : Parse task) → head d ≡ keyword words.Let p → (vs : Values grammar let_symbols) × (let_build p vs ≡ d)
-let_back p (task_let q x r s e t d) h = let same : q ≡ p = cc in
+abbrev pub binding_build : Binding → ℕ → Values grammar binding_symbols → Parse task
+binding_build b p vs = binding_parse b p vs.0.0 vs.0.1 vs.1.0 vs.1.1.0 vs.1.1.1.0 vs.1.1.1.1.0
+
+not_bound : (b : Binding) (p : ℕ) (d : Parse (series choice)) → head d ≡ keyword (binding_keyword b) p → ⊥
+not_bound Let p d h = no_choice d (keyword words.Let p) refl h
+not_bound New p d h = no_choice d (keyword words.New p) refl h
+
+pub binding_back : (b : Binding) (p : ℕ) (d : Parse task) → head d ≡ keyword (binding_keyword b) p
+    → (vs : Values grammar binding_symbols) × (binding_build b p vs ≡ d)
+binding_back b p (task_plain t) h = absurd (not_bound b p t h)
+binding_back b p (task_then t q x r s u) h = absurd (not_bound b p t h)
+binding_back b p (task_next t q x r s u) h = absurd (not_bound b p t h)
+binding_back Let p (task_let q x r s e t d) h = let same : q ≡ p = cc in
     (((x, r), (s, (e, (t, (d, tt))))), ap (λ n. task_let n x r s e t d) (sym same))
-let_back p (task_plain t) h = absurd (no_choice t (keyword words.Let p) refl h)
-let_back p (task_then t q x r s u) h = absurd (no_choice t (keyword words.Let p) refl h)
-let_back p (task_next t q x r s u) h = absurd (no_choice t (keyword words.Let p) refl h)
-let_back p d h = absurd cc
-
-abbrev pub let_rule : (p : ℕ) → Rule task 1 (keyword words.Let p)
-let_rule p = record {
-  some = tt;
-  symbols = let_symbols;
-  build = let_build p;
-  tokens_are = λ vs. refl;
-  levels_are = λ vs. omega arith;
-  back = let_back p;
-}
-
-abbrev pub new_build : ℕ → Values grammar let_symbols → Parse task
-new_build p vs = task_new p vs.0.0 vs.0.1 vs.1.0 vs.1.1.0 vs.1.1.1.0 vs.1.1.1.1.0
-
-pub new_back : (p : ℕ) (d : Parse task) → head d ≡ keyword words.New p → (vs : Values grammar let_symbols) × (new_build p vs ≡ d)
-new_back p (task_new q x r s e t d) h = let same : q ≡ p = cc in
+binding_back New p (task_new q x r s e t d) h = let same : q ≡ p = cc in
     (((x, r), (s, (e, (t, (d, tt))))), ap (λ n. task_new n x r s e t d) (sym same))
-new_back p (task_plain t) h = absurd (no_choice t (keyword words.New p) refl h)
-new_back p (task_then t q x r s u) h = absurd (no_choice t (keyword words.New p) refl h)
-new_back p (task_next t q x r s u) h = absurd (no_choice t (keyword words.New p) refl h)
-new_back p d h = absurd cc
+binding_back Let p d h = absurd cc
+binding_back New p d h = absurd cc
 
-abbrev pub new_rule : (p : ℕ) → Rule task 1 (keyword words.New p)
-new_rule p = record {
+pub binding_tokens : (b : Binding) (p : ℕ) (vs : Values grammar binding_symbols)
+    → tokens (binding_build b p vs) ≡ keyword (binding_keyword b) p ∷ tokens_of binding_symbols vs
+binding_tokens Let p vs = refl
+binding_tokens New p vs = refl
+
+pub binding_levels : (b : Binding) (p : ℕ) (vs : Values grammar binding_symbols)
+    → levels (binding_build b p vs) ≡ 1 + most_of binding_symbols vs 0
+binding_levels Let p vs = omega arith
+binding_levels New p vs = omega arith
+
+abbrev pub binding_rule : (b : Binding) (p : ℕ) → Rule task 1 (keyword (binding_keyword b) p)
+binding_rule b p = record {
   some = tt;
-  symbols = let_symbols;
-  build = new_build p;
-  tokens_are = λ vs. refl;
-  levels_are = λ vs. omega arith;
-  back = new_back p;
+  symbols = binding_symbols;
+  build = binding_build b p;
+  tokens_are = binding_tokens b p;
+  levels_are = binding_levels b p;
+  back = binding_back b p;
 }
 
 -- ---- if

@@ -1,5 +1,5 @@
 -- From the answer for the tokens of a source to what holds of the source.
-use Rattle.std.proofs.Common.{◌≡◌, ◌≢◌, ℕ, zero, suc, ◌+◌, ◌-◌, ◌<◌, ◌≤◌, List, [], ◌∷◌, ◌++◌, length, get_or, Ok, Err, refl, sym, ap, ◌∙◌, subst, arith}
+use Rattle.std.proofs.Common.{◌≡◌, ◌≢◌, ℕ, zero, suc, ◌+◌, ◌-◌, ◌^◌, ◌<◌, ◌≤◌, List, [], ◌∷◌, ◌++◌, length, get_or, Ok, Err, refl, sym, ap, ◌∙◌, subst, arith}
 use Rattle.std.specs.Prelude.{◌==◌, true, false, Result, IfOk, IfErr, MatchResult}
 use Rattle.std.specs.Str.{IsValidUpTo}
 use Rattle.std.proofs.Math.Nat.{lt_of_not-le}
@@ -31,7 +31,7 @@ use Rattle.task_syntax.specs.declared.stop.ReadStop.TheVariants as stops
 use Rattle.program_grammar.specs.Parts.{lexeme, lexeme_at, lexemes}
 use Rattle.program_grammar.proofs.ReadingLemmas.{are_spelled, fault_apart}
 use Rattle.program_reader.specs.Definitions.{ShownProgram, shown_program}
-use Rattle.program_reader.proofs.SourceLemmas.{same_terms, program_fault}
+use Rattle.program_reader.proofs.SourceLemmas.{same_terms, program_fault, few_tokens}
 
 module _ (source : Text) (located : List PositionedToken) (has : HasTokens source (token_terms (lexemes located))) where
   -- ---- a program was read, and nothing is left
@@ -97,13 +97,21 @@ module _ (source : Text) (located : List PositionedToken) (has : HasTokens sourc
   many : length (lexemes located) ≡ length located
   many = length-map located lexeme
 
+  -- each body that the tokens can hold has a number
+  pub numbers : length source ≤ 1048576 → length (lexemes located) < 2 ^ 32
+  numbers short =
+      let few = few_tokens has in
+      let same = length-map (lexemes located) token_term in
+      omega (arith, short, few, same)
+
   pub left_over : {all : ShownProgram} {rest : List PositionedToken} → rest ≢ []
       → Reads program shown_program 200 (lexemes located) (Ok (all, lexemes rest)) → Faulty Unexpected (length rest)
   left_over {rest = rest} more h =
       let (x, shows, right) = h.by in
       let le = rest_within right in
       let same = length-map rest lexeme in
-      let at : (length (lexemes located) - length (lexemes rest)) + length (lexemes rest) ≡ length (lexemes located) = omega (arith, le) in (
+      let at : (length (lexemes located) - length (lexemes rest)) + length (lexemes rest) ≡ length (lexemes located) = omega
+      (arith, le) in (
         length (lexemes located) - length (lexemes rest),
         omega (arith, at, same, many),
         program_fault (are_spelled has)

@@ -1,4 +1,4 @@
-ghost use Rattle.std.specs.Prelude.{◌≤◌};
+ghost use Rattle.std.specs.Prelude.{◌+◌, ◌<◌, ◌≤◌, ◌^◌, length};
 ghost use Rattle.exact_reading.specs.Reading.{seen};
 ghost use Rattle.task_model.specs.Scope.{scope_names};
 ghost use Rattle.task_model.specs.Grammar as grammar;
@@ -23,6 +23,7 @@ pub(crate) fn task_atom<'t>(
     next: u32,
     tokens: &'t [PositionedToken<'t>],
 ) -> Result<(Parsed<Task>, &'t [PositionedToken<'t>]), ParseStop>
+    requires { next + length (lexemes tokens.now) < 2 ^ 32 }
     ensures { Reads grammar.task_atom (shown_atom (scope_names scope.now) next) room (lexemes tokens.now) (seen (λ r. (parsed_task r.0, lexemes r.1.now)) result) }
 {
     if let Some((place, rest)) = strip_symbol(tokens, Symbol::Open) {

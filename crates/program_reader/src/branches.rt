@@ -1,4 +1,4 @@
-ghost use Rattle.std.specs.Prelude.{◌≤◌, ◌∷◌};
+ghost use Rattle.std.specs.Prelude.{◌+◌, ◌<◌, ◌≤◌, ◌^◌, ◌∷◌, length};
 ghost use Rattle.exact_reading.specs.Reading.{seen};
 ghost use Rattle.task_model.specs.declared.keyword.Keyword.TheVariants as words;
 ghost use Rattle.task_model.specs.Lexemes as terms;
@@ -28,13 +28,14 @@ pub(crate) fn task_if<'t>(
     place: u64,
     tokens: &'t [PositionedToken<'t>],
 ) -> Result<(Parsed<Task>, &'t [PositionedToken<'t>]), ParseStop>
-    requires { 2 ≤ room }
+    requires room { 2 ≤ room }
+    requires numbers { next + length (lexemes tokens.now) < 2 ^ 32 }
     ensures { Reads grammar.task (shown_task (scope_names scope.now) next) room (terms.keyword words.If place ∷ lexemes tokens.now) (seen (λ r. (parsed_task r.0, lexemes r.1.now)) result) }
 {
     let (test, rest) = expression(alloc, room - 1, tokens)?;
     let (_, rest) = expect_keyword(rest, Keyword::Then)?;
     let (yes, rest) = task(alloc, room - 1, scope, next, rest)?;
-    let after = number_behind(next, &yes)?;
+    let after = number_behind(next, &yes);
     let (_, rest) = expect_keyword(rest, Keyword::Else)?;
     let (no, rest) = task(alloc, room - 1, scope, after, rest)?;
     Ok((if_task(alloc, place, test, yes, no)?, rest))
@@ -50,7 +51,8 @@ pub(crate) fn task_case<'t>(
     place: u64,
     tokens: &'t [PositionedToken<'t>],
 ) -> Result<(Parsed<Task>, &'t [PositionedToken<'t>]), ParseStop>
-    requires { 2 ≤ room }
+    requires room { 2 ≤ room }
+    requires numbers { next + length (lexemes tokens.now) < 2 ^ 32 }
     ensures { Reads grammar.task (shown_task (scope_names scope.now) next) room (terms.keyword words.Case place ∷ lexemes tokens.now) (seen (λ r. (parsed_task r.0, lexemes r.1.now)) result) }
 {
     let (list, rest) = expression(alloc, room - 1, tokens)?;
@@ -59,7 +61,7 @@ pub(crate) fn task_case<'t>(
     let (_, rest) = expect_symbol(rest, Symbol::CloseBracket)?;
     let (_, rest) = expect_symbol(rest, Symbol::Arrow)?;
     let (empty, rest) = task(alloc, room - 1, scope, next, rest)?;
-    let after = number_behind(next, &empty)?;
+    let after = number_behind(next, &empty);
     let (_, rest) = expect_symbol(rest, Symbol::Bar)?;
     let (head, _, rest) = expect_name(rest)?;
     let (_, rest) = expect_symbol(rest, Symbol::Cons)?;

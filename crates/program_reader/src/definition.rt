@@ -1,4 +1,4 @@
-ghost use Rattle.std.specs.Prelude.{◌≡◌, ◌≤◌, ℕ, ◌∷◌, map, IfOk, IfErr};
+ghost use Rattle.std.specs.Prelude.{◌≡◌, ◌+◌, ◌<◌, ◌≤◌, ◌^◌, ℕ, ◌∷◌, length, map, IfOk, IfErr};
 ghost use Rattle.exact_reading.specs.Reading.{seen};
 ghost use Rattle.task_model.specs.declared.keyword.Keyword.TheVariants as words;
 ghost use Rattle.task_model.specs.Lexemes as terms;
@@ -126,6 +126,7 @@ fn body_of_task<'t>(
     next: u32,
     tokens: &'t [PositionedToken<'t>],
 ) -> Result<(Parsed<Task>, &'t [PositionedToken<'t>]), ParseStop>
+    requires { next + length (lexemes tokens.now) < 2 ^ 32 }
     ensures { Reads grammar.task (shown_task (map (λ q. q.name) parameters.now.list.list) next) room (lexemes tokens.now) (seen (λ r. (parsed_task r.0, lexemes r.1.now)) result) }
 {
     let scope = parameter_scope(alloc, parameters.list.as_slice())?;
@@ -140,7 +141,8 @@ fn task_definition<'t>(
     place: u64,
     tokens: &'t [PositionedToken<'t>],
 ) -> Result<(ReadDefinition, &'t [PositionedToken<'t>]), ParseStop>
-    requires { 1 ≤ room }
+    requires room { 1 ≤ room }
+    requires numbers { next + length (lexemes tokens.now) < 2 ^ 32 }
     ensures { Reads grammar.definition (shown_meaning next) room (terms.keyword words.Task place ∷ lexemes tokens.now) (seen (λ r. (shown_definition r.0, lexemes r.1.now)) result) }
 {
     let (name, _, rest) = expect_name(tokens)?;
@@ -162,7 +164,8 @@ pub(crate) fn definition<'t>(
     place: u64,
     tokens: &'t [PositionedToken<'t>],
 ) -> Result<(ReadDefinition, &'t [PositionedToken<'t>]), ParseStop>
-    requires { 1 ≤ room }
+    requires room { 1 ≤ room }
+    requires numbers { next + length (lexemes tokens.now) < 2 ^ 32 }
     ensures { Reads grammar.definition (shown_meaning next) room (terms.keyword (word_of word) place ∷ lexemes tokens.now) (seen (λ r. (shown_definition r.0, lexemes r.1.now)) result) }
 {
     match word {

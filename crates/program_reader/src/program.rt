@@ -1,4 +1,4 @@
-ghost use Rattle.std.specs.Prelude.{◌≡◌, ◌≤◌, ◌+◌, [], length, IfOk, IfErr};
+ghost use Rattle.std.specs.Prelude.{◌≡◌, ◌<◌, ◌≤◌, ◌^◌, [], length, IfOk, IfErr};
 ghost use Rattle.exact_reading.specs.Reading.{seen};
 ghost use Rattle.task_model.specs.Grammar as grammar;
 ghost use Rattle.program_grammar.specs.Languages.{Reads};
@@ -10,7 +10,6 @@ use crate::definition_words::definition_word;
 use exact_reading::ParseStop;
 use program_grammar::PositionedToken;
 use std::alloc::Global;
-use task_builder::number_after;
 use task_model::{Body, Def, Row};
 
 /// Definitions that were read, the places of their nodes in pre-order, and their bodies in the order in which their texts begin.
@@ -34,11 +33,11 @@ impl Definitions {
     }
 
     /// The number behind the bodies of these definitions.
-    fn number_after(&self) -> Result<u32, ParseStop>
-        ensures number { IfOk result (λ number. number ≡ 0 + length (shown_definitions self.now).bodies) }
-        ensures memory { IfErr result (λ e. e ≡ ParseStop.Memory) }
+    fn number_behind(&self) -> u32
+        requires { length (shown_definitions self.now).bodies < 2 ^ 32 }
+        ensures { result ≡ length (shown_definitions self.now).bodies }
     {
-        number_after(0, self.bodies.len())
+        self.bodies.len() as u32
     }
 
     /// These definitions, and one more behind them.
@@ -81,12 +80,13 @@ pub(crate) fn program<'t>(
     room: usize,
     tokens: &'t [PositionedToken<'t>],
 ) -> Result<(Definitions, &'t [PositionedToken<'t>]), ParseStop>
-    requires { 1 ≤ room }
+    requires room { 1 ≤ room }
+    requires numbers { length (lexemes tokens.now) < 2 ^ 32 }
     ensures { Reads grammar.program shown_program room (lexemes tokens.now) (seen (λ r. (shown_definitions r.0, lexemes r.1.now)) result) }
 {
     let (mut all, mut rest) = nothing_read(alloc, tokens);
     while let Some((word, place, after)) = definition_word(rest) {
-        let next = all.number_after()?;
+        let next = all.number_behind();
         let (one, after) = definition(alloc, room, next, word, place, after)?;
         all = all.and(one)?;
         rest = after;

@@ -1,4 +1,4 @@
-ghost use Rattle.std.specs.Prelude.{◌≤◌};
+ghost use Rattle.std.specs.Prelude.{◌+◌, ◌<◌, ◌≤◌, ◌^◌, length};
 ghost use Rattle.exact_reading.specs.Reading.{seen};
 ghost use Rattle.task_model.specs.Scope.{scope_names};
 ghost use Rattle.task_model.specs.Grammar as grammar;
@@ -28,6 +28,7 @@ pub(crate) fn steps<'t>(
     next: u32,
     tokens: &'t [PositionedToken<'t>],
 ) -> Result<(Parsed<Task>, &'t [PositionedToken<'t>]), ParseStop>
+    requires { next + length (lexemes tokens.now) < 2 ^ 32 }
     ensures { Steps (scope_names scope.now) next room (lexemes tokens.now) (seen (λ r. (parsed_task r.0, lexemes r.1.now)) result) }
 {
     let (left, rest) = choice(alloc, room, scope, next, tokens)?;
@@ -39,7 +40,7 @@ pub(crate) fn steps<'t>(
     }
     let (name, _, after) = expect_name(after)?;
     let (_, after) = expect_symbol(after, Symbol::Dot)?;
-    let number = number_of_step(next, &left)?;
+    let number = number_of_step(next, &left);
     let name = name_text(alloc, name)?;
     let inside = inner_scope(alloc, scope, &name)?;
     let (right, after) = task(alloc, room - 1, &inside, number, after)?;
@@ -58,6 +59,7 @@ pub(crate) fn choice<'t>(
     next: u32,
     tokens: &'t [PositionedToken<'t>],
 ) -> Result<(Parsed<Task>, &'t [PositionedToken<'t>]), ParseStop>
+    requires { next + length (lexemes tokens.now) < 2 ^ 32 }
     ensures { Reads (grammar.series grammar.choice) (shown_choice (scope_names scope.now) next) room (lexemes tokens.now) (seen (λ r. (parsed_task r.0, lexemes r.1.now)) result) }
 {
     let (mut left, mut rest) = chain(alloc, room, scope, next, tokens)?;
@@ -65,7 +67,7 @@ pub(crate) fn choice<'t>(
         if left.levels >= room {
             return Err(too_nested(rest));
         }
-        let number = number_of_choice(next, &left, choice)?;
+        let number = number_of_choice(next, &left, choice);
         let (right, after) = chain(alloc, room - 1, scope, number, after)?;
         left = choice_task(alloc, scope, next, left, choice, right)?;
         rest = after;
@@ -82,6 +84,7 @@ fn chain<'t>(
     next: u32,
     tokens: &'t [PositionedToken<'t>],
 ) -> Result<(Parsed<Task>, &'t [PositionedToken<'t>]), ParseStop>
+    requires { next + length (lexemes tokens.now) < 2 ^ 32 }
     ensures { Reads (grammar.series grammar.chain) (shown_chain (scope_names scope.now) next) room (lexemes tokens.now) (seen (λ r. (parsed_task r.0, lexemes r.1.now)) result) }
 {
     let (mut left, mut rest) = task_atom(alloc, room, scope, next, tokens)?;
@@ -89,7 +92,7 @@ fn chain<'t>(
         if left.levels >= room {
             return Err(too_nested(rest));
         }
-        let number = number_behind(next, &left)?;
+        let number = number_behind(next, &left);
         let (right, after) = task_atom(alloc, room - 1, scope, number, after)?;
         left = and_task(alloc, left, right)?;
         rest = after;

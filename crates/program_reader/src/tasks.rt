@@ -1,18 +1,21 @@
-ghost use Rattle.std.specs.Prelude.{◌≡◌, ◌≤◌, ◌∷◌};
+ghost use Rattle.std.specs.Prelude.{◌≡◌, ◌+◌, ◌<◌, ◌≤◌, ◌^◌, ◌∷◌, length};
 ghost use Rattle.exact_reading.specs.Reading.{seen};
 ghost use Rattle.task_model.specs.declared.keyword.Keyword.TheVariants as words;
 ghost use Rattle.task_model.specs.Scope.{scope_names};
 ghost use Rattle.task_model.specs.Grammar as grammar;
 ghost use Rattle.program_grammar.specs.Languages.{Reads};
 ghost use Rattle.program_grammar.specs.Parts.{lexemes};
+ghost use Rattle.task_builder.specs.declared.binding.Binding.{Binding};
+ghost use Rattle.task_builder.specs.TaskOperators.{binding_keyword};
 ghost use Rattle.task_builder.specs.Tasks.{parsed_task, shown_task, NoWord};
 
-use crate::binders::{task_let, task_new, task_put};
+use crate::binders::{task_binding, task_put};
 use crate::branches::{task_case, task_if};
 use crate::series::steps;
 use exact_reading::{ParseStop, too_nested};
 use program_grammar::{Parsed, PositionedToken, strip_keyword, strip_name, strip_symbol};
 use std::alloc::Global;
+use task_builder::binding_word;
 use task_model::{Keyword, Scope, Symbol, Task};
 
 /// A task of at most so many levels. Its first body has the number `next`.
@@ -24,13 +27,14 @@ pub(crate) fn task<'t>(
     next: u32,
     tokens: &'t [PositionedToken<'t>],
 ) -> Result<(Parsed<Task>, &'t [PositionedToken<'t>]), ParseStop>
+    requires { next + length (lexemes tokens.now) < 2 ^ 32 }
     ensures { Reads grammar.task (shown_task (scope_names scope.now) next) room (lexemes tokens.now) (seen (λ r. (parsed_task r.0, lexemes r.1.now)) result) }
 {
-    if let Some((place, rest)) = strip_keyword(tokens, Keyword::Let) {
+    if let Some((binding, place, rest)) = binding_word(tokens) {
         if room < 2 {
             return Err(too_nested(tokens));
         }
-        return task_let(alloc, room, scope, next, place, rest);
+        return task_binding(alloc, room, scope, next, binding, place, rest);
     }
     if let Some((place, rest)) = strip_keyword(tokens, Keyword::If) {
         if room < 2 {
@@ -44,12 +48,6 @@ pub(crate) fn task<'t>(
         }
         return task_case(alloc, room, scope, next, place, rest);
     }
-    if let Some((place, rest)) = strip_keyword(tokens, Keyword::New) {
-        if room < 2 {
-            return Err(too_nested(tokens));
-        }
-        return task_new(alloc, room, scope, next, place, rest);
-    }
     wordless(alloc, room, scope, next, tokens)
 }
 
@@ -62,10 +60,10 @@ fn wordless<'t>(
     next: u32,
     tokens: &'t [PositionedToken<'t>],
 ) -> Result<(Parsed<Task>, &'t [PositionedToken<'t>]), ParseStop>
-    requires no_let { NoWord words.Let (lexemes tokens.now) }
+    requires no_binding { (b : Binding) → NoWord (binding_keyword b) (lexemes tokens.now) }
     requires no_if { NoWord words.If (lexemes tokens.now) }
     requires no_case { NoWord words.Case (lexemes tokens.now) }
-    requires no_new { NoWord words.New (lexemes tokens.now) }
+    requires numbers { next + length (lexemes tokens.now) < 2 ^ 32 }
     ensures { Reads grammar.task (shown_task (scope_names scope.now) next) room (lexemes tokens.now) (seen (λ r. (parsed_task r.0, lexemes r.1.now)) result) }
 {
     let Some((name, place, rest)) = strip_name(tokens) else {

@@ -1,5 +1,5 @@
 -- Tasks and bodies whose bodies all have the next number.
-use Rattle.std.specs.Prelude.{suc, map}
+use Rattle.std.specs.Prelude.{ℕ, suc, ◌<◌, map}
 use Rattle.task_model.specs.Task.{TaskTerm, edit, enter, share, fail, call_task, then_task, next_task, and_task, or_task, xor_task, let_task, if_task, case_task, new_task, put_task, BodyTerm}
 use Rattle.program_grammar.specs.Parts.{ParsedTerm}
 
@@ -31,3 +31,25 @@ parsed_renumbered t = record {
   places = t.places;
   bodies = map body_renumbered t.bodies;
 }
+
+-- each body that a task names has a number below this
+abbrev pub IsNumberedBelow : ℕ → TaskTerm → Type 0
+IsNumberedBelow n (edit e) = Unit {0}
+IsNumberedBelow n (enter b) = Unit {0}
+IsNumberedBelow n (share x) = Unit {0}
+IsNumberedBelow n (fail b) = Unit {0}
+IsNumberedBelow n (call_task f es) = Unit {0}
+IsNumberedBelow n (then_task t i) = IsNumberedBelow n t × (i < n)
+IsNumberedBelow n (next_task t i) = IsNumberedBelow n t × (i < n)
+IsNumberedBelow n (and_task t u) = IsNumberedBelow n t × IsNumberedBelow n u
+IsNumberedBelow n (or_task t u) = IsNumberedBelow n t × IsNumberedBelow n u
+IsNumberedBelow n (xor_task i j) = (i < n) × (j < n)
+IsNumberedBelow n (let_task x e t) = IsNumberedBelow n t
+IsNumberedBelow n (if_task e t u) = IsNumberedBelow n t × IsNumberedBelow n u
+IsNumberedBelow n (case_task e t x y u) = IsNumberedBelow n t × IsNumberedBelow n u
+IsNumberedBelow n (new_task x e t) = IsNumberedBelow n t
+IsNumberedBelow n (put_task x e t) = IsNumberedBelow n t
+
+-- and so has each that a body's task names
+abbrev pub IsBodyNumberedBelow : ℕ → BodyTerm → Type 0
+IsBodyNumberedBelow n b = IsNumberedBelow n b.task

@@ -1,51 +1,44 @@
 ghost use Rattle.std.specs.Prelude.{◌≡◌, ◌+◌, ◌<◌, ◌^◌, IfOk, IfErr};
 ghost use Rattle.task_model.specs.Task as tasks;
 ghost use Rattle.program_grammar.specs.Parts.{shown_host, over_two};
+ghost use Rattle.task_builder.specs.TaskOperators.{bound_task};
 ghost use Rattle.task_builder.specs.Tasks.{parsed_task};
 
+use crate::binding::Binding;
 use exact_reading::ParseStop;
 use program_grammar::Parsed;
 use std::alloc::Global;
 use task_model::{Host, Task, TaskText};
 
-/// `let`, which stands here, of this value, and the task behind it.
-pub fn let_task(
+/// `let` or `new`, which stands here, with this value or content, and the task behind it.
+pub fn binding_task(
     alloc: Global,
     place: u64,
+    binding: Binding,
     name: TaskText,
     value: Parsed<Host>,
     rest: Parsed<Task>,
 ) -> Result<Parsed<Task>, ParseStop>
     requires value { value.levels + 1 < 2 ^ 64 }
     requires rest { rest.levels + 1 < 2 ^ 64 }
-    ensures shown { IfOk result (λ r. parsed_task r ≡ over_two (tasks.let_task name) place (shown_host value) (parsed_task rest)) }
+    ensures shown { IfOk result (λ r. parsed_task r ≡ over_two (bound_task binding name) place (shown_host value) (parsed_task rest)) }
     ensures memory { IfErr result (λ e. e ≡ ParseStop.Memory) }
 {
-    let (value, parts) = value.into_parts();
-    let (rest, others) = rest.into_parts();
-    let bound = Box::into_inner(value);
-    let parts = parts.and(others)?;
-    parts.node(alloc, Task::Let { name, bound, rest }, place)
-}
-
-/// `new`, which stands here, with this content, and the task behind it.
-pub fn new_task(
-    alloc: Global,
-    place: u64,
-    name: TaskText,
-    init: Parsed<Host>,
-    rest: Parsed<Task>,
-) -> Result<Parsed<Task>, ParseStop>
-    requires init { init.levels + 1 < 2 ^ 64 }
-    requires rest { rest.levels + 1 < 2 ^ 64 }
-    ensures shown { IfOk result (λ r. parsed_task r ≡ over_two (tasks.new_task name) place (shown_host init) (parsed_task rest)) }
-    ensures memory { IfErr result (λ e. e ≡ ParseStop.Memory) }
-{
-    let (init, parts) = init.into_parts();
-    let (rest, others) = rest.into_parts();
-    let init = Box::into_inner(init);
-    let parts = parts.and(others)?;
-    parts.node(alloc, Task::New { name, init, rest }, place)
+    let (value, rest, parts) = value.beside(rest)?;
+    let value = Box::into_inner(value);
+    let task = match binding {
+        Binding::Let => Task::Let {
+            name,
+            bound: value,
+            rest,
+        },
+        Binding::New => Task::New {
+            name,
+            init: value,
+            rest,
+        },
+    };
+    parts.node(alloc, task, place)
 }
 
 /// A change of the place of this name, which stands here, and the task behind it.
@@ -61,9 +54,7 @@ pub fn put_task(
     ensures shown { IfOk result (λ r. parsed_task r ≡ over_two (tasks.put_task name) place (shown_host value) (parsed_task rest)) }
     ensures memory { IfErr result (λ e. e ≡ ParseStop.Memory) }
 {
-    let (value, parts) = value.into_parts();
-    let (rest, others) = rest.into_parts();
+    let (value, rest, parts) = value.beside(rest)?;
     let value = Box::into_inner(value);
-    let parts = parts.and(others)?;
     parts.node(alloc, Task::Put { name, value, rest }, place)
 }

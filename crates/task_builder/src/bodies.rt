@@ -1,12 +1,13 @@
-ghost use Rattle.std.specs.Prelude.{◌≡◌, ◌+◌, ◌<◌, ◌^◌, IfOk, IfErr};
+ghost use Rattle.std.specs.Prelude.{◌≡◌, ◌+◌, ◌<◌, ◌^◌, suc, length, All, IfOk, IfErr};
 ghost use Rattle.task_model.specs.Task as tasks;
 ghost use Rattle.task_model.specs.Scope.{scope_names};
 ghost use Rattle.program_grammar.specs.Parts.{parts_term, over_two};
+ghost use Rattle.task_builder.specs.Numbers.{IsNumberedBelow, IsBodyNumberedBelow};
 ghost use Rattle.task_builder.specs.TaskOperators.{choice_term};
 ghost use Rattle.task_builder.specs.Tasks.{parsed_task, body_part, external_choice, chosen_task, followed_task};
 
 use crate::choice::Choice;
-use crate::numbers::{number_after, number_behind, renumbered_task};
+use crate::numbers::{number_behind, renumbered_task};
 use crate::step::Step;
 use exact_reading::ParseStop;
 use program_grammar::{Parsed, Parts};
@@ -47,9 +48,7 @@ pub fn and_task(
     ensures memory { IfErr result (λ e. e ≡ ParseStop.Memory) }
 {
     let start = left.start;
-    let (left, parts) = left.into_parts();
-    let (right, others) = right.into_parts();
-    let parts = parts.and(others)?;
+    let (left, right, parts) = left.beside(right)?;
     parts.node(alloc, Task::And(left, right), start)
 }
 
@@ -65,9 +64,7 @@ fn or_task(
     ensures memory { IfErr result (λ e. e ≡ ParseStop.Memory) }
 {
     let start = left.start;
-    let (left, parts) = left.into_parts();
-    let (right, others) = right.into_parts();
-    let parts = parts.and(others)?;
+    let (left, right, parts) = left.beside(right)?;
     parts.node(alloc, Task::Or(left, right), start)
 }
 
@@ -81,12 +78,15 @@ fn xor_task(
 ) -> Result<Parsed<Task>, ParseStop>
     requires left { left.levels + 1 < 2 ^ 64 }
     requires right { right.levels + 1 < 2 ^ 64 }
+    requires numbers { suc (next + length (parsed_task left).bodies) < 2 ^ 32 }
+    requires term { IsNumberedBelow 4294967295 (parsed_task left).term }
+    requires bodies { All (IsBodyNumberedBelow 4294967295) (parsed_task left).bodies }
     ensures shown { IfOk result (λ r. parsed_task r ≡ external_choice (scope_names scope.now) next (parsed_task left) (parsed_task right)) }
     ensures memory { IfErr result (λ e. e ≡ ParseStop.Memory) }
 {
     let start = left.start;
-    let other = number_after(number_behind(next, &left)?, 1)?;
-    let parts = body_of(scope, None, renumbered_task(alloc, left)?)?;
+    let other = number_behind(next, &left) + 1;
+    let parts = body_of(scope, None, renumbered_task(left))?;
     let others = body_of(scope, None, right)?;
     let task = Task::Xor {
         left: next,
@@ -106,6 +106,9 @@ pub fn choice_task(
 ) -> Result<Parsed<Task>, ParseStop>
     requires left { left.levels + 1 < 2 ^ 64 }
     requires right { right.levels + 1 < 2 ^ 64 }
+    requires numbers { suc (next + length (parsed_task left).bodies) < 2 ^ 32 }
+    requires term { IsNumberedBelow 4294967295 (parsed_task left).term }
+    requires bodies { All (IsBodyNumberedBelow 4294967295) (parsed_task left).bodies }
     ensures shown { IfOk result (λ r. parsed_task r ≡ chosen_task (scope_names scope.now) next (choice_term choice) (parsed_task left) (parsed_task right)) }
     ensures memory { IfErr result (λ e. e ≡ ParseStop.Memory) }
 {
@@ -127,11 +130,12 @@ pub fn step_task(
 ) -> Result<Parsed<Task>, ParseStop>
     requires left { left.levels + 1 < 2 ^ 64 }
     requires right { right.levels + 1 < 2 ^ 64 }
+    requires numbers { next + length (parsed_task left).bodies < 2 ^ 32 }
     ensures shown { IfOk result (λ r. parsed_task r ≡ followed_task (scope_names scope.now) next step name (parsed_task left) (parsed_task right)) }
     ensures memory { IfErr result (λ e. e ≡ ParseStop.Memory) }
 {
     let start = left.start;
-    let body = number_behind(next, &left)?;
+    let body = number_behind(next, &left);
     let (left, parts) = left.into_parts();
     let parts = parts.and(body_of(scope, Some(name), right)?)?;
     let task = match step {

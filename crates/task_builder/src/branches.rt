@@ -23,10 +23,9 @@ pub fn if_task(
     ensures memory { IfErr result (λ e. e ≡ ParseStop.Memory) }
 {
     let (test, parts) = test.into_parts();
-    let (yes, others) = yes.into_parts();
-    let (no, last) = no.into_parts();
+    let (yes, no, others) = yes.beside(no)?;
     let test = Box::into_inner(test);
-    let parts = parts.and(others.and(last)?)?;
+    let parts = parts.and(others)?;
     parts.node(alloc, Task::If { test, yes, no }, place)
 }
 
@@ -46,11 +45,10 @@ pub fn case_task(
     ensures memory { IfErr result (λ e. e ≡ ParseStop.Memory) }
 {
     let (list, parts) = list.into_parts();
-    let (empty, others) = empty.into_parts();
-    let (more, last) = more.into_parts();
+    let (empty, more, others) = empty.beside(more)?;
     let list = Box::into_inner(list);
     let (head, tail) = names;
-    let parts = parts.and(others.and(last)?)?;
+    let parts = parts.and(others)?;
     let task = Task::Case {
         list,
         empty,

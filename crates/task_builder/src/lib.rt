@@ -3,6 +3,7 @@
 
 mod atoms;
 mod binders;
+mod binding;
 mod bodies;
 mod branches;
 mod choice;
@@ -11,10 +12,11 @@ mod scopes;
 mod step;
 
 pub use atoms::{call_task, edit_task, enter_task, fail_task, grouped_task, share_task};
-pub use binders::{let_task, new_task, put_task};
+pub use binders::{binding_task, put_task};
+pub use binding::{Binding, binding_word};
 pub use bodies::{and_task, choice_task, step_task};
 pub use branches::{case_task, if_task};
 pub use choice::{Choice, choice_sign};
-pub use numbers::{number_after, number_behind, number_of_choice, number_of_step};
+pub use numbers::{number_behind, number_of_choice, number_of_step};
 pub use scopes::{inner_scope, parameter_scope};
 pub use step::{Step, step_sign};

@@ -9,7 +9,8 @@ use Rattle.program_grammar.specs.Prefixes.{prefix_term}
 use Rattle.program_grammar.specs.Parts.{lexemes, shown, shown_host}
 use Rattle.program_grammar.proofs.GrammarLemmas.{grammar, least_levels, stops_within}
 use Rattle.program_grammar.proofs.CountLemmas.{counted}
-use Rattle.program_grammar.proofs.RuleLemmas.{by_rule, too_deep}
+use Rattle.program_grammar.proofs.RuleLemmas.{too_deep}
+use Rattle.program_grammar.proofs.PartlyRead.{begun, past_one, past_part, stop_one, stop_part, whole}
 use Rattle.program_grammar.proofs.ExpressionRules.{prefix_rule, as_atom, as_series, comparisons, listings}
 use Rattle.program_grammar.proofs.ExpressionRules as rules
 use Rattle.program_grammar.proofs.OptionalLemmas.{all_stop, all_found, led, led_too_deep, bare_found}
@@ -33,7 +34,7 @@ expressions::expression-returns-then-room-lt2 t c =
 
 pub expressions::expression-returns-in-Some : goal.expressions::expression-returns-in-Some
 expressions::expression-returns-in-Some t c =
-    at_reading c.in-Some.ensures c.bound.ensures
+    at_reading c.in-Some.ensures c.let_in.ensures
 
 pub expressions::expression-returns-then-room-lt2-2 : goal.expressions::expression-returns-then-room-lt2-2
 expressions::expression-returns-then-room-lt2-2 t c =
@@ -42,7 +43,7 @@ expressions::expression-returns-then-room-lt2-2 t c =
 
 pub expressions::expression-returns-in-Some-strip_keyword : goal.expressions::expression-returns-in-Some-strip_keyword
 expressions::expression-returns-in-Some-strip_keyword t c =
-    at_reading c.in-Some-strip_keyword.ensures c.tested.ensures
+    at_reading c.in-Some-strip_keyword.ensures c.if_then.ensures
 
 pub expressions::expression-returns-then-room-lt2-3 : goal.expressions::expression-returns-then-room-lt2-3
 expressions::expression-returns-then-room-lt2-3 t c =
@@ -51,402 +52,251 @@ expressions::expression-returns-then-room-lt2-3 t c =
 
 pub expressions::expression-returns-in-Some-strip_keyword-2 : goal.expressions::expression-returns-in-Some-strip_keyword-2
 expressions::expression-returns-in-Some-strip_keyword-2 t c =
-    at_reading c.in-Some-strip_keyword-2.ensures c.cased.ensures
+    at_reading c.in-Some-strip_keyword-2.ensures c.case_of.ensures
 
 pub expressions::expression-returns : goal.expressions::expression-returns
 expressions::expression-returns t c =
     passed (as_series _ c.in_default.ensures c.in_default-strip_keyword.ensures c.in_default-strip_keyword-2.ensures) shown shown
     (λ d. refl) _ c.operators.ensures
 
--- ---- bound
+-- ---- let
 
-pub expressions::bound-returns-in_err-name : goal.expressions::bound-returns-in_err-name
-expressions::bound-returns-in_err-name t c =
+pub expressions::let_in-returns-in_err-name : goal.expressions::let_in-returns-in_err-name
+expressions::let_in-returns-in_err-name t c =
     rw (handed_on c.from_residual.result c.from_residual.ensures.1)
     (record {
-      by = by_rule (rules.let_rule c.args.place) refl c.requires
-          (seq_one_stop grammar 1 (omega (arith, c.requires)) c.in_err-name.ensures);
+      by = stop_one (begun (rules.let_rule c.args.place) refl c.requires) c.in_err-name.ensures;
     })
 
-pub expressions::bound-returns-in_err-rest : goal.expressions::bound-returns-in_err-rest
-expressions::bound-returns-in_err-rest t c =
+pub expressions::let_in-returns-in_err-rest : goal.expressions::let_in-returns-in_err-rest
+expressions::let_in-returns-in_err-rest t c =
     rw (handed_on c.from_residual-in_err-rest.result c.from_residual-in_err-rest.ensures.1)
     (record {
-      by = by_rule (rules.let_rule c.args.place) refl c.requires
-          (seq_one grammar 1 (omega (arith, c.requires)) c.in_ok-name.ensures
-          (seq_one_stop grammar 1 (omega (arith, c.requires)) c.in_err-rest.ensures));
+      by = stop_one (past_one (begun (rules.let_rule c.args.place) refl c.requires) c.in_ok-name.ensures) c.in_err-rest.ensures;
     })
 
-pub expressions::bound-returns-in_err-value : goal.expressions::bound-returns-in_err-value
-expressions::bound-returns-in_err-value t c =
+pub expressions::let_in-returns-in_err-value : goal.expressions::let_in-returns-in_err-value
+expressions::let_in-returns-in_err-value t c =
     rw (handed_on c.from_residual-in_err-value.result c.from_residual-in_err-value.ensures.1)
     (record {
-      by = by_rule (rules.let_rule c.args.place) refl c.requires
-          (seq_one grammar 1 (omega (arith, c.requires)) c.in_ok-name.ensures
-          (seq_one grammar 1 (omega (arith, c.requires)) c.in_ok-rest.ensures
-          (seq_part_stop grammar 1 (λ p z. refl) (omega (arith, c.requires)) (below c.requires) c.in_err-value.ensures.by)));
+      by = stop_part (past_one (past_one (begun (rules.let_rule c.args.place) refl c.requires) c.in_ok-name.ensures) c.in_ok-rest.ensures)
+          (λ p z. refl) (below c.requires) c.in_err-value.ensures.by;
     })
 
-pub expressions::bound-returns-in_err-rest-2 : goal.expressions::bound-returns-in_err-rest-2
-expressions::bound-returns-in_err-rest-2 t c =
-    let (x1, s1, f1) = c.in_ok-value.ensures.by in
-    let fits1 = f1.by.fits in
+pub expressions::let_in-returns-in_err-rest-2 : goal.expressions::let_in-returns-in_err-rest-2
+expressions::let_in-returns-in_err-rest-2 t c =
     rw (handed_on c.from_residual-in_err-rest-2.result c.from_residual-in_err-rest-2.ensures.1)
     (record {
-      by = by_rule (rules.let_rule c.args.place) refl c.requires
-          (seq_one grammar 1 (omega (arith, c.requires)) c.in_ok-name.ensures
-          (seq_one grammar 1 (omega (arith, c.requires)) c.in_ok-rest.ensures
-          (seq_part grammar 1 (λ p z. refl) (omega (arith, c.requires)) (below c.requires) f1
-          (seq_one_stop grammar 1 (omega (arith, c.requires, fits1)) c.in_err-rest-2.ensures))));
+      by = stop_one (past_part (past_one (past_one (begun (rules.let_rule c.args.place) refl c.requires) c.in_ok-name.ensures)
+          c.in_ok-rest.ensures) (λ p z. refl) (below c.requires) c.in_ok-value.ensures) c.in_err-rest-2.ensures;
     })
 
-pub expressions::bound-returns-in_err-body : goal.expressions::bound-returns-in_err-body
-expressions::bound-returns-in_err-body t c =
-    let (x1, s1, f1) = c.in_ok-value.ensures.by in
-    let fits1 = f1.by.fits in
+pub expressions::let_in-returns-in_err-body : goal.expressions::let_in-returns-in_err-body
+expressions::let_in-returns-in_err-body t c =
     rw (handed_on c.from_residual-in_err-body.result c.from_residual-in_err-body.ensures.1)
     (record {
-      by = by_rule (rules.let_rule c.args.place) refl c.requires
-          (seq_one grammar 1 (omega (arith, c.requires)) c.in_ok-name.ensures
-          (seq_one grammar 1 (omega (arith, c.requires)) c.in_ok-rest.ensures
-          (seq_part grammar 1 (λ p z. refl) (omega (arith, c.requires)) (below c.requires) f1
-          (seq_one grammar 1 (omega (arith, c.requires, fits1)) c.in_ok-rest-2.ensures
-          (seq_part_stop grammar 1 (λ z h. h) (omega (arith, c.requires, fits1)) (below c.requires) c.in_err-body.ensures.by)))));
+      by = stop_part (past_one (past_part (past_one (past_one (begun (rules.let_rule c.args.place) refl c.requires) c.in_ok-name.ensures)
+          c.in_ok-rest.ensures) (λ p z. refl) (below c.requires) c.in_ok-value.ensures) c.in_ok-rest-2.ensures) (λ z h. h)
+          (below c.requires) c.in_err-body.ensures.by;
     })
 
-pub expressions::bound-returns : goal.expressions::bound-returns
-expressions::bound-returns t c =
+pub expressions::let_in-returns : goal.expressions::let_in-returns
+expressions::let_in-returns t c =
     let (x1, s1, f1) = c.in_ok-value.ensures.by in
-    let fits1 = f1.by.fits in
     let (x2, s2, f2) = c.in_ok-body.ensures.by in
-    let fits2 = f2.by.fits in
     record {
       by = (
         _,
-        over_two_is (let_expr c.in_ok-name.name.now) s1 s2 c.in_ok-bound.ensures.shown,
-        by_rule
-            (rules.let_rule c.args.place) refl c.requires
-            (seq_one grammar 1 (omega (arith, c.requires)) c.in_ok-name.ensures
-            (seq_one grammar 1 (omega (arith, c.requires)) c.in_ok-rest.ensures
-            (seq_part grammar 1 (λ p z. refl) (omega (arith, c.requires)) (below c.requires) f1
-            (seq_one grammar 1 (omega (arith, c.requires, fits1)) c.in_ok-rest-2.ensures
-            (seq_part grammar 1 (λ z h. h) (omega (arith, c.requires, fits1)) (below c.requires) f2
-            (seq_done grammar 1 (omega (arith, c.requires, fits1, fits2)))))))),
+        over_two_is (let_expr c.in_ok-name.name.now) s1 s2 c.in_ok-let_in.ensures.shown,
+        whole (past_part (past_one (past_part (past_one (past_one (begun (rules.let_rule c.args.place) refl c.requires)
+            c.in_ok-name.ensures) c.in_ok-rest.ensures) (λ p z. refl) (below c.requires) c.in_ok-value.ensures) c.in_ok-rest-2.ensures)
+            (λ z h. h) (below c.requires) c.in_ok-body.ensures),
       );
     }
 
--- ---- tested
+-- ---- if
 
-pub expressions::tested-returns-in_err-test : goal.expressions::tested-returns-in_err-test
-expressions::tested-returns-in_err-test t c =
+pub expressions::if_then-returns-in_err-test : goal.expressions::if_then-returns-in_err-test
+expressions::if_then-returns-in_err-test t c =
     rw (handed_on c.from_residual.result c.from_residual.ensures.1)
     (record {
-      by = by_rule (rules.if_rule c.args.place) refl c.requires
-          (seq_part_stop grammar 1 (λ p z. refl) (omega (arith, c.requires)) (below c.requires) c.in_err-test.ensures.by);
+      by = stop_part (begun (rules.if_rule c.args.place) refl c.requires) (λ p z. refl) (below c.requires) c.in_err-test.ensures.by;
     })
 
-pub expressions::tested-returns-in_err-rest : goal.expressions::tested-returns-in_err-rest
-expressions::tested-returns-in_err-rest t c =
-    let (x1, s1, f1) = c.in_ok-test.ensures.by in
-    let fits1 = f1.by.fits in
+pub expressions::if_then-returns-in_err-rest : goal.expressions::if_then-returns-in_err-rest
+expressions::if_then-returns-in_err-rest t c =
     rw (handed_on c.from_residual-in_err-rest.result c.from_residual-in_err-rest.ensures.1)
     (record {
-      by = by_rule (rules.if_rule c.args.place) refl c.requires
-          (seq_part grammar 1 (λ p z. refl) (omega (arith, c.requires)) (below c.requires) f1
-          (seq_one_stop grammar 1 (omega (arith, c.requires, fits1)) c.in_err-rest.ensures));
+      by = stop_one (past_part (begun (rules.if_rule c.args.place) refl c.requires) (λ p z. refl) (below c.requires) c.in_ok-test.ensures)
+          c.in_err-rest.ensures;
     })
 
-pub expressions::tested-returns-in_err-yes : goal.expressions::tested-returns-in_err-yes
-expressions::tested-returns-in_err-yes t c =
-    let (x1, s1, f1) = c.in_ok-test.ensures.by in
-    let fits1 = f1.by.fits in
+pub expressions::if_then-returns-in_err-yes : goal.expressions::if_then-returns-in_err-yes
+expressions::if_then-returns-in_err-yes t c =
     rw (handed_on c.from_residual-in_err-yes.result c.from_residual-in_err-yes.ensures.1)
     (record {
-      by = by_rule (rules.if_rule c.args.place) refl c.requires
-          (seq_part grammar 1 (λ p z. refl) (omega (arith, c.requires)) (below c.requires) f1
-          (seq_one grammar 1 (omega (arith, c.requires, fits1)) c.in_ok-rest.ensures
-          (seq_part_stop grammar 1 (λ p z. refl) (omega (arith, c.requires, fits1)) (below c.requires) c.in_err-yes.ensures.by)));
+      by = stop_part (past_one (past_part (begun (rules.if_rule c.args.place) refl c.requires) (λ p z. refl) (below c.requires)
+          c.in_ok-test.ensures) c.in_ok-rest.ensures) (λ p z. refl) (below c.requires) c.in_err-yes.ensures.by;
     })
 
-pub expressions::tested-returns-in_err-rest-2 : goal.expressions::tested-returns-in_err-rest-2
-expressions::tested-returns-in_err-rest-2 t c =
-    let (x1, s1, f1) = c.in_ok-test.ensures.by in
-    let fits1 = f1.by.fits in
-    let (x2, s2, f2) = c.in_ok-yes.ensures.by in
-    let fits2 = f2.by.fits in
+pub expressions::if_then-returns-in_err-rest-2 : goal.expressions::if_then-returns-in_err-rest-2
+expressions::if_then-returns-in_err-rest-2 t c =
     rw (handed_on c.from_residual-in_err-rest-2.result c.from_residual-in_err-rest-2.ensures.1)
     (record {
-      by = by_rule (rules.if_rule c.args.place) refl c.requires
-          (seq_part grammar 1 (λ p z. refl) (omega (arith, c.requires)) (below c.requires) f1
-          (seq_one grammar 1 (omega (arith, c.requires, fits1)) c.in_ok-rest.ensures
-          (seq_part grammar 1 (λ p z. refl) (omega (arith, c.requires, fits1)) (below c.requires) f2
-          (seq_one_stop grammar 1 (omega (arith, c.requires, fits1, fits2)) c.in_err-rest-2.ensures))));
+      by = stop_one (past_part (past_one (past_part (begun (rules.if_rule c.args.place) refl c.requires) (λ p z. refl) (below c.requires)
+          c.in_ok-test.ensures) c.in_ok-rest.ensures) (λ p z. refl) (below c.requires) c.in_ok-yes.ensures) c.in_err-rest-2.ensures;
     })
 
-pub expressions::tested-returns-in_err-no : goal.expressions::tested-returns-in_err-no
-expressions::tested-returns-in_err-no t c =
-    let (x1, s1, f1) = c.in_ok-test.ensures.by in
-    let fits1 = f1.by.fits in
-    let (x2, s2, f2) = c.in_ok-yes.ensures.by in
-    let fits2 = f2.by.fits in
+pub expressions::if_then-returns-in_err-no : goal.expressions::if_then-returns-in_err-no
+expressions::if_then-returns-in_err-no t c =
     rw (handed_on c.from_residual-in_err-no.result c.from_residual-in_err-no.ensures.1)
     (record {
-      by = by_rule (rules.if_rule c.args.place) refl c.requires
-          (seq_part grammar 1 (λ p z. refl) (omega (arith, c.requires)) (below c.requires) f1
-          (seq_one grammar 1 (omega (arith, c.requires, fits1)) c.in_ok-rest.ensures
-          (seq_part grammar 1 (λ p z. refl) (omega (arith, c.requires, fits1)) (below c.requires) f2
-          (seq_one grammar 1 (omega (arith, c.requires, fits1, fits2)) c.in_ok-rest-2.ensures
-          (seq_part_stop grammar 1 (λ z h. h) (omega (arith, c.requires, fits1, fits2)) (below c.requires) c.in_err-no.ensures.by)))));
+      by = stop_part (past_one (past_part (past_one (past_part (begun (rules.if_rule c.args.place) refl c.requires) (λ p z. refl)
+          (below c.requires) c.in_ok-test.ensures) c.in_ok-rest.ensures) (λ p z. refl) (below c.requires) c.in_ok-yes.ensures)
+          c.in_ok-rest-2.ensures) (λ z h. h) (below c.requires) c.in_err-no.ensures.by;
     })
 
-pub expressions::tested-returns : goal.expressions::tested-returns
-expressions::tested-returns t c =
+pub expressions::if_then-returns : goal.expressions::if_then-returns
+expressions::if_then-returns t c =
     let (x1, s1, f1) = c.in_ok-test.ensures.by in
-    let fits1 = f1.by.fits in
     let (x2, s2, f2) = c.in_ok-yes.ensures.by in
-    let fits2 = f2.by.fits in
     let (x3, s3, f3) = c.in_ok-no.ensures.by in
-    let fits3 = f3.by.fits in
     record {
       by = (
         _,
-        over_three_is if_expr s1 s2 s3 c.in_ok-tested.ensures.shown,
-        by_rule (rules.if_rule c.args.place) refl c.requires
-            (seq_part grammar 1 (λ p z. refl) (omega (arith, c.requires)) (below c.requires) f1
-            (seq_one grammar 1 (omega (arith, c.requires, fits1)) c.in_ok-rest.ensures
-            (seq_part grammar 1 (λ p z. refl) (omega (arith, c.requires, fits1)) (below c.requires) f2
-            (seq_one grammar 1 (omega (arith, c.requires, fits1, fits2)) c.in_ok-rest-2.ensures
-            (seq_part grammar 1 (λ z h. h) (omega (arith, c.requires, fits1, fits2)) (below c.requires) f3
-            (seq_done grammar 1 (omega (arith, c.requires, fits1, fits2, fits3)))))))),
+        over_three_is if_expr s1 s2 s3 c.in_ok-if_then.ensures.shown,
+        whole (past_part (past_one (past_part (past_one (past_part (begun (rules.if_rule c.args.place) refl c.requires) (λ p z. refl)
+            (below c.requires) c.in_ok-test.ensures) c.in_ok-rest.ensures) (λ p z. refl) (below c.requires) c.in_ok-yes.ensures)
+            c.in_ok-rest-2.ensures) (λ z h. h) (below c.requires) c.in_ok-no.ensures),
       );
     }
 
--- ---- cased
+-- ---- case
 
-pub expressions::cased-returns-in_err-list : goal.expressions::cased-returns-in_err-list
-expressions::cased-returns-in_err-list t c =
+pub expressions::case_of-returns-in_err-list : goal.expressions::case_of-returns-in_err-list
+expressions::case_of-returns-in_err-list t c =
     rw (handed_on c.from_residual.result c.from_residual.ensures.1)
     (record {
-      by = by_rule (rules.case_rule c.args.place) refl c.requires
-          (seq_part_stop grammar 1 (λ p z. refl) (omega (arith, c.requires)) (below c.requires) c.in_err-list.ensures.by);
+      by = stop_part (begun (rules.case_rule c.args.place) refl c.requires) (λ p z. refl) (below c.requires) c.in_err-list.ensures.by;
     })
 
-pub expressions::cased-returns-in_err-rest : goal.expressions::cased-returns-in_err-rest
-expressions::cased-returns-in_err-rest t c =
-    let (x1, s1, f1) = c.in_ok-list.ensures.by in
-    let fits1 = f1.by.fits in
+pub expressions::case_of-returns-in_err-rest : goal.expressions::case_of-returns-in_err-rest
+expressions::case_of-returns-in_err-rest t c =
     rw (handed_on c.from_residual-in_err-rest.result c.from_residual-in_err-rest.ensures.1)
     (record {
-      by = by_rule (rules.case_rule c.args.place) refl c.requires
-          (seq_part grammar 1 (λ p z. refl) (omega (arith, c.requires)) (below c.requires) f1
-          (seq_one_stop grammar 1 (omega (arith, c.requires, fits1)) c.in_err-rest.ensures));
+      by = stop_one (past_part (begun (rules.case_rule c.args.place) refl c.requires) (λ p z. refl) (below c.requires)
+          c.in_ok-list.ensures) c.in_err-rest.ensures;
     })
 
-pub expressions::cased-returns-in_err-rest-2 : goal.expressions::cased-returns-in_err-rest-2
-expressions::cased-returns-in_err-rest-2 t c =
-    let (x1, s1, f1) = c.in_ok-list.ensures.by in
-    let fits1 = f1.by.fits in
+pub expressions::case_of-returns-in_err-rest-2 : goal.expressions::case_of-returns-in_err-rest-2
+expressions::case_of-returns-in_err-rest-2 t c =
     rw (handed_on c.from_residual-in_err-rest-2.result c.from_residual-in_err-rest-2.ensures.1)
     (record {
-      by = by_rule (rules.case_rule c.args.place) refl c.requires
-          (seq_part grammar 1 (λ p z. refl) (omega (arith, c.requires)) (below c.requires) f1
-          (seq_one grammar 1 (omega (arith, c.requires, fits1)) c.in_ok-rest.ensures
-          (seq_one_stop grammar 1 (omega (arith, c.requires, fits1)) c.in_err-rest-2.ensures)));
+      by = stop_one (past_one (past_part (begun (rules.case_rule c.args.place) refl c.requires) (λ p z. refl) (below c.requires)
+          c.in_ok-list.ensures) c.in_ok-rest.ensures) c.in_err-rest-2.ensures;
     })
 
-pub expressions::cased-returns-in_err-rest-3 : goal.expressions::cased-returns-in_err-rest-3
-expressions::cased-returns-in_err-rest-3 t c =
-    let (x1, s1, f1) = c.in_ok-list.ensures.by in
-    let fits1 = f1.by.fits in
+pub expressions::case_of-returns-in_err-rest-3 : goal.expressions::case_of-returns-in_err-rest-3
+expressions::case_of-returns-in_err-rest-3 t c =
     rw (handed_on c.from_residual-in_err-rest-3.result c.from_residual-in_err-rest-3.ensures.1)
     (record {
-      by = by_rule (rules.case_rule c.args.place) refl c.requires
-          (seq_part grammar 1 (λ p z. refl) (omega (arith, c.requires)) (below c.requires) f1
-          (seq_one grammar 1 (omega (arith, c.requires, fits1)) c.in_ok-rest.ensures
-          (seq_one grammar 1 (omega (arith, c.requires, fits1)) c.in_ok-rest-2.ensures
-          (seq_one_stop grammar 1 (omega (arith, c.requires, fits1)) c.in_err-rest-3.ensures))));
+      by = stop_one (past_one (past_one (past_part (begun (rules.case_rule c.args.place) refl c.requires) (λ p z. refl) (below c.requires)
+          c.in_ok-list.ensures) c.in_ok-rest.ensures) c.in_ok-rest-2.ensures) c.in_err-rest-3.ensures;
     })
 
-pub expressions::cased-returns-in_err-rest-4 : goal.expressions::cased-returns-in_err-rest-4
-expressions::cased-returns-in_err-rest-4 t c =
-    let (x1, s1, f1) = c.in_ok-list.ensures.by in
-    let fits1 = f1.by.fits in
+pub expressions::case_of-returns-in_err-rest-4 : goal.expressions::case_of-returns-in_err-rest-4
+expressions::case_of-returns-in_err-rest-4 t c =
     rw (handed_on c.from_residual-in_err-rest-4.result c.from_residual-in_err-rest-4.ensures.1)
     (record {
-      by = by_rule (rules.case_rule c.args.place) refl c.requires
-          (seq_part grammar 1 (λ p z. refl) (omega (arith, c.requires)) (below c.requires) f1
-          (seq_one grammar 1 (omega (arith, c.requires, fits1)) c.in_ok-rest.ensures
-          (seq_one grammar 1 (omega (arith, c.requires, fits1)) c.in_ok-rest-2.ensures
-          (seq_one grammar 1 (omega (arith, c.requires, fits1)) c.in_ok-rest-3.ensures
-          (seq_one_stop grammar 1 (omega (arith, c.requires, fits1)) c.in_err-rest-4.ensures)))));
+      by = stop_one (past_one (past_one (past_one (past_part (begun (rules.case_rule c.args.place) refl c.requires) (λ p z. refl)
+          (below c.requires) c.in_ok-list.ensures) c.in_ok-rest.ensures) c.in_ok-rest-2.ensures) c.in_ok-rest-3.ensures)
+          c.in_err-rest-4.ensures;
     })
 
-pub expressions::cased-returns-in_err-empty : goal.expressions::cased-returns-in_err-empty
-expressions::cased-returns-in_err-empty t c =
-    let (x1, s1, f1) = c.in_ok-list.ensures.by in
-    let fits1 = f1.by.fits in
+pub expressions::case_of-returns-in_err-empty : goal.expressions::case_of-returns-in_err-empty
+expressions::case_of-returns-in_err-empty t c =
     rw (handed_on c.from_residual-in_err-empty.result c.from_residual-in_err-empty.ensures.1)
     (record {
-      by = by_rule (rules.case_rule c.args.place) refl c.requires
-          (seq_part grammar 1 (λ p z. refl) (omega (arith, c.requires)) (below c.requires) f1
-          (seq_one grammar 1 (omega (arith, c.requires, fits1)) c.in_ok-rest.ensures
-          (seq_one grammar 1 (omega (arith, c.requires, fits1)) c.in_ok-rest-2.ensures
-          (seq_one grammar 1 (omega (arith, c.requires, fits1)) c.in_ok-rest-3.ensures
-          (seq_one grammar 1 (omega (arith, c.requires, fits1)) c.in_ok-rest-4.ensures
-          (seq_part_stop grammar 1 (λ p z. refl) (omega (arith, c.requires, fits1)) (below c.requires) c.in_err-empty.ensures.by))))));
+      by = stop_part (past_one (past_one (past_one (past_one (past_part (begun (rules.case_rule c.args.place) refl c.requires)
+          (λ p z. refl) (below c.requires) c.in_ok-list.ensures) c.in_ok-rest.ensures) c.in_ok-rest-2.ensures) c.in_ok-rest-3.ensures)
+          c.in_ok-rest-4.ensures) (λ p z. refl) (below c.requires) c.in_err-empty.ensures.by;
     })
 
-pub expressions::cased-returns-in_err-rest-5 : goal.expressions::cased-returns-in_err-rest-5
-expressions::cased-returns-in_err-rest-5 t c =
-    let (x1, s1, f1) = c.in_ok-list.ensures.by in
-    let fits1 = f1.by.fits in
-    let (x2, s2, f2) = c.in_ok-empty.ensures.by in
-    let fits2 = f2.by.fits in
+pub expressions::case_of-returns-in_err-rest-5 : goal.expressions::case_of-returns-in_err-rest-5
+expressions::case_of-returns-in_err-rest-5 t c =
     rw (handed_on c.from_residual-in_err-rest-5.result c.from_residual-in_err-rest-5.ensures.1)
     (record {
-      by = by_rule (rules.case_rule c.args.place) refl c.requires
-          (seq_part grammar 1 (λ p z. refl) (omega (arith, c.requires)) (below c.requires) f1
-          (seq_one grammar 1 (omega (arith, c.requires, fits1)) c.in_ok-rest.ensures
-          (seq_one grammar 1 (omega (arith, c.requires, fits1)) c.in_ok-rest-2.ensures
-          (seq_one grammar 1 (omega (arith, c.requires, fits1)) c.in_ok-rest-3.ensures
-          (seq_one grammar 1 (omega (arith, c.requires, fits1)) c.in_ok-rest-4.ensures
-          (seq_part grammar 1 (λ p z. refl) (omega (arith, c.requires, fits1)) (below c.requires) f2
-          (seq_one_stop grammar 1 (omega (arith, c.requires, fits1, fits2)) c.in_err-rest-5.ensures)))))));
+      by = stop_one (past_part (past_one (past_one (past_one (past_one (past_part (begun (rules.case_rule c.args.place) refl c.requires)
+          (λ p z. refl) (below c.requires) c.in_ok-list.ensures) c.in_ok-rest.ensures) c.in_ok-rest-2.ensures) c.in_ok-rest-3.ensures)
+          c.in_ok-rest-4.ensures) (λ p z. refl) (below c.requires) c.in_ok-empty.ensures) c.in_err-rest-5.ensures;
     })
 
-pub expressions::cased-returns-in_err-head : goal.expressions::cased-returns-in_err-head
-expressions::cased-returns-in_err-head t c =
-    let (x1, s1, f1) = c.in_ok-list.ensures.by in
-    let fits1 = f1.by.fits in
-    let (x2, s2, f2) = c.in_ok-empty.ensures.by in
-    let fits2 = f2.by.fits in
+pub expressions::case_of-returns-in_err-head : goal.expressions::case_of-returns-in_err-head
+expressions::case_of-returns-in_err-head t c =
     rw (handed_on c.from_residual-in_err-head.result c.from_residual-in_err-head.ensures.1)
     (record {
-      by = by_rule (rules.case_rule c.args.place) refl c.requires
-          (seq_part grammar 1 (λ p z. refl) (omega (arith, c.requires)) (below c.requires) f1
-          (seq_one grammar 1 (omega (arith, c.requires, fits1)) c.in_ok-rest.ensures
-          (seq_one grammar 1 (omega (arith, c.requires, fits1)) c.in_ok-rest-2.ensures
-          (seq_one grammar 1 (omega (arith, c.requires, fits1)) c.in_ok-rest-3.ensures
-          (seq_one grammar 1 (omega (arith, c.requires, fits1)) c.in_ok-rest-4.ensures
-          (seq_part grammar 1 (λ p z. refl) (omega (arith, c.requires, fits1)) (below c.requires) f2
-          (seq_one grammar 1 (omega (arith, c.requires, fits1, fits2)) c.in_ok-rest-5.ensures
-          (seq_one_stop grammar 1 (omega (arith, c.requires, fits1, fits2)) c.in_err-head.ensures))))))));
+      by = stop_one (past_one (past_part (past_one (past_one (past_one (past_one (past_part (begun (rules.case_rule c.args.place) refl
+          c.requires) (λ p z. refl) (below c.requires) c.in_ok-list.ensures) c.in_ok-rest.ensures) c.in_ok-rest-2.ensures)
+          c.in_ok-rest-3.ensures) c.in_ok-rest-4.ensures) (λ p z. refl) (below c.requires) c.in_ok-empty.ensures) c.in_ok-rest-5.ensures)
+          c.in_err-head.ensures;
     })
 
-pub expressions::cased-returns-in_err-rest-6 : goal.expressions::cased-returns-in_err-rest-6
-expressions::cased-returns-in_err-rest-6 t c =
-    let (x1, s1, f1) = c.in_ok-list.ensures.by in
-    let fits1 = f1.by.fits in
-    let (x2, s2, f2) = c.in_ok-empty.ensures.by in
-    let fits2 = f2.by.fits in
+pub expressions::case_of-returns-in_err-rest-6 : goal.expressions::case_of-returns-in_err-rest-6
+expressions::case_of-returns-in_err-rest-6 t c =
     rw (handed_on c.from_residual-in_err-rest-6.result c.from_residual-in_err-rest-6.ensures.1)
     (record {
-      by = by_rule (rules.case_rule c.args.place) refl c.requires
-          (seq_part grammar 1 (λ p z. refl) (omega (arith, c.requires)) (below c.requires) f1
-          (seq_one grammar 1 (omega (arith, c.requires, fits1)) c.in_ok-rest.ensures
-          (seq_one grammar 1 (omega (arith, c.requires, fits1)) c.in_ok-rest-2.ensures
-          (seq_one grammar 1 (omega (arith, c.requires, fits1)) c.in_ok-rest-3.ensures
-          (seq_one grammar 1 (omega (arith, c.requires, fits1)) c.in_ok-rest-4.ensures
-          (seq_part grammar 1 (λ p z. refl) (omega (arith, c.requires, fits1)) (below c.requires) f2
-          (seq_one grammar 1 (omega (arith, c.requires, fits1, fits2)) c.in_ok-rest-5.ensures
-          (seq_one grammar 1 (omega (arith, c.requires, fits1, fits2)) c.in_ok-head.ensures
-          (seq_one_stop grammar 1 (omega (arith, c.requires, fits1, fits2)) c.in_err-rest-6.ensures)))))))));
+      by = stop_one (past_one (past_one (past_part (past_one (past_one (past_one (past_one (past_part (begun
+          (rules.case_rule c.args.place) refl c.requires) (λ p z. refl) (below c.requires) c.in_ok-list.ensures) c.in_ok-rest.ensures)
+          c.in_ok-rest-2.ensures) c.in_ok-rest-3.ensures) c.in_ok-rest-4.ensures) (λ p z. refl) (below c.requires) c.in_ok-empty.ensures)
+          c.in_ok-rest-5.ensures) c.in_ok-head.ensures) c.in_err-rest-6.ensures;
     })
 
-pub expressions::cased-returns-in_err-tail : goal.expressions::cased-returns-in_err-tail
-expressions::cased-returns-in_err-tail t c =
-    let (x1, s1, f1) = c.in_ok-list.ensures.by in
-    let fits1 = f1.by.fits in
-    let (x2, s2, f2) = c.in_ok-empty.ensures.by in
-    let fits2 = f2.by.fits in
+pub expressions::case_of-returns-in_err-tail : goal.expressions::case_of-returns-in_err-tail
+expressions::case_of-returns-in_err-tail t c =
     rw (handed_on c.from_residual-in_err-tail.result c.from_residual-in_err-tail.ensures.1)
     (record {
-      by = by_rule (rules.case_rule c.args.place) refl c.requires
-          (seq_part grammar 1 (λ p z. refl) (omega (arith, c.requires)) (below c.requires) f1
-          (seq_one grammar 1 (omega (arith, c.requires, fits1)) c.in_ok-rest.ensures
-          (seq_one grammar 1 (omega (arith, c.requires, fits1)) c.in_ok-rest-2.ensures
-          (seq_one grammar 1 (omega (arith, c.requires, fits1)) c.in_ok-rest-3.ensures
-          (seq_one grammar 1 (omega (arith, c.requires, fits1)) c.in_ok-rest-4.ensures
-          (seq_part grammar 1 (λ p z. refl) (omega (arith, c.requires, fits1)) (below c.requires) f2
-          (seq_one grammar 1 (omega (arith, c.requires, fits1, fits2)) c.in_ok-rest-5.ensures
-          (seq_one grammar 1 (omega (arith, c.requires, fits1, fits2)) c.in_ok-head.ensures
-          (seq_one grammar 1 (omega (arith, c.requires, fits1, fits2)) c.in_ok-rest-6.ensures
-          (seq_one_stop grammar 1 (omega (arith, c.requires, fits1, fits2)) c.in_err-tail.ensures))))))))));
+      by = stop_one (past_one (past_one (past_one (past_part (past_one (past_one (past_one (past_one (past_part (begun
+          (rules.case_rule c.args.place) refl c.requires) (λ p z. refl) (below c.requires) c.in_ok-list.ensures) c.in_ok-rest.ensures)
+          c.in_ok-rest-2.ensures) c.in_ok-rest-3.ensures) c.in_ok-rest-4.ensures) (λ p z. refl) (below c.requires) c.in_ok-empty.ensures)
+          c.in_ok-rest-5.ensures) c.in_ok-head.ensures) c.in_ok-rest-6.ensures) c.in_err-tail.ensures;
     })
 
-pub expressions::cased-returns-in_err-rest-7 : goal.expressions::cased-returns-in_err-rest-7
-expressions::cased-returns-in_err-rest-7 t c =
-    let (x1, s1, f1) = c.in_ok-list.ensures.by in
-    let fits1 = f1.by.fits in
-    let (x2, s2, f2) = c.in_ok-empty.ensures.by in
-    let fits2 = f2.by.fits in
+pub expressions::case_of-returns-in_err-rest-7 : goal.expressions::case_of-returns-in_err-rest-7
+expressions::case_of-returns-in_err-rest-7 t c =
     rw (handed_on c.from_residual-in_err-rest-7.result c.from_residual-in_err-rest-7.ensures.1)
     (record {
-      by = by_rule (rules.case_rule c.args.place) refl c.requires
-          (seq_part grammar 1 (λ p z. refl) (omega (arith, c.requires)) (below c.requires) f1
-          (seq_one grammar 1 (omega (arith, c.requires, fits1)) c.in_ok-rest.ensures
-          (seq_one grammar 1 (omega (arith, c.requires, fits1)) c.in_ok-rest-2.ensures
-          (seq_one grammar 1 (omega (arith, c.requires, fits1)) c.in_ok-rest-3.ensures
-          (seq_one grammar 1 (omega (arith, c.requires, fits1)) c.in_ok-rest-4.ensures
-          (seq_part grammar 1 (λ p z. refl) (omega (arith, c.requires, fits1)) (below c.requires) f2
-          (seq_one grammar 1 (omega (arith, c.requires, fits1, fits2)) c.in_ok-rest-5.ensures
-          (seq_one grammar 1 (omega (arith, c.requires, fits1, fits2)) c.in_ok-head.ensures
-          (seq_one grammar 1 (omega (arith, c.requires, fits1, fits2)) c.in_ok-rest-6.ensures
-          (seq_one grammar 1 (omega (arith, c.requires, fits1, fits2)) c.in_ok-tail.ensures
-          (seq_one_stop grammar 1 (omega (arith, c.requires, fits1, fits2)) c.in_err-rest-7.ensures)))))))))));
+      by = stop_one (past_one (past_one (past_one (past_one (past_part (past_one (past_one (past_one (past_one (past_part (begun
+          (rules.case_rule c.args.place) refl c.requires) (λ p z. refl) (below c.requires) c.in_ok-list.ensures) c.in_ok-rest.ensures)
+          c.in_ok-rest-2.ensures) c.in_ok-rest-3.ensures) c.in_ok-rest-4.ensures) (λ p z. refl) (below c.requires) c.in_ok-empty.ensures)
+          c.in_ok-rest-5.ensures) c.in_ok-head.ensures) c.in_ok-rest-6.ensures) c.in_ok-tail.ensures) c.in_err-rest-7.ensures;
     })
 
-pub expressions::cased-returns-in_err-more : goal.expressions::cased-returns-in_err-more
-expressions::cased-returns-in_err-more t c =
-    let (x1, s1, f1) = c.in_ok-list.ensures.by in
-    let fits1 = f1.by.fits in
-    let (x2, s2, f2) = c.in_ok-empty.ensures.by in
-    let fits2 = f2.by.fits in
+pub expressions::case_of-returns-in_err-more : goal.expressions::case_of-returns-in_err-more
+expressions::case_of-returns-in_err-more t c =
     rw (handed_on c.from_residual-in_err-more.result c.from_residual-in_err-more.ensures.1)
     (record {
-      by = by_rule (rules.case_rule c.args.place) refl c.requires
-          (seq_part grammar 1 (λ p z. refl) (omega (arith, c.requires)) (below c.requires) f1
-          (seq_one grammar 1 (omega (arith, c.requires, fits1)) c.in_ok-rest.ensures
-          (seq_one grammar 1 (omega (arith, c.requires, fits1)) c.in_ok-rest-2.ensures
-          (seq_one grammar 1 (omega (arith, c.requires, fits1)) c.in_ok-rest-3.ensures
-          (seq_one grammar 1 (omega (arith, c.requires, fits1)) c.in_ok-rest-4.ensures
-          (seq_part grammar 1 (λ p z. refl) (omega (arith, c.requires, fits1)) (below c.requires) f2
-          (seq_one grammar 1 (omega (arith, c.requires, fits1, fits2)) c.in_ok-rest-5.ensures
-          (seq_one grammar 1 (omega (arith, c.requires, fits1, fits2)) c.in_ok-head.ensures
-          (seq_one grammar 1 (omega (arith, c.requires, fits1, fits2)) c.in_ok-rest-6.ensures
-          (seq_one grammar 1 (omega (arith, c.requires, fits1, fits2)) c.in_ok-tail.ensures
-          (seq_one grammar 1 (omega (arith, c.requires, fits1, fits2)) c.in_ok-rest-7.ensures
-          (seq_part_stop grammar 1 (λ z h. h) (omega (arith, c.requires, fits1, fits2))
-          (below c.requires) c.in_err-more.ensures.by))))))))))));
+      by = stop_part (past_one (past_one (past_one (past_one (past_one (past_part (past_one (past_one (past_one (past_one (past_part
+          (begun (rules.case_rule c.args.place) refl c.requires) (λ p z. refl) (below c.requires) c.in_ok-list.ensures)
+          c.in_ok-rest.ensures) c.in_ok-rest-2.ensures) c.in_ok-rest-3.ensures) c.in_ok-rest-4.ensures) (λ p z. refl) (below c.requires)
+          c.in_ok-empty.ensures) c.in_ok-rest-5.ensures) c.in_ok-head.ensures) c.in_ok-rest-6.ensures) c.in_ok-tail.ensures)
+          c.in_ok-rest-7.ensures) (λ z h. h) (below c.requires) c.in_err-more.ensures.by;
     })
 
-pub expressions::cased-returns : goal.expressions::cased-returns
-expressions::cased-returns t c =
+pub expressions::case_of-returns : goal.expressions::case_of-returns
+expressions::case_of-returns t c =
     let (x1, s1, f1) = c.in_ok-list.ensures.by in
-    let fits1 = f1.by.fits in
     let (x2, s2, f2) = c.in_ok-empty.ensures.by in
-    let fits2 = f2.by.fits in
     let (x3, s3, f3) = c.in_ok-more.ensures.by in
-    let fits3 = f3.by.fits in
     record {
       by = (
         _,
         over_three_is (λ l a b. case_expr l a c.in_ok-head.head.now c.in_ok-tail.tail.now b)
-            s1 s2 s3 c.in_ok-cased.ensures.shown,
-        by_rule (rules.case_rule c.args.place) refl c.requires
-            (seq_part grammar 1 (λ p z. refl) (omega (arith, c.requires)) (below c.requires) f1
-            (seq_one grammar 1 (omega (arith, c.requires, fits1)) c.in_ok-rest.ensures
-            (seq_one grammar 1 (omega (arith, c.requires, fits1)) c.in_ok-rest-2.ensures
-            (seq_one grammar 1 (omega (arith, c.requires, fits1)) c.in_ok-rest-3.ensures
-            (seq_one grammar 1 (omega (arith, c.requires, fits1)) c.in_ok-rest-4.ensures
-            (seq_part grammar 1 (λ p z. refl) (omega (arith, c.requires, fits1)) (below c.requires) f2
-            (seq_one grammar 1 (omega (arith, c.requires, fits1, fits2)) c.in_ok-rest-5.ensures
-            (seq_one grammar 1 (omega (arith, c.requires, fits1, fits2)) c.in_ok-head.ensures
-            (seq_one grammar 1 (omega (arith, c.requires, fits1, fits2)) c.in_ok-rest-6.ensures
-            (seq_one grammar 1 (omega (arith, c.requires, fits1, fits2)) c.in_ok-tail.ensures
-            (seq_one grammar 1 (omega (arith, c.requires, fits1, fits2)) c.in_ok-rest-7.ensures
-            (seq_part grammar 1 (λ z h. h) (omega (arith, c.requires, fits1, fits2)) (below c.requires) f3
-            (seq_done grammar 1 (omega (arith, c.requires, fits1, fits2, fits3))))))))))))))),
+            s1 s2 s3 c.in_ok-case_of.ensures.shown,
+        whole (past_part (past_one (past_one (past_one (past_one (past_one (past_part (past_one (past_one (past_one (past_one (past_part
+            (begun (rules.case_rule c.args.place) refl c.requires) (λ p z. refl) (below c.requires) c.in_ok-list.ensures)
+            c.in_ok-rest.ensures) c.in_ok-rest-2.ensures) c.in_ok-rest-3.ensures) c.in_ok-rest-4.ensures) (λ p z. refl) (below c.requires)
+            c.in_ok-empty.ensures) c.in_ok-rest-5.ensures) c.in_ok-head.ensures) c.in_ok-rest-6.ensures) c.in_ok-tail.ensures)
+            c.in_ok-rest-7.ensures) (λ z h. h) (below c.requires) c.in_ok-more.ensures),
       );
     }
 
@@ -645,23 +495,19 @@ operators::operand-returns-in_err-inner t c =
     let le : 2 ≤ c.args.room = omega arith in
     rw (handed_on c.from_residual.result c.from_residual.ensures.1)
     (record {
-      by = by_rule (prefix_rule _ _) c.in-Some.ensures le
-          (seq_part_stop grammar 1 (λ z h. h) (omega (arith, le)) (below le) c.in_err-inner.ensures.by);
+      by = stop_part (begun (prefix_rule _ _) c.in-Some.ensures le) (λ z h. h) (below le) c.in_err-inner.ensures.by;
     })
 
 pub operators::operand-returns : goal.operators::operand-returns
 operators::operand-returns t c =
     let le : 2 ≤ c.args.room = omega arith in
     let (x, sx, fx) = c.in_ok-inner.ensures.by in
-    let fits = fx.by.fits in
     record {
       by = (
         _,
         behind_is (unary_expression (prefix_term c.in-Some.op))
             (start_prefixed (prefix_term c.in-Some.op) c.in-Some.place x.0) sx c.in_ok-prefixed.ensures.shown,
-        by_rule
-            (prefix_rule _ _) c.in-Some.ensures le (seq_part grammar 1 (λ z h. h) (omega (arith, le)) (below le) fx
-            (seq_done grammar 1 (omega (arith, le, fits)))),
+        whole (past_part (begun (prefix_rule _ _) c.in-Some.ensures le) (λ z h. h) (below le) c.in_ok-inner.ensures),
       );
     }
 
@@ -838,34 +684,26 @@ pub atoms::elements-returns-in_err-items : goal.atoms::elements-returns-in_err-i
 atoms::elements-returns-in_err-items t c =
     rw (handed_on c.from_residual.result c.from_residual.ensures.1)
     (record {
-      by = by_rule (rules.elements_rule c.args.place) refl c.requires
-          (seq_part_stop grammar 1 (λ p z. refl) (omega (arith, c.requires)) (below c.requires) c.in_err-items.ensures.by);
+      by = stop_part (begun (rules.elements_rule c.args.place) refl c.requires) (λ p z. refl) (below c.requires) c.in_err-items.ensures.by;
     })
 
 pub atoms::elements-returns-in_err-rest : goal.atoms::elements-returns-in_err-rest
 atoms::elements-returns-in_err-rest t c =
-    let (x1, s1, f1) = c.in_ok-items.ensures.by in
-    let fits1 = f1.by.fits in
     rw (handed_on c.from_residual-in_err-rest.result c.from_residual-in_err-rest.ensures.1)
     (record {
-      by = by_rule (rules.elements_rule c.args.place) refl c.requires
-          (seq_part grammar 1 (λ p z. refl) (omega (arith, c.requires)) (below c.requires) f1
-          (seq_one_stop grammar 1 (omega (arith, c.requires, fits1)) c.in_err-rest.ensures));
+      by = stop_one (past_part (begun (rules.elements_rule c.args.place) refl c.requires) (λ p z. refl) (below c.requires)
+          c.in_ok-items.ensures) c.in_err-rest.ensures;
     })
 
 pub atoms::elements-returns : goal.atoms::elements-returns
 atoms::elements-returns t c =
     let (x1, s1, f1) = c.in_ok-items.ensures.by in
-    let fits1 = f1.by.fits in
     record {
       by = (
         _,
         over_list_is (λ l. list_expr (as_exprs l)) s1 c.in_ok-elements.ensures.shown,
-        by_rule
-            (rules.elements_rule c.args.place) refl c.requires
-            (seq_part grammar 1 (λ p z. refl) (omega (arith, c.requires)) (below c.requires) f1
-            (seq_one grammar 1 (omega (arith, c.requires, fits1)) c.in_ok-rest.ensures
-            (seq_done grammar 1 (omega (arith, c.requires, fits1))))),
+        whole (past_one (past_part (begun (rules.elements_rule c.args.place) refl c.requires) (λ p z. refl) (below c.requires)
+            c.in_ok-items.ensures) c.in_ok-rest.ensures),
       );
     }
 

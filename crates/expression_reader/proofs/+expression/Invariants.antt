@@ -8,14 +8,14 @@ use Rattle.expression_reader.proofs.+expression.Given as goal
 abbrev pub decreases-expressions::expression : goal.decreases-expressions::expression
 decreases-expressions::expression l = 20 * l.room + 14
 
-abbrev pub decreases-expressions::bound : goal.decreases-expressions::bound
-decreases-expressions::bound l = 20 * l.room + 13
+abbrev pub decreases-expressions::let_in : goal.decreases-expressions::let_in
+decreases-expressions::let_in l = 20 * l.room + 13
 
-abbrev pub decreases-expressions::tested : goal.decreases-expressions::tested
-decreases-expressions::tested l = 20 * l.room + 13
+abbrev pub decreases-expressions::if_then : goal.decreases-expressions::if_then
+decreases-expressions::if_then l = 20 * l.room + 13
 
-abbrev pub decreases-expressions::cased : goal.decreases-expressions::cased
-decreases-expressions::cased l = 20 * l.room + 13
+abbrev pub decreases-expressions::case_of : goal.decreases-expressions::case_of
+decreases-expressions::case_of l = 20 * l.room + 13
 
 abbrev pub decreases-operators::comparison : goal.decreases-operators::comparison
 decreases-operators::comparison l = 20 * l.room + 8

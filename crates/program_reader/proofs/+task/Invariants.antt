@@ -24,11 +24,8 @@ decreases-series::chain l = 7 * l.room + 2
 abbrev pub decreases-atoms::task_atom : goal.decreases-atoms::task_atom
 decreases-atoms::task_atom l = 7 * l.room + 1
 
-abbrev pub decreases-binders::task_let : goal.decreases-binders::task_let
-decreases-binders::task_let l = 7 * l.room
-
-abbrev pub decreases-binders::task_new : goal.decreases-binders::task_new
-decreases-binders::task_new l = 7 * l.room
+abbrev pub decreases-binders::task_binding : goal.decreases-binders::task_binding
+decreases-binders::task_binding l = 7 * l.room
 
 abbrev pub decreases-branches::task_if : goal.decreases-branches::task_if
 decreases-branches::task_if l = 7 * l.room

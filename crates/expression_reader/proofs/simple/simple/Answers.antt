@@ -1,11 +1,11 @@
 use Rattle.std.proofs.Common.{◌≤◌, sym, subst, arith}
 use Rattle.program_grammar.proofs.Exits.{handed_on, below}
-use Rattle.exact_reading.proofs.Symbols.{seq_one, seq_one_stop, seq_part, seq_part_stop, seq_done}
 use Rattle.task_model.specs.Host.{nil_expr}
 use Rattle.task_model.specs.Grammar.{basic, atom}
-use Rattle.program_grammar.proofs.GrammarLemmas.{grammar, stops_within}
+use Rattle.program_grammar.proofs.GrammarLemmas.{stops_within}
 use Rattle.program_grammar.proofs.CountLemmas.{counted}
-use Rattle.program_grammar.proofs.RuleLemmas.{by_rule, too_deep}
+use Rattle.program_grammar.proofs.RuleLemmas.{too_deep}
+use Rattle.program_grammar.proofs.PartlyRead.{begun, past_one, past_part, stop_one, stop_part, whole}
 use Rattle.program_grammar.proofs.ExpressionRules.{content_rule, nil_rule}
 use Rattle.std.specs.Prelude.{MatchOption}
 use Rattle.program_grammar.specs.Parts.{lexemes, shown_host}
@@ -34,7 +34,7 @@ pub returns-in_err-name : goal.returns-in_err-name
 returns-in_err-name c =
     let le : 1 ≤ c.args.room = omega arith in
     rw (handed_on c.from_residual-in_err-name.result c.from_residual-in_err-name.ensures.1)
-    (record { by = by_rule (content_rule _) c.in-Some-strip_symbol.ensures le (seq_one_stop grammar 1 le c.in_err-name.ensures) })
+    (record { by = stop_one (begun (content_rule _) c.in-Some-strip_symbol.ensures le) c.in_err-name.ensures })
 
 pub returns-in-Some-strip_symbol : goal.returns-in-Some-strip_symbol
 returns-in-Some-strip_symbol c =
@@ -43,8 +43,7 @@ returns-in-Some-strip_symbol c =
       by = (
         _,
         sym c.in_ok-content.ensures.shown,
-        by_rule (content_rule _) c.in-Some-strip_symbol.ensures le
-            (seq_one grammar 1 le c.in_ok-name.ensures (seq_done grammar 1 le)),
+        whole (past_one (begun (content_rule _) c.in-Some-strip_symbol.ensures le) c.in_ok-name.ensures),
       );
     }
 
@@ -57,23 +56,20 @@ returns-in_err-item c =
     let le : 2 ≤ c.args.room = omega arith in
     rw (handed_on c.from_residual-in_err-item.result c.from_residual-in_err-item.ensures.1)
     (record {
-      by = by_rule (nil_rule _) c.in-Some-strip_keyword.ensures le
-          (seq_part_stop grammar 1 (λ z h. stops_within basic atom (omega arith) z h) (omega (arith, le))
-          (below le) c.in_err-item.ensures.by);
+      by = stop_part (begun (nil_rule _) c.in-Some-strip_keyword.ensures le) (λ z h. stops_within basic atom (omega arith) z h) (below le)
+          c.in_err-item.ensures.by;
     })
 
 pub returns-in-Some-strip_keyword : goal.returns-in-Some-strip_keyword
 returns-in-Some-strip_keyword c =
     let le : 2 ≤ c.args.room = omega arith in
     let (x, sx, fx) = c.in_ok-item.ensures.by in
-    let fits = fx.by.fits in
     record {
       by = (
         _,
         over_type_is nil_expr sx c.in_ok-nil.ensures.shown,
-        by_rule (nil_rule _) c.in-Some-strip_keyword.ensures le
-            (seq_part grammar 1 (λ z h. stops_within basic atom (omega arith) z h) (omega (arith, le)) (below le) fx
-            (seq_done grammar 1 (omega (arith, le, fits)))),
+        whole (past_part (begun (nil_rule _) c.in-Some-strip_keyword.ensures le) (λ z h. stops_within basic atom (omega arith) z h)
+            (below le) c.in_ok-item.ensures),
       );
     }
 

@@ -1,11 +1,12 @@
 use Rattle.std.proofs.Common.{◌≡◌, ◌+◌, ◌-◌, ◌≤◌, refl, sym, ap, arith}
-use Rattle.std.proofs.lemmas.Result.{err_from_is_err_and}
+use Rattle.program_grammar.proofs.Exits.{handed_on, below}
 use Rattle.task_model.specs.Basic.{basic_term}
 use Rattle.task_model.specs.Grammar.{scalar_type}
 use Rattle.exact_reading.proofs.Symbols.{seq_one, seq_one_stop, seq_part, seq_part_stop, seq_done}
 use Rattle.program_grammar.proofs.GrammarLemmas.{grammar}
 use Rattle.program_grammar.proofs.CountLemmas.{counted}
 use Rattle.program_grammar.proofs.RuleLemmas.{by_rule, too_deep}
+use Rattle.program_grammar.proofs.PartlyRead.{begun, past_one, past_part, stop_one, stop_part, whole}
 use Rattle.program_grammar.proofs.TypeRules as types
 use Rattle.program_grammar.proofs.basics.+basic.Goals as goal
 
@@ -21,8 +22,7 @@ returns-in-Some t c =
       by = (
         (scalar_type b p, 1),
         ap (λ q. (q, 1)) (sym is),
-        by_rule (types.scalar_rule b p) e (omega arith)
-            (seq_done grammar 1 (omega arith)),
+        whole (begun (types.scalar_rule b p) e (omega arith)),
       );
     }
 
@@ -33,53 +33,33 @@ returns-then-room-lt2 t c = rw c.too_nested-then-room-lt2.ensures
 
 pub returns-in_err-first : goal.returns-in_err-first
 returns-in_err-first t c =
-    let p = err_from_is_err_and c.from_residual.result c.from_residual.ensures.1 in
     let le : 2 ≤ c.args.room = omega arith in
-    let up : 1 + (c.args.room - 1) ≡ c.args.room = omega arith in
-    rw (p.1, p.2) (record {
-      by = by_rule (types.pair_rule _) c.in-Some-strip_symbol.ensures le
-          (seq_part_stop grammar 1 (λ p z. refl) le up c.in_err-first.ensures.by);
+    rw (handed_on c.from_residual.result c.from_residual.ensures.1) (record {
+      by = stop_part (begun (types.pair_rule _) c.in-Some-strip_symbol.ensures le) (λ p z. refl) (below le) c.in_err-first.ensures.by;
     })
 
 pub returns-in_err-rest : goal.returns-in_err-rest
 returns-in_err-rest t c =
-    let p = err_from_is_err_and c.from_residual-in_err-rest.result c.from_residual-in_err-rest.ensures.1 in
     let le : 2 ≤ c.args.room = omega arith in
-    let up : 1 + (c.args.room - 1) ≡ c.args.room = omega arith in
-    let (x, sx, fx) = c.in_ok-first.ensures.by in
-    let fits = fx.by.fits in
-    rw (p.1, p.2) (record {
-      by = by_rule (types.pair_rule _) c.in-Some-strip_symbol.ensures le
-          (seq_part grammar 1 (λ p z. refl) le up fx (seq_one_stop grammar 1 (omega (arith, fits, le)) c.in_err-rest.ensures));
+    rw (handed_on c.from_residual-in_err-rest.result c.from_residual-in_err-rest.ensures.1) (record {
+      by = stop_one (past_part (begun (types.pair_rule _) c.in-Some-strip_symbol.ensures le) (λ p z. refl) (below le)
+          c.in_ok-first.ensures) c.in_err-rest.ensures;
     })
 
 pub returns-in_err-second : goal.returns-in_err-second
 returns-in_err-second t c =
-    let p = err_from_is_err_and c.from_residual-in_err-second.result c.from_residual-in_err-second.ensures.1 in
     let le : 2 ≤ c.args.room = omega arith in
-    let up : 1 + (c.args.room - 1) ≡ c.args.room = omega arith in
-    let (x, sx, fx) = c.in_ok-first.ensures.by in
-    let fits = fx.by.fits in
-    rw (p.1, p.2) (record {
-      by = by_rule (types.pair_rule _) c.in-Some-strip_symbol.ensures le
-          (seq_part grammar 1 (λ p z. refl) le up fx (seq_one grammar 1 (omega (arith, fits, le)) c.in_ok-rest.ensures
-          (seq_part_stop grammar 1 (λ p z. refl) (omega (arith, fits, le)) up c.in_err-second.ensures.by)));
+    rw (handed_on c.from_residual-in_err-second.result c.from_residual-in_err-second.ensures.1) (record {
+      by = stop_part (past_one (past_part (begun (types.pair_rule _) c.in-Some-strip_symbol.ensures le) (λ p z. refl) (below le)
+          c.in_ok-first.ensures) c.in_ok-rest.ensures) (λ p z. refl) (below le) c.in_err-second.ensures.by;
     })
 
 pub returns-in_err-rest-2 : goal.returns-in_err-rest-2
 returns-in_err-rest-2 t c =
-    let p = err_from_is_err_and c.from_residual-in_err-rest-2.result c.from_residual-in_err-rest-2.ensures.1 in
     let le : 2 ≤ c.args.room = omega arith in
-    let up : 1 + (c.args.room - 1) ≡ c.args.room = omega arith in
-    let (x, sx, fx) = c.in_ok-first.ensures.by in
-    let (y, sy, fy) = c.in_ok-second.ensures.by in
-    let fits = fx.by.fits in
-    let fits' = fy.by.fits in
-    rw (p.1, p.2) (record {
-      by = by_rule (types.pair_rule _) c.in-Some-strip_symbol.ensures le
-          (seq_part grammar 1 (λ p z. refl) le up fx (seq_one grammar 1 (omega (arith, fits, le)) c.in_ok-rest.ensures
-          (seq_part grammar 1 (λ p z. refl) (omega (arith, fits, le)) up fy
-          (seq_one_stop grammar 1 (omega (arith, fits, fits', le)) c.in_err-rest-2.ensures))));
+    rw (handed_on c.from_residual-in_err-rest-2.result c.from_residual-in_err-rest-2.ensures.1) (record {
+      by = stop_one (past_part (past_one (past_part (begun (types.pair_rule _) c.in-Some-strip_symbol.ensures le) (λ p z. refl) (below le)
+          c.in_ok-first.ensures) c.in_ok-rest.ensures) (λ p z. refl) (below le) c.in_ok-second.ensures) c.in_err-rest-2.ensures;
     })
 
 pub overflow_add-levels : goal.overflow_add-levels
@@ -97,11 +77,8 @@ overflow_add-levels t c =
 pub returns-in-Some-strip_symbol : goal.returns-in-Some-strip_symbol
 returns-in-Some-strip_symbol t c =
     let le : 2 ≤ c.args.room = omega arith in
-    let up : 1 + (c.args.room - 1) ≡ c.args.room = omega arith in
     let (x, sx, fx) = c.in_ok-first.ensures.by in
     let (y, sy, fy) = c.in_ok-second.ensures.by in
-    let fits = fx.by.fits in
-    let fits' = fy.by.fits in
     let v1 : basic_term c.in_ok-first.first.basic ≡ basic_term c.in_ok-new.field-0.value = ap basic_term (sym c.in_ok-new.ensures.ok) in
     let v2 : basic_term c.in_ok-second.second.basic ≡ basic_term c.in_ok-new-2.field-0.value =
     ap basic_term (sym c.in_ok-new-2.ensures.ok) in
@@ -109,11 +86,9 @@ returns-in-Some-strip_symbol t c =
       by = (
         _,
         types.pair_shown x.0 y.0 sx v1 sy v2 (omega arith),
-        by_rule (types.pair_rule _) c.in-Some-strip_symbol.ensures le
-            (seq_part grammar 1 (λ p z. refl) le up fx (seq_one grammar 1 (omega (arith, fits, le)) c.in_ok-rest.ensures
-            (seq_part grammar 1 (λ p z. refl) (omega (arith, fits, le)) up fy
-            (seq_one grammar 1 (omega (arith, fits, fits', le)) c.in_ok-rest-2.ensures
-            (seq_done grammar 1 (omega (arith, fits, fits', le))))))),
+        whole (past_one (past_part (past_one (past_part (begun (types.pair_rule _) c.in-Some-strip_symbol.ensures le) (λ p z. refl)
+            (below le) c.in_ok-first.ensures) c.in_ok-rest.ensures) (λ p z. refl) (below le) c.in_ok-second.ensures)
+            c.in_ok-rest-2.ensures),
       );
     }
 
@@ -124,25 +99,17 @@ returns-then-room-lt2-2 t c = rw c.too_nested-then-room-lt2-2.ensures
 
 pub returns-in_err-item : goal.returns-in_err-item
 returns-in_err-item t c =
-    let p = err_from_is_err_and c.from_residual-in_err-item.result c.from_residual-in_err-item.ensures.1 in
     let le : 2 ≤ c.args.room = omega arith in
-    let up : 1 + (c.args.room - 1) ≡ c.args.room = omega arith in
-    rw (p.1, p.2) (record {
-      by = by_rule (types.list_rule _) c.in-Some-strip_symbol-2.ensures le
-          (seq_part_stop grammar 1 (λ p z. refl) (omega (arith, le)) up c.in_err-item.ensures.by);
+    rw (handed_on c.from_residual-in_err-item.result c.from_residual-in_err-item.ensures.1) (record {
+      by = stop_part (begun (types.list_rule _) c.in-Some-strip_symbol-2.ensures le) (λ p z. refl) (below le) c.in_err-item.ensures.by;
     })
 
 pub returns-in_err-rest-3 : goal.returns-in_err-rest-3
 returns-in_err-rest-3 t c =
-    let p = err_from_is_err_and c.from_residual-in_err-rest-3.result c.from_residual-in_err-rest-3.ensures.1 in
     let le : 2 ≤ c.args.room = omega arith in
-    let up : 1 + (c.args.room - 1) ≡ c.args.room = omega arith in
-    let (x, sx, fx) = c.in_ok-item.ensures.by in
-    let fits = fx.by.fits in
-    rw (p.1, p.2) (record {
-      by = by_rule (types.list_rule _) c.in-Some-strip_symbol-2.ensures le
-          (seq_part grammar 1 (λ p z. refl) (omega (arith, le)) up fx
-          (seq_one_stop grammar 1 (omega (arith, fits, le)) c.in_err-rest-3.ensures));
+    rw (handed_on c.from_residual-in_err-rest-3.result c.from_residual-in_err-rest-3.ensures.1) (record {
+      by = stop_one (past_part (begun (types.list_rule _) c.in-Some-strip_symbol-2.ensures le) (λ p z. refl) (below le)
+          c.in_ok-item.ensures) c.in_err-rest-3.ensures;
     })
 
 pub overflow_add-levels-in-Some-strip_symbol-2 : goal.overflow_add-levels-in-Some-strip_symbol-2
@@ -156,17 +123,14 @@ overflow_add-levels-in-Some-strip_symbol-2 t c =
 pub returns-in-Some-strip_symbol-2 : goal.returns-in-Some-strip_symbol-2
 returns-in-Some-strip_symbol-2 t c =
     let le : 2 ≤ c.args.room = omega arith in
-    let up : 1 + (c.args.room - 1) ≡ c.args.room = omega arith in
     let (x, sx, fx) = c.in_ok-item.ensures.by in
-    let fits = fx.by.fits in
     let v : basic_term c.in_ok-item.item.basic ≡ basic_term c.in_ok-new-3.field-0.value = ap basic_term (sym c.in_ok-new-3.ensures.ok) in
     record {
       by = (
         _,
         types.list_shown x.0 sx v (omega arith),
-        by_rule (types.list_rule _) c.in-Some-strip_symbol-2.ensures le
-            (seq_part grammar 1 (λ p z. refl) (omega (arith, le)) up fx
-            (seq_one grammar 1 (omega (arith, fits, le)) c.in_ok-rest-3.ensures (seq_done grammar 1 (omega (arith, fits, le))))),
+        whole (past_one (past_part (begun (types.list_rule _) c.in-Some-strip_symbol-2.ensures le) (λ p z. refl) (below le)
+            c.in_ok-item.ensures) c.in_ok-rest-3.ensures),
       );
     }
 

@@ -1,7 +1,7 @@
 use Rattle.std.proofs.Common.{sym, ◌∙◌}
 use Rattle.task_model.specs.Program.{program_term}
 use Rattle.program_reader.specs.declared.read.Read.{Read}
-use Rattle.program_reader.proofs.TextLemmas.{none_left, some_left, texts, only_texts, left_over, stopped}
+use Rattle.program_reader.proofs.TextLemmas.{none_left, some_left, texts, only_texts, left_over, stopped, numbers}
 use Rattle.program_reader.proofs.read.read_tokens.Goals as goal
 
 pub returns-then-is_empty-clause-found : goal.returns-then-is_empty-clause-found
@@ -24,3 +24,6 @@ fault_of-requires-clause-first c = left_over c.args.source.now c.args.tokens.now
 pub fault_of-requires-in-Err-Fault-clause-first : goal.fault_of-requires-in-Err-Fault-clause-first
 fault_of-requires-in-Err-Fault-clause-first c =
     stopped c.args.source.now c.args.tokens.now c.requires.has (rw c.in-Err-Fault.field-0-is at c.in-Err-Fault.ensures)
+
+pub program-requires-clause-numbers : goal.program-requires-clause-numbers
+program-requires-clause-numbers c = numbers c.args.source.now c.args.tokens.now c.requires.has c.requires.short

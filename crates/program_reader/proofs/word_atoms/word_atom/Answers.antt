@@ -1,9 +1,9 @@
-use Rattle.std.proofs.Common.{◌≡◌, ◌+◌, ◌-◌, ◌≤◌, sym, ◌∙◌, arith}
-use Rattle.std.proofs.lemmas.Result.{err_from_is_err_and}
+use Rattle.std.proofs.Common.{◌≤◌, sym, ◌∙◌, arith}
+use Rattle.program_grammar.proofs.Exits.{handed_on, below}
 use Rattle.task_model.specs.Grammar.{basic, task_atom, atom, enclosed, arguments}
-use Rattle.exact_reading.proofs.Symbols.{seq_one, seq_one_stop, seq_part, seq_part_stop, seq_done}
-use Rattle.program_grammar.proofs.GrammarLemmas.{grammar, stops_within}
-use Rattle.program_grammar.proofs.RuleLemmas.{by_rule, too_deep}
+use Rattle.program_grammar.proofs.GrammarLemmas.{stops_within}
+use Rattle.program_grammar.proofs.RuleLemmas.{too_deep}
+use Rattle.program_grammar.proofs.PartlyRead.{begun, past_one, past_part, stop_one, stop_part, whole}
 use Rattle.expression_reader.proofs.ReadingLemmas.{counted_at}
 use Rattle.program_reader.proofs.TaskRules as rules
 use Rattle.program_reader.proofs.ShownTasks as shows
@@ -17,27 +17,22 @@ returns-then-room-lt2 c = λ scope next. rw c.too_nested.ensures (counted_at _ (
 
 pub returns-in_err-value : goal.returns-in_err-value
 returns-in_err-value c = λ scope next.
-    let p = err_from_is_err_and c.from_residual.result c.from_residual.ensures.1 in
     let le : 2 ≤ c.args.room = omega arith in
-    let up : 1 + (c.args.room - 1) ≡ c.args.room = omega arith in
-    rw (p.1, p.2) (record {
-      by = by_rule (rules.edit_rule _) c.in-Some.ensures le
-          (seq_part_stop grammar 1 (stops_within atom task_atom (omega arith)) (omega (arith, le)) up c.in_err-value.ensures.by);
+    rw (handed_on c.from_residual.result c.from_residual.ensures.1) (record {
+      by = stop_part (begun (rules.edit_rule _) c.in-Some.ensures le) (stops_within atom task_atom (omega arith)) (below le)
+          c.in_err-value.ensures.by;
     })
 
 pub returns-in-Some : goal.returns-in-Some
 returns-in-Some c = λ scope next.
     let le : 2 ≤ c.args.room = omega arith in
-    let up : 1 + (c.args.room - 1) ≡ c.args.room = omega arith in
     let (x, sx, fx) = c.in_ok-value.ensures.by in
-    let fits = fx.by.fits in
     record {
       by = (
         _,
         shows.edit_shown scope next _ x.0 sx ∙ sym c.in_ok-edit_task.ensures.shown,
-        by_rule (rules.edit_rule _) c.in-Some.ensures le
-            (seq_part grammar 1 (stops_within atom task_atom (omega arith)) (omega (arith, le)) up fx
-            (seq_done grammar 1 (omega (arith, le, fits)))),
+        whole (past_part (begun (rules.edit_rule _) c.in-Some.ensures le) (stops_within atom task_atom (omega arith)) (below le)
+            c.in_ok-value.ensures),
       );
     }
 
@@ -49,27 +44,22 @@ returns-then-room-lt2-2 c = λ scope next. rw c.too_nested-then-room-lt2-2.ensur
 
 pub returns-in_err-item : goal.returns-in_err-item
 returns-in_err-item c = λ scope next.
-    let p = err_from_is_err_and c.from_residual-in_err-item.result c.from_residual-in_err-item.ensures.1 in
     let le : 2 ≤ c.args.room = omega arith in
-    let up : 1 + (c.args.room - 1) ≡ c.args.room = omega arith in
-    rw (p.1, p.2) (record {
-      by = by_rule (rules.enter_rule _) c.in-Some-strip_keyword.ensures le
-          (seq_part_stop grammar 1 (stops_within basic task_atom (omega arith)) (omega (arith, le)) up c.in_err-item.ensures.by);
+    rw (handed_on c.from_residual-in_err-item.result c.from_residual-in_err-item.ensures.1) (record {
+      by = stop_part (begun (rules.enter_rule _) c.in-Some-strip_keyword.ensures le) (stops_within basic task_atom (omega arith))
+          (below le) c.in_err-item.ensures.by;
     })
 
 pub returns-in-Some-strip_keyword : goal.returns-in-Some-strip_keyword
 returns-in-Some-strip_keyword c = λ scope next.
     let le : 2 ≤ c.args.room = omega arith in
-    let up : 1 + (c.args.room - 1) ≡ c.args.room = omega arith in
     let (x, sx, fx) = c.in_ok-item.ensures.by in
-    let fits = fx.by.fits in
     record {
       by = (
         _,
         shows.enter_shown scope next _ x.0 sx ∙ sym c.in_ok-enter_task.ensures.shown,
-        by_rule (rules.enter_rule _) c.in-Some-strip_keyword.ensures le
-            (seq_part grammar 1 (stops_within basic task_atom (omega arith)) (omega (arith, le)) up fx
-            (seq_done grammar 1 (omega (arith, le, fits)))),
+        whole (past_part (begun (rules.enter_rule _) c.in-Some-strip_keyword.ensures le) (stops_within basic task_atom (omega arith))
+            (below le) c.in_ok-item.ensures),
       );
     }
 
@@ -81,10 +71,9 @@ returns-then-room-lt1 c = λ scope next. rw c.too_nested-then-room-lt1.ensures (
 
 pub returns-in_err-name : goal.returns-in_err-name
 returns-in_err-name c = λ scope next.
-    let p = err_from_is_err_and c.from_residual-in_err-name.result c.from_residual-in_err-name.ensures.1 in
     let le : 1 ≤ c.args.room = omega arith in
-    rw (p.1, p.2) (record {
-      by = by_rule (rules.share_rule _) c.in-Some-strip_keyword-2.ensures le (seq_one_stop grammar 1 le c.in_err-name.ensures);
+    rw (handed_on c.from_residual-in_err-name.result c.from_residual-in_err-name.ensures.1) (record {
+      by = stop_one (begun (rules.share_rule _) c.in-Some-strip_keyword-2.ensures le) c.in_err-name.ensures;
     })
 
 pub returns-in-Some-strip_keyword-2 : goal.returns-in-Some-strip_keyword-2
@@ -94,8 +83,7 @@ returns-in-Some-strip_keyword-2 c = λ scope next.
       by = (
         _,
         sym c.in_ok-share_task.ensures.shown,
-        by_rule (rules.share_rule _) c.in-Some-strip_keyword-2.ensures le
-            (seq_one grammar 1 le c.in_ok-name.ensures (seq_done grammar 1 le)),
+        whole (past_one (begun (rules.share_rule _) c.in-Some-strip_keyword-2.ensures le) c.in_ok-name.ensures),
       );
     }
 
@@ -107,27 +95,22 @@ returns-then-room-lt2-3 c = λ scope next. rw c.too_nested-then-room-lt2-3.ensur
 
 pub returns-in_err-item-2 : goal.returns-in_err-item-2
 returns-in_err-item-2 c = λ scope next.
-    let p = err_from_is_err_and c.from_residual-in_err-item-2.result c.from_residual-in_err-item-2.ensures.1 in
     let le : 2 ≤ c.args.room = omega arith in
-    let up : 1 + (c.args.room - 1) ≡ c.args.room = omega arith in
-    rw (p.1, p.2) (record {
-      by = by_rule (rules.fail_rule _) c.in-Some-strip_keyword-3.ensures le
-          (seq_part_stop grammar 1 (stops_within basic task_atom (omega arith)) (omega (arith, le)) up c.in_err-item-2.ensures.by);
+    rw (handed_on c.from_residual-in_err-item-2.result c.from_residual-in_err-item-2.ensures.1) (record {
+      by = stop_part (begun (rules.fail_rule _) c.in-Some-strip_keyword-3.ensures le) (stops_within basic task_atom (omega arith))
+          (below le) c.in_err-item-2.ensures.by;
     })
 
 pub returns-in-Some-strip_keyword-3 : goal.returns-in-Some-strip_keyword-3
 returns-in-Some-strip_keyword-3 c = λ scope next.
     let le : 2 ≤ c.args.room = omega arith in
-    let up : 1 + (c.args.room - 1) ≡ c.args.room = omega arith in
     let (x, sx, fx) = c.in_ok-item-2.ensures.by in
-    let fits = fx.by.fits in
     record {
       by = (
         _,
         shows.fail_shown scope next _ x.0 sx ∙ sym c.in_ok-fail_task.ensures.shown,
-        by_rule (rules.fail_rule _) c.in-Some-strip_keyword-3.ensures le
-            (seq_part grammar 1 (stops_within basic task_atom (omega arith)) (omega (arith, le)) up fx
-            (seq_done grammar 1 (omega (arith, le, fits)))),
+        whole (past_part (begun (rules.fail_rule _) c.in-Some-strip_keyword-3.ensures le) (stops_within basic task_atom (omega arith))
+            (below le) c.in_ok-item-2.ensures),
       );
     }
 
@@ -139,28 +122,22 @@ returns-then-room-lt1-2 c = λ scope next. rw c.too_nested-then-room-lt1-2.ensur
 
 pub returns-in_err-items : goal.returns-in_err-items
 returns-in_err-items c = λ scope next.
-    let p = err_from_is_err_and c.from_residual-in_err-items.result c.from_residual-in_err-items.ensures.1 in
     let le : 1 ≤ c.args.room = omega arith in
-    let up : 1 + (c.args.room - 1) ≡ c.args.room = omega arith in
-    rw (p.1, p.2) (record {
-      by = by_rule (rules.call_rule _ _) c.in-Some-strip_name.ensures le
-          (seq_part_stop grammar 1 (stops_within (enclosed arguments) task_atom (omega arith))
-          (omega (arith, le)) up c.in_err-items.ensures.by);
+    rw (handed_on c.from_residual-in_err-items.result c.from_residual-in_err-items.ensures.1) (record {
+      by = stop_part (begun (rules.call_rule _ _) c.in-Some-strip_name.ensures le)
+          (stops_within (enclosed arguments) task_atom (omega arith)) (below le) c.in_err-items.ensures.by;
     })
 
 pub returns-in-Some-strip_name : goal.returns-in-Some-strip_name
 returns-in-Some-strip_name c = λ scope next.
     let le : 1 ≤ c.args.room = omega arith in
-    let up : 1 + (c.args.room - 1) ≡ c.args.room = omega arith in
     let (x, sx, fx) = c.in_ok-items.ensures.by in
-    let fits = fx.by.fits in
     record {
       by = (
         _,
         shows.call_shown scope next _ _ x.0 sx ∙ sym c.in_ok-call_task.ensures.shown,
-        by_rule (rules.call_rule _ _) c.in-Some-strip_name.ensures le
-            (seq_part grammar 1 (stops_within (enclosed arguments) task_atom (omega arith)) (omega (arith, le)) up fx
-            (seq_done grammar 1 (omega (arith, le, fits)))),
+        whole (past_part (begun (rules.call_rule _ _) c.in-Some-strip_name.ensures le)
+            (stops_within (enclosed arguments) task_atom (omega arith)) (below le) c.in_ok-items.ensures),
       );
     }
 
