@@ -1,4 +1,3 @@
-pub mod BodyLemmas
 pub mod ListLemmas
 pub mod ScopeLemmas
 pub mod TypeLemmas

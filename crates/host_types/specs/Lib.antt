@@ -1,5 +1,4 @@
 pub mod Seen
-pub mod LaterBodies
 pub mod Answer
 pub mod Words
 pub mod CheckWords

@@ -17,13 +17,12 @@ use crate::compare::sized;
 use crate::definitions::Definitions;
 use crate::expressions::wanted;
 use crate::fault::{CheckStop, next};
-use crate::later::Later;
 use crate::lookups::{arity, fault, room_for_name};
 use crate::names::{Names, found};
 use crate::tasks::wanted_task;
 use std::alloc::Global;
 use task_model::{
-    Basic, Body, Checked, Def, DefBody, Kind, Param, Program, Row, TaskText, TypeKind,
+    Basic, Body, Checked, Def, DefBody, Kind, LaterBodies, Param, Program, Row, TaskText, TypeKind,
 };
 
 /// The definition of this number is the first one of its name.
@@ -111,7 +110,7 @@ fn body(
     match &def.what {
         DefBody::Fun(e) => wanted(alloc, &calls, scope, node, e, &def.result),
         DefBody::Task(t) => {
-            let later = Later { first: 0, bodies };
+            let later = LaterBodies { first: 0, bodies };
             wanted_task(alloc, &calls, &later, scope, node, t, &def.result, types)
         }
     }

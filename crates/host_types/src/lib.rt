@@ -7,7 +7,6 @@ mod compare;
 mod definitions;
 mod expressions;
 mod fault;
-mod later;
 mod laws;
 mod lookups;
 mod names;

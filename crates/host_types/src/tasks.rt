@@ -3,7 +3,7 @@ ghost use Rattle.task_model.specs.Basic.{basic_term};
 ghost use Rattle.task_model.specs.Host.{host_term, as_exprs};
 ghost use Rattle.task_model.specs.Task.{task_term};
 ghost use Rattle.task_model.specs.FullTask.{full_body_numbered, step_over, sides_of, full_edit, full_call, full_and, full_or, full_let, full_if, full_case, full_new, full_put};
-ghost use Rattle.host_types.specs.LaterBodies.{later_bodies, full_task};
+ghost use Rattle.task_model.specs.LaterBodies.{later_bodies, full_task};
 ghost use Rattle.task_model.specs.Names.{kind_in, named_type};
 ghost use Rattle.task_model.specs.TypeFault.{met, ref_name};
 ghost use Rattle.task_model.specs.NodeCounts.{nodes_all};
@@ -16,19 +16,20 @@ use crate::calls::Calls;
 use crate::compare::{compared, sized};
 use crate::expressions::{Typed, arguments, wanted, whole};
 use crate::fault::{CheckStop, next};
-use crate::later::{Later, Numbered};
 use crate::lookups::{fault, item, place_named, room_for_name, room_for_two, task_called};
 use crate::names::Names;
 use crate::operators::paired;
 use std::alloc::Global;
-use task_model::{Basic, Host, Kind, Row, Task, TaskText, TypeKind, copy_basic};
+use task_model::{
+    Basic, Host, Kind, LaterBodies, NumberedBody, Row, Task, TaskText, TypeKind, copy_basic,
+};
 
 /// A task, checked whole. The types of its `edit` and `share` nodes are added.
 #[cycle(task)]
 pub(crate) fn task(
     alloc: Global,
     calls: &Calls,
-    later: &Later,
+    later: &LaterBodies,
     scope: &Names,
     node: u64,
     t: &Task,
@@ -46,7 +47,7 @@ pub(crate) fn task(
 pub(crate) fn wanted_task(
     alloc: Global,
     calls: &Calls,
-    later: &Later,
+    later: &LaterBodies,
     scope: &Names,
     node: u64,
     t: &Task,
@@ -65,7 +66,7 @@ pub(crate) fn wanted_task(
 fn form(
     alloc: Global,
     calls: &Calls,
-    later: &Later,
+    later: &LaterBodies,
     scope: &Names,
     node: u64,
     t: &Task,
@@ -190,7 +191,7 @@ fn call_form(
 fn step_form(
     alloc: Global,
     calls: &Calls,
-    later: &Later,
+    later: &LaterBodies,
     scope: &Names,
     node: u64,
     left: &Task,
@@ -205,7 +206,7 @@ fn step_form(
         below: None,
     };
     let Some(
-        Numbered {
+        NumberedBody {
             body,
             later: behind,
         },
@@ -234,7 +235,7 @@ fn step_form(
 fn and_form(
     alloc: Global,
     calls: &Calls,
-    later: &Later,
+    later: &LaterBodies,
     scope: &Names,
     node: u64,
     a: &Task,
@@ -257,7 +258,7 @@ fn and_form(
 fn or_form(
     alloc: Global,
     calls: &Calls,
-    later: &Later,
+    later: &LaterBodies,
     scope: &Names,
     node: u64,
     a: &Task,
@@ -288,7 +289,7 @@ fn or_form(
 fn xor_form(
     alloc: Global,
     calls: &Calls,
-    later: &Later,
+    later: &LaterBodies,
     scope: &Names,
     node: u64,
     left: u32,
@@ -299,7 +300,7 @@ fn xor_form(
         (sides_of (full_body_numbered later.now.first (later_bodies later.now) left) (full_body_numbered later.now.first (later_bodies later.now) right)) (map basic_term types.old.list) (map basic_term types.new.list) result }
 {
     let Some(
-        Numbered {
+        NumberedBody {
             body: one,
             later: behind_one,
         },
@@ -308,7 +309,7 @@ fn xor_form(
         return fault(node, TypeKind::UnknownName);
     };
     let Some(
-        Numbered {
+        NumberedBody {
             body: two,
             later: behind_two,
         },
@@ -342,7 +343,7 @@ fn xor_form(
 fn let_form(
     alloc: Global,
     calls: &Calls,
-    later: &Later,
+    later: &LaterBodies,
     scope: &Names,
     node: u64,
     name: &TaskText,
@@ -372,7 +373,7 @@ fn let_form(
 fn if_form(
     alloc: Global,
     calls: &Calls,
-    later: &Later,
+    later: &LaterBodies,
     scope: &Names,
     node: u64,
     test: &Host,
@@ -409,7 +410,7 @@ fn if_form(
 fn case_form(
     alloc: Global,
     calls: &Calls,
-    later: &Later,
+    later: &LaterBodies,
     scope: &Names,
     node: u64,
     list: &Host,
@@ -462,7 +463,7 @@ fn case_form(
 fn new_form(
     alloc: Global,
     calls: &Calls,
-    later: &Later,
+    later: &LaterBodies,
     scope: &Names,
     node: u64,
     name: &TaskText,
@@ -492,7 +493,7 @@ fn new_form(
 fn put_form(
     alloc: Global,
     calls: &Calls,
-    later: &Later,
+    later: &LaterBodies,
     scope: &Names,
     node: u64,
     name: &TaskText,

@@ -99,11 +99,12 @@ fn rows_and_texts(rt: HostRuntime) -> Result<(), Fail> {
 #[test]
 fn a_copy_of_a_tree(rt: HostRuntime) -> Result<(), Fail> {
     let alloc = rt.alloc();
-    let left = boxed(alloc, Tree::Share(Basic::Int, 9))?;
+    let left = shared(alloc, Tree::Share(Basic::Int, 9))?;
     let mut slots = Row::new(alloc);
     slots.push(Slot::Place(6))?;
+    let slots = shared(alloc, slots)?;
     let tree = Tree::Then(left, Cont { body: 4, slots });
-    let copy = copy_tree(alloc, &tree)?;
+    let copy = copy_tree(&tree)?;
     match &copy {
         Tree::Then(left, k) => {
             assert!(rt; matches!(**left, Tree::Share(Basic::Int, 9)));

@@ -13,8 +13,8 @@ use Rattle.task_model.specs.declared.input.Turn.{Turn}
 use Rattle.task_model.specs.declared.input.Turn.TheVariants as turns
 use Rattle.task_model.proofs.RanLemmas.{ran_give}
 use Rattle.plain_rules.specs.Handled.{edited, shared, picks}
-use Rattle.plain_values.proofs.ListLemmas.{in_front}
-use Rattle.plain_values.proofs.RunLemmas.{ran_is}
+use Rattle.host_eval.proofs.ListLemmas.{in_front}
+use Rattle.host_eval.proofs.RunLemmas.{ran_is}
 use Rattle.task_model.specs.Spends.{Spends}
 use Rattle.task_model.specs.Checked.{CheckedTerm}
 use Rattle.task_model.specs.Plan.{Plan, give, plan_work, derives_at, Derives}

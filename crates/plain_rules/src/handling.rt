@@ -347,7 +347,7 @@ fn beside(
 {
     match led {
         None => Ok(None),
-        Some(t) => Ok(Some(joined(alloc, turn, is_or, t, copy_tree(alloc, other)?)?)),
+        Some(t) => Ok(Some(joined(alloc, turn, is_or, t, copy_tree(other)?)?)),
     }
 }
 

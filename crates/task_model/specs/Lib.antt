@@ -52,6 +52,7 @@ pub mod Spends
 pub mod Token
 pub mod Calls
 pub mod Spelling
+pub mod LaterBodies
 pub mod Lexemes
 pub mod Grammar
 pub mod Meaning

@@ -1,5 +1,6 @@
 -- Trees as plain terms (docs/RULES.md, "Programs", states).
 use Rattle.std.specs.Prelude.{ℕ, List, map}
+use Rattle.std.specs.Arc.{arc_value}
 use Rattle.task_model.specs.Basic.{BasicTerm, basic_term}
 use Rattle.task_model.specs.Value.{ValueTerm, value_term}
 use Rattle.task_model.specs.Env.{SlotTerm, slot_term}
@@ -13,10 +14,10 @@ pub record LaterTerm : Type 0 where
   pub slots : List SlotTerm
 
 abbrev pub cont_term : Cont → LaterTerm
-cont_term k = record { body = k.body; slots = map slot_term k.slots.list }
+cont_term k = record { body = k.body; slots = map slot_term (arc_value k.slots).list }
 
 abbrev pub delay_term : Delay → LaterTerm
-delay_term k = record { body = k.body; slots = map slot_term k.slots.list }
+delay_term k = record { body = k.body; slots = map slot_term (arc_value k.slots).list }
 
 pub data TreeTerm : Type 0 where
   edit_tree : BasicTerm → ValueTerm → TreeTerm

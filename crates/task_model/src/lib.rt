@@ -12,9 +12,11 @@ mod input;
 mod input_copies;
 mod item;
 mod keyword;
+mod later_bodies;
 mod laws;
 mod limits;
 mod memory;
+mod numbered_body;
 mod offer;
 mod program;
 mod program_copies;
@@ -44,6 +46,7 @@ pub use input::{Act, Entry, Input, Path, Turn};
 pub use input_copies::{copy_entry, copy_input, copy_turns};
 pub use item::Item;
 pub use keyword::Keyword;
+pub use later_bodies::LaterBodies;
 pub use laws::{by_the_rules, one_interface, one_outcome, one_result, one_state};
 pub use limits::{
     BUDGET_LIMIT, DEFAULT_BUDGET, HEIGHT_LIMIT, LINE_BYTE_LIMIT, LIST_ELEMENT_LIMIT,
@@ -51,6 +54,7 @@ pub use limits::{
     SCRIPT_BYTE_LIMIT, SEAT_LIMIT, TEXT_BYTE_LIMIT, TYPE_SYMBOL_LIMIT,
 };
 pub use memory::{OutOfMemory, boxed, share, shared};
+pub use numbered_body::NumberedBody;
 pub use offer::{Answer, Offer, OfferKind};
 pub use program::{Def, DefBody, Kind, Param, Program};
 pub use program_copies::{copy_host, copy_program, copy_task};
@@ -64,7 +68,7 @@ pub use symbol::Symbol;
 pub use task::{Body, Task};
 pub use text::{TaskText, copy_text};
 pub use tree::{Cont, Delay, Tree};
-pub use tree_copies::copy_tree;
+pub use tree_copies::{copy_cont, copy_delay, copy_tree};
 pub use type_kind::TypeKind;
 pub use value::Value;
 pub use value_copies::{copy_basic, copy_slots, copy_texts, copy_value, copy_values};

@@ -139,21 +139,6 @@ other_act acts.Next h = tt
 other_act acts.Left h = tt
 other_act acts.Right h = tt
 
--- ---- putting a node back
-pub node_at-put_at : (t : TreeTerm) (path : List Turn) (node : TreeTerm) → IsSome (inner_node_at t path)
-    → inner_node_at (put_at t path node) path ≡ Some node
-node_at-put_at t [] node h = refl
-node_at-put_at (and_tree t u) (turns.First ∷ path) node h = node_at-put_at t path node h
-node_at-put_at (and_tree t u) (turns.Second ∷ path) node h = node_at-put_at u path node h
-node_at-put_at t path node h = absurd (cc)
-
-pub put_at-put_at : (t : TreeTerm) (path : List Turn) (node old : TreeTerm) → inner_node_at t path ≡ Some old
-    → put_at (put_at t path node) path old ≡ t
-put_at-put_at t [] node old e = cc
-put_at-put_at (and_tree t u) (turns.First ∷ path) node old e = ap (λ z. and_tree z u) (put_at-put_at t path node old e)
-put_at-put_at (and_tree t u) (turns.Second ∷ path) node old e = ap (λ z. and_tree t z) (put_at-put_at u path node old e)
-put_at-put_at t path node old e = absurd (cc)
-
 -- ---- outcomes
 module _ (c : CheckedTerm) (budget : ℕ) (s : State) (i : InputTerm) where
   taken_by : (t : State) (n h : ℕ) → handles c s i ≡ give (Some t) → Settles c t t n h → IsWithinBudget budget n h → IsTaken c budget s i t
@@ -236,11 +221,11 @@ module _ (t : TreeTerm) (budget : ℕ) (i : InputTerm) where
         → Acts t budget i new (Ok tt)
     acts_taken p = λ c σ. taken_spends c budget (at t σ) i (at new σ) l l' lu lh (leads c σ) (p c σ)
 
-    pub acts_stopped : (back : TreeTerm) → back ≡ t → (s : Stop) (r : ActStop) → (s ≡ Over → r ≡ acts_over.Over)
+    pub acts_stopped : (s : Stop) (r : ActStop) → (s ≡ Over → r ≡ acts_over.Over)
         → (s ≡ Memory → r ≡ acts_over.Memory)
         → ((c : CheckedTerm) (σ : List ValueTerm) → Spends {X = Unit {0}} (Settles c (at new σ)) (λ u. at new σ) l l' (Err s))
-        → Acts t budget i back (Err r)
-    acts_stopped back same Over r over memory p =
-        subst (λ z. Acts t budget i back (Err z)) (sym (over refl))
-        (λ c σ. over_spends c budget (at t σ) i (at new σ) l l' lu lh (leads c σ) (p c σ), same)
-    acts_stopped back same Memory r over memory p = subst (λ z. Acts t budget i back (Err z)) (sym (memory refl)) same
+        → Acts t budget i t (Err r)
+    acts_stopped Over r over memory p =
+        subst (λ z. Acts t budget i t (Err z)) (sym (over refl))
+        (λ c σ. over_spends c budget (at t σ) i (at new σ) l l' lu lh (leads c σ) (p c σ), refl)
+    acts_stopped Memory r over memory p = subst (λ z. Acts t budget i t (Err z)) (sym (memory refl)) refl

@@ -9,27 +9,27 @@ ghost use Rattle.world_core.specs.Acting.{Judges, Acts};
 
 use crate::editing::{put_node, type_at};
 use crate::settling::settle;
+use std::alloc::Global;
 use task_model::{
     Act, ActStop, Basic, Input, OutOfMemory, Purse, Stop, Tree, Value, copy_basic, copy_value,
     value_has,
 };
 
 /// Does what an input asks for, if the tree offers it within the budget. A refusal leaves the tree.
-pub(crate) fn act(tree: &mut Tree, budget: u32, input: &Input) -> Result<(), ActStop>
+pub(crate) fn act(alloc: Global, tree: &mut Tree, budget: u32, input: &Input) -> Result<(), ActStop>
     requires { (b : BasicTerm) × PlainTree (tree_term tree.old) b }
     ensures acts { Acts (tree_term tree.old) budget (input_term input.now) (tree_term tree.new) result }
     ensures held { OnOk result (IsHeldAct (input_term input.now).act) }
     ensures plain { (b : BasicTerm) → PlainTree (tree_term tree.old) b → PlainTree (tree_term tree.new) b }
 {
     let node = judge(tree, input)?;
-    let path = input.path.turns.as_slice();
-    let old = put_node(tree, path, node);
-    match settle(tree, &mut Purse::new(budget)) {
-        Ok(()) => Ok(()),
-        Err(stop) => {
-            put_node(tree, path, old);
-            Err(refused(stop))
+    let changed = put_node(alloc, tree, input.path.turns.as_slice(), node)?;
+    match settle(&changed, &mut Purse::new(budget)) {
+        Ok(()) => {
+            *tree = changed;
+            Ok(())
         }
+        Err(stop) => Err(refused(stop)),
     }
 }
 

@@ -1,4 +1,4 @@
-ghost use Rattle.std.specs.Prelude.{◌≡◌, ◌≤◌, ℕ, Some, IsSome};
+ghost use Rattle.std.specs.Prelude.{◌≡◌, ◌≤◌, ℕ, IfOk, IsSome};
 ghost use Rattle.std.specs.Option.{option_map};
 ghost use Rattle.task_model.specs.Basic.{BasicTerm, basic_term};
 ghost use Rattle.task_model.specs.Tree.{tree_term};
@@ -6,8 +6,8 @@ ghost use Rattle.task_model.specs.PlainTree.{PlainTree};
 ghost use Rattle.world_core.specs.InnerTree.{tree_nodes, inner_node_at, put_at};
 ghost use Rattle.world_core.specs.InnerTree as plain;
 
-use std::mem;
-use task_model::{Basic, Tree, Turn};
+use std::alloc::Global;
+use task_model::{Basic, OutOfMemory, Tree, Turn, share, shared};
 
 /// The type of the editor that a path leads to, if there is one.
 pub(crate) fn type_at<'a>(t: &'a Tree, path: &[Turn]) -> Option<&'a Basic>
@@ -31,20 +31,32 @@ pub(crate) fn type_at<'a>(t: &'a Tree, path: &[Turn]) -> Option<&'a Basic>
     }
 }
 
-/// Puts a node in the place of the one that a path leads to, and hands that out.
-pub(crate) fn put_node(t: &mut Tree, path: &[Turn], node: Tree) -> Tree
-    requires { IsSome (inner_node_at (tree_term t.old) path.now) }
-    ensures put { tree_term t.new ≡ put_at (tree_term t.old) path.now (tree_term node) }
-    ensures old { inner_node_at (tree_term t.old) path.now ≡ Some (tree_term result) }
+/// The tree with another node in the place of the one that a path leads to. What stands beside the path is shared.
+pub(crate) fn put_node(
+    alloc: Global,
+    t: &Tree,
+    path: &[Turn],
+    node: Tree,
+) -> Result<Tree, OutOfMemory>
+    requires { IsSome (inner_node_at (tree_term t.now) path.now) }
+    ensures { IfOk result (λ u. tree_term u ≡ put_at (tree_term t.now) path.now (tree_term node)) }
 {
     match path {
-        [] => mem::replace(t, node),
+        [] => Ok(node),
         [Turn::First, rest @ ..] => match t {
-            Tree::And(a, _) => put_node(a, rest, node),
+            Tree::And(a, b) => {
+                let a = put_node(alloc, a, rest, node)?;
+                let a = shared(alloc, a)?;
+                Ok(Tree::And(a, share(b)?))
+            }
             _ => unreachable!(),
         },
         [Turn::Second, rest @ ..] => match t {
-            Tree::And(_, b) => put_node(b, rest, node),
+            Tree::And(a, b) => {
+                let b = put_node(alloc, b, rest, node)?;
+                let a = share(a)?;
+                Ok(Tree::And(a, shared(alloc, b)?))
+            }
             _ => unreachable!(),
         },
     }

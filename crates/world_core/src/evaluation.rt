@@ -15,7 +15,7 @@ ghost use Rattle.task_model.specs.PlainTree.{PlainTree, IsSmallTree};
 ghost use Rattle.world_core.specs.InnerTree.{IsNumberExpression, HasNumber, IsInt, IsSmallTask, plain_env, MayEvaluate};
 
 use std::alloc::Global;
-use task_model::{Checked, DefBody, Host, Purse, Stop, Task, Tree, Value, boxed, copy_basic};
+use task_model::{Checked, DefBody, Host, Purse, Stop, Task, Tree, Value, copy_basic, shared};
 
 /// The tree of the call `main()`, by its rule.
 pub(crate) fn call_main(alloc: Global, c: &Checked, purse: &mut Purse) -> Result<Tree, Stop>
@@ -101,8 +101,8 @@ fn evaluate_form(
         Task::And(a, b) => {
             let a = evaluate_at(alloc, c, a, first, purse)?;
             let b = evaluate_at(alloc, c, b, first, purse)?;
-            let a = boxed(alloc, a)?;
-            let b = boxed(alloc, b)?;
+            let a = shared(alloc, a)?;
+            let b = shared(alloc, b)?;
             Ok(Tree::And(a, b))
         }
         _ => unreachable!(),

@@ -82,7 +82,7 @@ impl World {
     /// Takes an input of a seat, 1 to 64, if the tree offers it and the budget holds. A refusal changes nothing.
     pub fn handle<L: Ledger>(
         &mut self,
-        _alloc: Global,
+        alloc: Global,
         seat: u8,
         input: Input,
         _steps: &mut Steps<L>,
@@ -94,7 +94,7 @@ impl World {
             Ok(()) => {}
             Err(OutOfMemory) => return Err(ActStop::Memory),
         }
-        act(&mut self.tree, self.budget, &input)?;
+        act(alloc, &mut self.tree, self.budget, &input)?;
         match self.history.push(Item::Took(Entry { seat, input })) {
             Ok(()) => {}
             Err(OutOfMemory) => unreachable!(),

@@ -7,8 +7,8 @@ use Rattle.task_model.specs.Handling.{handled, rebuilds, at_step}
 use Rattle.task_model.proofs.RanLemmas.{stopped, ran_give, ran_after, ran_after_stops}
 use Rattle.plain_values.specs.GivenRules.{rules_term}
 use Rattle.plain_rules.specs.Handled.{edited}
-use Rattle.plain_values.proofs.ListLemmas.{empty}
-use Rattle.plain_values.proofs.RunLemmas.{ran_is}
+use Rattle.host_eval.proofs.ListLemmas.{empty}
+use Rattle.host_eval.proofs.RunLemmas.{ran_is}
 use Rattle.plain_rules.proofs.HandlingLemmas.{editor_is, shared_is, ran_made_option, ran_rebuilt, and_first, and_second, or_first, or_second}
 use Rattle.plain_rules.proofs.handling.+handled.Goals as goal
 

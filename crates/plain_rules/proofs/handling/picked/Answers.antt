@@ -3,7 +3,7 @@ use Rattle.task_model.specs.Value.{value_term}
 use Rattle.task_model.specs.Tree.{delay_term}
 use Rattle.task_model.proofs.RanLemmas.{ran_give}
 use Rattle.plain_values.specs.GivenRules.{rules_term}
-use Rattle.plain_values.proofs.RunLemmas.{ran_is}
+use Rattle.host_eval.proofs.RunLemmas.{ran_is}
 use Rattle.plain_rules.proofs.HandlingLemmas.{by_pick, picks_is}
 use Rattle.plain_rules.proofs.handling.picked.Goals as goal
 

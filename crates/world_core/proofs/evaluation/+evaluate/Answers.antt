@@ -1,4 +1,5 @@
 use Rattle.std.proofs.Common.{map, ap, sym, ◌∙◌}
+use Rattle.std.specs.Arc.{arc_value}
 use Rattle.task_model.specs.Basic.{basic_term}
 use Rattle.task_model.specs.Value.{value_term}
 use Rattle.task_model.specs.Tree.{tree_term, edit_tree, enter_tree, and_tree, at}
@@ -69,5 +70,5 @@ evaluate_form-returns-in_ok-b-in-And-2-clause-ran t c = λ σ.
     rw (c.in-And.is, ← c.deref.ensures, ← c.deref-in-And.ensures)
     (ran_ask _ (c.in_ok-a-in-And.ensures.asked σ)
     (ran_ask _ second
-    (ran_give (ap (λ t. at (and_tree (tree_term t) (tree_term c.in_ok-b-in-And-2.b.value)) σ) left
+    (ran_give (ap (λ t. at (and_tree (tree_term t) (tree_term (arc_value c.in_ok-b-in-And-2.b))) σ) left
     ∙ ap (λ t. at (and_tree (tree_term c.in_ok-a-in-And.a) (tree_term t)) σ) right))))
