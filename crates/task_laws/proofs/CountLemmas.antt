@@ -34,6 +34,29 @@ pub counts_second : (i : ℕ) (cs : List ℕ) (next m : ℕ) (front more after :
 counts_second i cs next m front more after e h =
     finds_second (λ n bs j. body_nodes (counts_from n bs) n j) count_passed (body_nodes cs i) next m front more after e h
 
+-- ---- bodies by their numbers
+pub item_passed : (n : ℕ) (b : BodyTerm) (bs : List BodyTerm) (j : ℕ) → suc n ≤ j → slice_get (b ∷ bs) (j - n) ≡ slice_get bs (j - suc n)
+item_passed n b bs j le = let e : j - n ≡ suc (j - suc n) = omega (arith, le) in ap (λ k. slice_get (b ∷ bs) k) e
+
+-- from this number on, all bodies are these
+abbrev pub Items : List BodyTerm → ℕ → List BodyTerm → Type 0
+Items all next bs = Finds (λ n bs j. slice_get bs (j - n)) item_passed (λ j. slice_get all j) next bs
+
+module _ (all : List BodyTerm) where
+  pub items_first : (next : ℕ) (front more after : List BodyTerm) → Items all next ((front ++ more) ++ after)
+      → Items all next (front ++ (more ++ after))
+  items_first next front more after h =
+      finds_first (λ n bs j. slice_get bs (j - n)) item_passed (λ j. slice_get all j) next front more after h
+
+  pub items_second : (next m : ℕ) (front more after : List BodyTerm) → m ≡ next + length front
+      → Items all next ((front ++ more) ++ after) → Items all m (more ++ after)
+  items_second next m front more after e h =
+      finds_second (λ n bs j. slice_get bs (j - n)) item_passed (λ j. slice_get all j) next m front more after e h
+
+  pub items_head : (next : ℕ) (b : BodyTerm) (bs : List BodyTerm) → Items all next (b ∷ bs) → slice_get all next ≡ Some b
+  items_head next b bs h =
+      let e : next - next ≡ 0 = omega arith in h next (le_refl next) ∙ ap (λ k. slice_get (b ∷ bs) k) e
+
 -- a task has as many `edit` and `share` nodes as are counted
 pub counted : {f : Form} (d : Parse f) → IsTask f → (xs : List Text) (next : ℕ) (after : List BodyTerm) (i : ℕ) (cs : List ℕ)
     → Counts i cs next (bodies_of d xs next ++ after) → nodes_in cs i (term_at f (meaning d) next) ≡ edit_nodes (whole d xs)

@@ -9,12 +9,14 @@ mod NextLemmas
 mod PlainLemmas
 mod PlainFaceLemmas
 mod PlainFitLemmas
-mod ParseLemmas
-mod PlacedLemmas
-mod CountLemmas
-mod StartLemmas
-mod WalkLemmas
-mod TableLemmas
+pub mod ParseLemmas
+pub mod PlacedLemmas
+pub mod CountLemmas
+pub mod StartLemmas
+pub mod WalkLemmas
+pub mod TableLemmas
+mod NodeLemmas
+mod FrontLemmas
 mod OfferListLemmas
 mod LackingLemmas
 mod MatchLemmas

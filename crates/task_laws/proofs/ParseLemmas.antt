@@ -1,5 +1,5 @@
 -- Tasks as they stand in a parse, with their bodies in place.
-use Rattle.std.proofs.Common.{◌≡◌, ℕ, suc, ◌+◌, ◌≤◌, true, false, List, [], ◌∷◌, ◌++◌, length, refl, ap, ◌∙◌, subst, arith, le_refl, length-append, append_assoc}
+use Rattle.std.proofs.Common.{◌≡◌, ℕ, suc, ◌+◌, ◌≤◌, true, false, List, [], ◌∷◌, ◌++◌, length, refl, ap, ◌∙◌, subst, arith, le_refl, append_assoc}
 use Rattle.std.specs.Prelude.{Some, None, ◌==◌}
 use Rattle.std.proofs.lemmas.Bool.Decides.{nat_tests}
 use Rattle.task_model.specs.Text.{Text}
@@ -77,7 +77,7 @@ pub body_passed : (n : ℕ) (b : BodyTerm) (bs : List BodyTerm) (j : ℕ) → su
     → full_body_numbered n (full_bodies n (b ∷ bs)) j ≡ full_body_numbered (suc n) (full_bodies (suc n) bs) j
 body_passed n b bs j le = let apart : (j == n) ≡ false = grind (arith, nat_tests, le) in rw apart refl
 
-body_here : (n : ℕ) (b : BodyTerm) (bs : List BodyTerm)
+pub body_here : (n : ℕ) (b : BodyTerm) (bs : List BodyTerm)
     → full_body_numbered n (full_bodies n (b ∷ bs)) n ≡ Some (full_body (suc n) (full_bodies (suc n) bs) b)
 body_here n b bs = let here : (n == n) ≡ true = grind (arith, nat_tests) in rw here refl
 

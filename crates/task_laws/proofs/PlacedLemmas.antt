@@ -1,5 +1,5 @@
 -- The bodies of programs that are written are placed.
-use Rattle.std.proofs.Common.{◌≡◌, ℕ, ◌+◌, List, [], ◌∷◌, ◌++◌, length, refl, sym, subst, arith, length-append, append_assoc, append-nil}
+use Rattle.std.proofs.Common.{◌≡◌, ℕ, ◌+◌, List, [], ◌∷◌, ◌++◌, refl, sym, subst, arith, append_assoc, append-nil}
 use Rattle.std.specs.List.{All}
 use Rattle.std.proofs.lemmas.List.Elements.{All-nil, All-push}
 use Rattle.task_model.specs.Text.{Text}
@@ -15,7 +15,7 @@ use Rattle.task_model.specs.Written.{IsWritten}
 use Rattle.task_model.proofs.BodyCounts.{bodies_count}
 use Rattle.task_laws.proofs.ParseLemmas.{IsTask, whole, Places, places_first, places_second, in_place}
 
-placed_whole : {f : Form} (d : Parse f) → IsTask f → (xs : List Text) → Placed xs (whole d xs)
+pub placed_whole : {f : Form} (d : Parse f) → IsTask f → (xs : List Text) → Placed xs (whole d xs)
 placed_whole (task_let p x q r e s t) h xs = placed_whole t tt (xs ++ x ∷ [])
 placed_whole (task_if p e q t r u) h xs = (placed_whole t tt xs, placed_whole u tt xs)
 placed_whole (task_case p e q r s a t b x i j y k c u) h xs =

@@ -15,7 +15,7 @@ use Rattle.task_model.specs.TaskDemands.{bodies_in_place}
 use Rattle.task_model.specs.Placed.{edit_nodes, task_firsts}
 use Rattle.task_model.proofs.BodyCounts.{bodies_count}
 use Rattle.task_laws.proofs.ParseLemmas.{IsTask, term_at, whole, Places, places_first, places_second, body_passed}
-use Rattle.task_laws.proofs.CountLemmas.{Counts, counts_first, counts_second, count_passed, count_here, counted, firsts_long, Lists, lists_first, lists_second, lists_tail, lists_head}
+use Rattle.task_laws.proofs.CountLemmas.{Counts, counts_first, counts_second, count_passed, count_here, counted, firsts_long, Lists, lists_first, lists_second, lists_tail, lists_head, item_passed, Items, items_first, items_second}
 
 -- a body's start is among these
 abbrev pub Known : List Start → ℕ → Type 0
@@ -58,9 +58,10 @@ module _ (program : ProgramTerm) (table : List ℕ) where
       by_test rest (inr y) (inr t) = ap (λ c. if c then s.first else start_of ss j) t.0 ∙ rest y
 
   -- ---- where a task stands in the program
-  -- from this number on, the program has these bodies and the table these entries
+  -- from this number on, the program has these bodies, in place too, and the table these entries
   abbrev pub Stands : ℕ → List BodyTerm → List ℕ → Type 0
-  Stands next bs ns = Places 0 (bodies_in_place program) next bs × Counts 0 (counts_of program) next bs × Lists table next ns
+  Stands next bs ns =
+      Places 0 (bodies_in_place program) next bs × Counts 0 (counts_of program) next bs × Lists table next ns × Items program.bodies next bs
 
   pub stands_first : (next : ℕ) (front more after : List BodyTerm) (ns ms : List ℕ) → Stands next ((front ++ more) ++ after) (ns ++ ms)
       → Stands next (front ++ (more ++ after)) ns
@@ -68,6 +69,7 @@ module _ (program : ProgramTerm) (table : List ℕ) where
     places_first 0 (bodies_in_place program) next front more after s.0,
     counts_first 0 (counts_of program) next front more after s.1,
     lists_first table next ns ms s.2,
+    items_first program.bodies next front more after s.3,
   )
 
   pub stands_second : (next m : ℕ) (front more after : List BodyTerm) (ns ms : List ℕ) → m ≡ next + length front
@@ -76,6 +78,7 @@ module _ (program : ProgramTerm) (table : List ℕ) where
     places_second 0 (bodies_in_place program) next m front more after e s.0,
     counts_second 0 (counts_of program) next m front more after e s.1,
     lists_second table next m ns ms l s.2,
+    items_second program.bodies next m front more after e s.3,
   )
 
   pub stands_tail : (next : ℕ) (b : BodyTerm) (bs : List BodyTerm) (v : ℕ) (ns : List ℕ) → Stands next (b ∷ bs) (v ∷ ns)
@@ -84,6 +87,7 @@ module _ (program : ProgramTerm) (table : List ℕ) where
     λ j le. s.0 j (omega (arith, le)) ∙ body_passed next b bs j le,
     λ j le. s.1 j (omega (arith, le)) ∙ count_passed next b bs j le,
     lists_tail table next v ns s.2,
+    λ j le. s.3 j (omega (arith, le)) ∙ item_passed next b bs j le,
   )
 
   -- two tasks side by side
@@ -111,7 +115,7 @@ module _ (program : ProgramTerm) (table : List ℕ) where
       → Stands next ((bodies_of t xs next ++ b ∷ inner) ++ after) (task_firsts n (whole t xs) ++ v ∷ ms)
       → (nodes_of program (term_at f (meaning t) next) ≡ edit_nodes (whole t xs))
       × Stands next (bodies_of t xs next ++ (b ∷ inner ++ after)) (task_firsts n (whole t xs))
-      × (slice_get table m ≡ Some v) × Stands (suc m) (inner ++ after) ms
+      × (slice_get table m ≡ Some v) × Stands (suc m) (inner ++ after) ms × Stands m (b ∷ inner ++ after) (v ∷ ms)
   parts t h xs next n m is b inner after v ms s =
       let many = bodies_count t xs next in
       let long = firsts_long t h xs n in
@@ -124,6 +128,7 @@ module _ (program : ProgramTerm) (table : List ℕ) where
         left,
         lists_head table m v ms there.2,
         stands_tail m b (inner ++ after) v ms there,
+        there,
       )
 
   -- ---- starts that are right

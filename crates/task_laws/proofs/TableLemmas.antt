@@ -1,5 +1,5 @@
 -- The table of a written program has at each body's number how many nodes stand before the body, as the rules read it.
-use Rattle.std.proofs.Common.{◌≡◌, ℕ, ◌+◌, List, [], ◌∷◌, ◌++◌, length, refl, sym, ap, ◌∙◌, subst, arith, append_assoc, append-nil, length-append}
+use Rattle.std.proofs.Common.{◌≡◌, ℕ, ◌+◌, ◌-◌, List, [], ◌∷◌, ◌++◌, length, refl, sym, ap, ◌∙◌, subst, arith, append_assoc, append-nil, length-append}
 use Rattle.std.specs.Prelude.{Some, slice_get}
 use Rattle.std.specs.List.{All}
 use Rattle.std.proofs.lemmas.List.Elements.{All-nil, All-append, recursion_from_All}
@@ -26,7 +26,7 @@ module _ (program : ProgramTerm) where
   all_edits [] = 0
   all_edits (d ∷ ds) = what_edits program d.what + all_edits ds
 
-  edits_more : (ds : List DefTerm) (d : DefTerm) → all_edits (ds ++ d ∷ []) ≡ all_edits ds + what_edits program d.what
+  pub edits_more : (ds : List DefTerm) (d : DefTerm) → all_edits (ds ++ d ∷ []) ≡ all_edits ds + what_edits program d.what
   edits_more [] d = omega arith
   edits_more (c ∷ ds) d = let e = edits_more ds d in omega (arith, e)
 
@@ -34,7 +34,7 @@ module _ (program : ProgramTerm) where
   nodes_more [] d = omega arith
   nodes_more (c ∷ ds) d = let e = nodes_more ds d in omega (arith, e)
 
-  firsts_more : (n : ℕ) (ds : List DefTerm) (d : DefTerm)
+  pub firsts_more : (n : ℕ) (ds : List DefTerm) (d : DefTerm)
       → firsts_in program n (ds ++ d ∷ []) ≡ firsts_in program n ds ++ what_firsts program (n + all_edits ds) d.what
   firsts_more n [] d =
       let e : n ≡ n + 0 = omega arith in append-nil (what_firsts program n d.what) ∙ ap (λ k. what_firsts program k d.what) e
@@ -69,7 +69,7 @@ record DefinitionStarts (program : ProgramTerm) (table : List ℕ) (w : DefBodyT
       → Walked program table ss next m bs after
 
 -- the same of a program's first definitions
-record ProgramStarts (program : ProgramTerm) (table : List ℕ) (ds : List DefTerm) (count : ℕ) (bs after : List BodyTerm) : Type 0 where
+pub record ProgramStarts (program : ProgramTerm) (table : List ℕ) (ds : List DefTerm) (count : ℕ) (bs after : List BodyTerm) : Type 0 where
   pub nodes : defs_nodes program ds ≡ all_edits program ds
   pub long : length (firsts_in program 0 ds) ≡ count
   pub right : All (Right program table) (defs_starts program 0 ds)
@@ -97,7 +97,7 @@ module _ (program : ProgramTerm) (table : List ℕ) where
         walks = λ ss a cov. walked program table t tt xs next n after (next + bodies t) refl there ss a cov;
       }
 
-  program_starts : (ds : Parse grammar.program) (after : List BodyTerm)
+  pub program_starts : (ds : Parse grammar.program) (after : List BodyTerm)
       → Stands program table 0 (bodies_of ds [] 0 ++ after) (firsts_in program 0 (meaning ds))
       → ProgramStarts program table (meaning ds) (bodies ds) (bodies_of ds [] 0 ++ after) after
   program_starts no_definitions after st = record {
@@ -147,15 +147,19 @@ module _ (program : ProgramTerm) (table : List ℕ) where
 
 -- ---- programs
 module _ (ds : Parse grammar.program) where
-  all_starts_there : ProgramStarts (program_of ds) (firsts_of (program_of ds)) (meaning ds) (bodies ds) (bodies_of ds [] 0 ++ []) []
-  all_starts_there =
+  -- its bodies and its table stand from number 0 on
+  pub stands_whole : Stands (program_of ds) (firsts_of (program_of ds)) 0 (bodies_of ds [] 0 ++ []) (firsts_of (program_of ds))
+  stands_whole =
       let table = firsts_of (program_of ds) in
-      program_starts (program_of ds) table ds []
-      (subst (λ l. Stands (program_of ds) table 0 l table) (sym (append-nil (bodies_of ds [] 0))) (
+      subst (λ l. Stands (program_of ds) table 0 l table) (sym (append-nil (bodies_of ds [] 0))) (
         λ j le. refl,
         λ j le. refl,
         λ k v e. let same : k ≡ 0 + k = omega arith in subst (λ j. slice_get table j ≡ Some v) same e,
-      ))
+        λ j le. let same : j ≡ j - 0 = omega arith in ap (λ k. slice_get (bodies_of ds [] 0) k) same,
+      )
+
+  all_starts_there : ProgramStarts (program_of ds) (firsts_of (program_of ds)) (meaning ds) (bodies ds) (bodies_of ds [] 0 ++ []) []
+  all_starts_there = program_starts (program_of ds) (firsts_of (program_of ds)) ds [] stands_whole
 
   parsed_firsts : (i n : ℕ) → slice_get (firsts_of (program_of ds)) i ≡ Some n → body_first (program_of ds) i ≡ n
   parsed_firsts i n e =
@@ -177,3 +181,8 @@ pub entries : (p : ProgramTerm) → IsWritten p → length (firsts_of p) ≡ len
 entries p w =
     let ds = w.1.parse in
     subst (λ q. length (firsts_of q) ≡ length q.bodies) w.1.stands_for ((all_starts_there ds).long ∙ sym (bodies_count ds [] 0))
+
+-- each start of a body in a definition is the table's entry
+pub starts_there : (p : ProgramTerm) → IsWritten p → All (Right p (firsts_of p)) (defs_starts p 0 p.defs)
+starts_there p w =
+    subst (λ q. All (Right q (firsts_of q)) (defs_starts q 0 q.defs)) w.1.stands_for (all_starts_there w.1.parse).right

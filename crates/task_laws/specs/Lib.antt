@@ -1,3 +1,5 @@
 pub mod TreePlaces
 pub mod PlainStates
 pub mod ActsAt
+pub mod ProgramNodes
+pub mod BodyFronts

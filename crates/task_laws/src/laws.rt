@@ -1,4 +1,4 @@
-ghost use Rattle.std.specs.Prelude.{◌≡◌, ◌↔◌, ℕ, min, Bool, true, List, [], length, Option, Some, None, slice_get};
+ghost use Rattle.std.specs.Prelude.{◌≡◌, ◌↔◌, ℕ, min, Bool, true, List, [], length, map, Option, Some, None, slice_get};
 ghost use Rattle.std.specs.List.{All, Contains};
 ghost use Rattle.std.specs.List.Sorted.{IsStrictlyIncreasing};
 ghost use Rattle.task_model.specs.Value.{ValueTerm};
@@ -19,6 +19,13 @@ ghost use Rattle.task_model.specs.Written.{IsWritten};
 ghost use Rattle.task_model.specs.PlainTree.{IsSmallTree};
 ghost use Rattle.task_model.specs.Fits.{Fits};
 ghost use Rattle.task_model.specs.Program.{ProgramTerm};
+ghost use Rattle.task_model.specs.Grammar.{program, task, expression, Parse};
+ghost use Rattle.task_model.specs.Meaning.{meaning, bodies_of, program_of};
+ghost use Rattle.task_model.specs.Nodes.{places};
+ghost use Rattle.task_model.specs.NodeCounts.{nodes, task_nodes};
+ghost use Rattle.task_model.specs.FullTask.{full_in, full_bodies};
+ghost use Rattle.task_laws.specs.BodyFronts.{edit_words, body_fronts};
+ghost use Rattle.task_laws.specs.ProgramNodes.{definitions_nodes};
 ghost use Rattle.task_model.specs.Placed.{IsPlaced, firsts_of};
 ghost use Rattle.task_model.specs.Outcome.{taken, not_offered, over_budget, IsOutcome};
 ghost use Rattle.task_model.specs.Text.{Text};
@@ -148,8 +155,18 @@ pub fn written_programs_are_placed()
 {}
 
 /// Of a program that is written the table of how many `edit` and `share` nodes stand before each body has an entry for each body,
-/// and at a body's number what the rules read there.
+/// and at a body's number what the rules read there. In the text of a program they are the words `edit` and `share` before the body.
 pub fn nodes_before_bodies()
     ensures entries { (p : ProgramTerm) → IsWritten p → length (firsts_of p) ≡ length p.bodies }
     ensures firsts { (p : ProgramTerm) → IsWritten p → (i n : ℕ) → slice_get (firsts_of p) i ≡ Some n → body_first p i ≡ n }
+    ensures parsed { (ds : Parse program) → firsts_of (program_of ds) ≡ map edit_words (body_fronts ds) }
+{}
+
+/// Nodes are numbered as the reader tells their places: an expression, a task and the definitions of a program have as many places, in
+/// pre-order, as nodes, those of bodies where the bodies stand.
+pub fn nodes_have_places()
+    ensures expressions { (d : Parse expression) → length (places d) ≡ nodes (meaning d) }
+    ensures tasks { (d : Parse task) (xs : List Text) (next : ℕ) →
+        length (places d) ≡ task_nodes (full_in next (full_bodies next (bodies_of d xs next)) (meaning d next)) }
+    ensures programs { (ds : Parse program) → length (places ds) ≡ definitions_nodes (program_of ds) (meaning ds) }
 {}

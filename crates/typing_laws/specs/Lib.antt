@@ -1,0 +1,5 @@
+pub mod Texts
+pub mod Supposed
+pub mod Good
+pub mod Well
+pub mod ProgramFacts
