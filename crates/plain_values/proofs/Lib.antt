@@ -1,6 +1,2 @@
-pub mod ListLemmas
-pub mod TermLemmas
-pub mod CharacterLemmas
 pub mod KnownLemmas
-pub mod EqualLemmas
 pub mod RunLemmas

@@ -1,3 +1,3 @@
 pub mod GivenRules
 pub mod Known
-pub mod ValueWords
+pub mod Opened

@@ -6,7 +6,8 @@ ghost use Rattle.task_model.specs.Program.{param_term};
 ghost use Rattle.task_model.specs.Checked as checked;
 ghost use Rattle.task_model.specs.Rules as rules;
 ghost use Rattle.plain_values.specs.Known.{Known};
-ghost use Rattle.plain_values.specs.ValueWords as words;
+ghost use Rattle.plain_values.specs.Opened.{opened_list};
+ghost use Rattle.host_eval.specs.ValueWords as words;
 
 use std::alloc::Global;
 use task_model::{
@@ -110,7 +111,7 @@ pub fn opened_list(
     tail: &TaskText,
     list: Value,
 ) -> Result<Option<Env>, Stop>
-    ensures { Known (words.opened_list (env_term env.now) head.now tail.now (value_term list)) (option_map env_term) result }
+    ensures { Known (opened_list (env_term env.now) head.now tail.now (value_term list)) (option_map env_term) result }
 {
     match &list {
         Value::List(items) => Ok(bound_list(alloc, env, head, tail, items.as_slice())?),
@@ -125,7 +126,7 @@ fn bound_list(
     tail: &TaskText,
     items: &[Value],
 ) -> Result<Option<Env>, OutOfMemory>
-    ensures { IfOk result (λ o. words.opened_list (env_term env.now) head.now tail.now (list_value (as_values (map value_term items.now))) ≡ Some (option_map env_term o)) }
+    ensures { IfOk result (λ o. opened_list (env_term env.now) head.now tail.now (list_value (as_values (map value_term items.now))) ≡ Some (option_map env_term o)) }
 {
     let [first, rest @ ..] = items else {
         return Ok(None);

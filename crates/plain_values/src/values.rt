@@ -5,37 +5,22 @@ ghost use Rattle.task_model.specs.Host.{as_exprs, host_term, call_expr, pair_exp
 ghost use Rattle.task_model.specs.Program.{kind_term, param_term};
 ghost use Rattle.task_model.specs.Plan.{gives_value, give, ask, known};
 ghost use Rattle.task_model.specs.Rules.{value_rule, op_rule, slot_for, slots_for, values_for};
-ghost use Rattle.task_model.specs.Judgements.{Gives};
-ghost use Rattle.task_model.specs.Spends.{Spends};
 ghost use Rattle.task_model.specs.Calls.{RunsJudgement, RunsPlan};
 ghost use Rattle.plain_values.specs.GivenRules.{rules_term};
 ghost use Rattle.plain_values.specs.Known.{Known};
-ghost use Rattle.plain_values.specs.ValueWords.{computed, truth_of, value_read, place_argument, lazy_plan, strict_plan, call_plan};
+ghost use Rattle.host_eval.specs.ValueWords.{computed, truth_of, value_read, place_argument, lazy_plan, strict_plan, call_plan};
 
-use crate::definitions::function_named;
 use crate::names::{bound, opened_list, param_names, place_named, value_named};
-use crate::operators::{Unary, computed, decider, list_of, operated};
+use crate::operators::{computed, operated};
 use crate::rules::Rules;
+use host_eval::{Unary, decider, function_named, list_of};
 use std::alloc::Global;
 use task_model::{
     Env, Host, Kind, Op, OutOfMemory, Param, Purse, Row, Slot, Stop, TaskText, Value, copy_text,
     copy_value, shared,
 };
 
-/// The value of an expression. `Over` comes where no derivation is within the purse.
-pub fn evaluate_value(
-    alloc: Global,
-    rules: &Rules,
-    e: &Host,
-    env: &Env,
-    store: &[Value],
-    purse: &mut Purse,
-) -> Result<Value, Stop>
-    ensures { Spends (Gives (rules_term rules.now) (host_term e.now) (env_term env.now) (map value_term store.now)) value_term purse.old purse.new result }
-{
-    value_at(alloc, rules, e, env, store, purse)
-}
-
+/// The value of an expression, under a rule.
 #[cycle(value)]
 pub fn value_at(
     alloc: Global,

@@ -1,22 +1,19 @@
-//! Worked programs and expressions, by tables.
+//! Worked programs, by tables.
 
-use lines::number_of;
-use literal_text::{print_value, read_basic};
-use plain_values::{Rules, evaluate_value};
-use repeats::repeated;
+use eval_tests::repeated;
+use literal_text::read_basic;
+use plain_values::Rules;
 use std::alloc::Global;
 use std::process::Abort;
 use std::test::Fail;
-use task_model::{Basic, DefBody, Host, OutOfMemory, Program, Purse, Row, Stop, TaskText};
+use task_model::{Basic, OutOfMemory, Program, Row};
 use task_reader::read_program;
-use worked_program::{WorkedProgram, empty_env};
+use worked_program::WorkedProgram;
 
 mod budgets;
-mod expressions;
 mod lines;
 mod pages;
 mod programs;
-mod repeats;
 mod worked_program;
 
 // The budget of a program, until its lines say another one.
@@ -85,50 +82,6 @@ fn assert_worked(
     Ok(())
 }
 
-// The body of the last definition, which is a function.
-fn last_function(program: &Program) -> Option<&Host> {
-    match &program.defs.as_slice().last()?.what {
-        DefBody::Fun(body) => Some(body),
-        DefBody::Task(_) => None,
-    }
-}
-
-// What an expression gives with so many units, and whether it takes them all; `none` where it gives nothing.
-fn given(alloc: Global, rules: &Rules, units: u32) -> Result<(TaskText, bool), OutOfMemory> {
-    let Some(e) = last_function(&rules.program) else {
-        return Ok((TaskText::of(alloc, "no function")?, false));
-    };
-    let mut purse = Purse::new(units);
-    match evaluate_value(alloc, rules, e, &empty_env(alloc), &[], &mut purse) {
-        Ok(v) => Ok((print_value(alloc, &v)?, purse.units_left() == 0)),
-        Err(Stop::Over) => Ok((TaskText::of(alloc, "none")?, true)),
-        Err(Stop::Memory) => Err(OutOfMemory),
-    }
-}
-
-// The expression gives this value with so many units, and none with fewer; `none` says that it has no value at any budget.
-fn assert_gives(
-    rt: &(impl Abort + AllocGlobal),
-    expression: &str,
-    value: &str,
-    units: u32,
-) -> Result<(), OutOfMemory> {
-    let source = format!(in rt.alloc(); "{}fun it() : int = {expression}", expressions::FUNCTIONS)?;
-    let rules = rules_of(rt.alloc(), source.as_str(), "none")?;
-    let (text, spent) = given(
-        rt.alloc(),
-        &rules,
-        if value == "none" { BUDGET } else { units },
-    )?;
-    assert_eq!(rt; text.as_str(), value, "{expression}");
-    assert!(rt; spent, "{expression}");
-    if units > 0 {
-        let (text, _) = given(rt.alloc(), &rules, units - 1)?;
-        assert_eq!(rt; text.as_str(), "none", "{expression}");
-    }
-    Ok(())
-}
-
 // Each block of a table: a program, the types of its nodes, and what its lines come to.
 fn assert_blocks(rt: &(impl Abort + AllocGlobal), table: &str) -> Result<(), OutOfMemory> {
     for block in table.trim_end().split("\n\n") {
@@ -154,15 +107,4 @@ fn worked_budgets(rt: HostRuntime) -> Result<(), Fail> {
 #[test]
 fn worked_heights(rt: HostRuntime) -> Result<(), Fail> {
     Ok(assert_blocks(&rt, budgets::HEIGHTS)?)
-}
-
-#[test]
-fn worked_expressions(rt: HostRuntime) -> Result<(), Fail> {
-    for line in expressions::EXPRESSIONS.split('\n') {
-        if let Some((units, rest)) = line.split_once(": ") {
-            let (expression, value) = rest.split_once(" => ").unwrap_or((rest, ""));
-            assert_gives(&rt, expression, value, number_of(units))?;
-        }
-    }
-    Ok(())
 }

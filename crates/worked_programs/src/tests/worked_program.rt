@@ -96,7 +96,7 @@ impl WorkedProgram {
     fn settle(&mut self, alloc: Global) -> Result<TaskText, OutOfMemory> {
         let mut store = copy_values(alloc, self.store.as_slice())?;
         let mut purse = Purse::new(self.budget);
-        let tree = copy_tree(alloc, &self.tree)?;
+        let tree = copy_tree(&self.tree)?;
         let led = settle(alloc, &self.rules, tree, &mut store, &mut purse);
         self.led(alloc, led, store, "settled\n")
     }
@@ -216,7 +216,7 @@ impl WorkedProgram {
 }
 
 /// The environment without names, before all nodes.
-pub fn empty_env(alloc: Global) -> Env {
+fn empty_env(alloc: Global) -> Env {
     Env {
         names: Row::new(alloc),
         slots: Row::new(alloc),

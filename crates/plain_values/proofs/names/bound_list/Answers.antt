@@ -1,5 +1,5 @@
 use Rattle.std.proofs.Common.{◌≡◌, ◌≤◌, ◌-◌, take, List, length, drop, get_or, map, Some, ap, sym, ◌∙◌}
-use Rattle.plain_values.proofs.ListLemmas.{in_front}
+use Rattle.host_eval.proofs.ListLemmas.{in_front}
 use Rattle.task_model.specs.declared.value.Value as value
 use Rattle.task_model.specs.Rowed.{Rowed}
 use Rattle.task_model.specs.Value.{ValueTerm, list_value, as_values, value_term}
@@ -7,16 +7,16 @@ use Rattle.task_model.specs.Env.{EnvTerm, plain_slot, env_term}
 use Rattle.task_model.specs.Text.{Text}
 use Rattle.task_model.specs.Rules as rules
 use Rattle.task_model.proofs.RowLemmas.{value_term-List}
-use Rattle.plain_values.specs.ValueWords as words
+use Rattle.plain_values.specs.Opened.{opened_list}
 use Rattle.plain_values.proofs.names.bound_list.Goals as goal
 
 opened : (env env1 env2 : EnvTerm) (x y : Text) (items : List value.Value) (first : value.Value) (v w : ValueTerm) → 1 ≤ length items
     → first ≡ get_or items 0 first → v ≡ value_term first
     → w ≡ list_value (as_values (map value_term (take (length items - 1) (drop 1 items)))) → env1 ≡ rules.bound env x (plain_slot v)
-    → env2 ≡ rules.bound env1 y (plain_slot w) → words.opened_list env x y (list_value (as_values (map value_term items)))
+    → env2 ≡ rules.bound env1 y (plain_slot w) → opened_list env x y (list_value (as_values (map value_term items)))
     ≡ Some (Some env2)
 opened env env1 env2 x y items first v w le e p q a b =
-    ap (λ l. words.opened_list env x y (list_value (as_values (map value_term l)))) (in_front items first le e)
+    ap (λ l. opened_list env x y (list_value (as_values (map value_term l)))) (in_front items first le e)
     ∙ ap (λ z. Some
     (Some (rules.bound (rules.bound env x (plain_slot z)) y
     (plain_slot (list_value (as_values (map value_term (take (length items - 1) (drop 1 items))))))))) (sym p)

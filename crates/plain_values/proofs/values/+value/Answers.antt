@@ -15,7 +15,8 @@ use Rattle.task_model.specs.Rules.{value_rule}
 use Rattle.task_model.proofs.RowLemmas.{value_term-List, host_term-List, host_term-Call}
 use Rattle.task_model.proofs.RanLemmas.{stopped, ran_give, ran_made, ran_ask, ran_ask_stops, ran_last, ran_after, ran_after_stops, ran_unit, asked_rule, asked_rule_stops}
 use Rattle.plain_values.specs.GivenRules.{rules_term}
-use Rattle.plain_values.proofs.RunLemmas.{ran_is, ran_known_ok, ran_known_stops, ran_known, named_is, read_is, ran_chosen, ran_chosen_stops, ran_matched, ran_matched_stops, ran_call, ran_call_none, argument_is, lazy_is, strict_is, values_next, values_more, values_end, slots_next, slots_more, slots_too_many, slots_too_few, slots_end, tail_of}
+use Rattle.host_eval.proofs.RunLemmas.{ran_is, ran_known_ok, named_is, read_is, ran_chosen, ran_call, argument_is, lazy_is, strict_is, values_front, values_grown, values_none, slots_front, slots_grown, slots_none, slots_too_many, slots_too_few, tail_of}
+use Rattle.plain_values.proofs.RunLemmas.{ran_stuck, ran_known_stops, ran_known, ran_chosen_stops, ran_matched, ran_matched_stops, ran_call_none}
 use Rattle.plain_values.proofs.values.+value.Goals as goal
 
 same_bool-beq : (b d : Bool) → same_bool b d ≡ beq b d
@@ -205,22 +206,22 @@ pub values_at-returns-in_err-v-clause-ran : goal.values_at-returns-in_err-v-clau
 values_at-returns-in_err-v-clause-ran t c =
     rw (stopped _ c.in_err-v.field-0.0 c.from_residual.ensures.1)
     (c.loop-rest.invariant.rest _ _
-    (values_next (env_term c.args.env.now) (map value_term c.args.store.now) _ _ _ c.in-len1-up.len_at_least c.item-item.is
+    (ran_is (values_front (env_term c.args.env.now) (map value_term c.args.store.now) _ _ _ c.in-len1-up.len_at_least c.item-item.is)
     (ran_ask_stops _ c.in_err-v.ensures.asked)))
 
 pub values_at-loop-rest-preserved : goal.values_at-loop-rest-preserved
 values_at-loop-rest-preserved t c = record {
   height = search rules;
   rest = λ new r a. c.loop-rest.invariant.rest new r
-      (values_next (env_term c.args.env.now) (map value_term c.args.store.now) _ _ _ c.in-len1-up.len_at_least c.item-item.is
+      (ran_is (values_front (env_term c.args.env.now) (map value_term c.args.store.now) _ _ _ c.in-len1-up.len_at_least c.item-item.is)
       (ran_ask _ c.in_ok-v.ensures.asked
-      (values_more (env_term c.args.env.now) (map value_term c.args.store.now) (as_exprs (map host_term (tail_of c.loop-rest.rest.now))) _ _
-      _ c.in_ok-push.ensures.ok a)));
+      (ran_is (values_grown (env_term c.args.env.now) (map value_term c.args.store.now) (as_exprs (map host_term (tail_of c.loop-rest.rest.now))) _ _
+      _ c.in_ok-push.ensures.ok) a)));
 }
 
 pub values_at-returns-clause-ran : goal.values_at-returns-clause-ran
 values_at-returns-clause-ran t c = c.loop-rest.invariant.rest _ _
-    (values_end (env_term c.args.env.now) (map value_term c.args.store.now) _ _ c.in_default.len_below (ran_give refl))
+    (ran_is (values_none (env_term c.args.env.now) (map value_term c.args.store.now) _ _ c.in_default.len_below) (ran_give refl))
 
 -- ---- calls
 pub call_form-returns-in-None-clause-ran : goal.call_form-returns-in-None-clause-ran
@@ -241,34 +242,34 @@ call_at-returns-clause-ran t c =
 
 pub slots_at-returns-in_default-at-clause-ran : goal.slots_at-returns-in_default-at-clause-ran
 slots_at-returns-in_default-at-clause-ran t c = c.loop-rest.invariant.rest _ _
-    (slots_too_many (env_term c.args.env.now) (map value_term c.args.store.now) _ _ _ c.in-len1-up.len_at_least c.in_default-at.len_below)
+    (ran_is (slots_too_many (env_term c.args.env.now) (map value_term c.args.store.now) _ _ _ c.in-len1-up.len_at_least c.in_default-at.len_below) ran_stuck)
 
 pub slots_at-returns-in_err-slot-clause-ran : goal.slots_at-returns-in_err-slot-clause-ran
 slots_at-returns-in_err-slot-clause-ran t c =
     rw (stopped _ c.in_err-slot.field-0.0 c.from_residual.ensures.1)
     (c.loop-rest.invariant.rest _ _
-    (slots_next (env_term c.args.env.now) (map value_term c.args.store.now) _ _ _ _ _ c.in-len1-up.len_at_least c.arg-item.is
-    c.in-len1-up-at.len_at_least c.param-item.is (ran_after_stops _ c.in_err-slot.ensures.ran)))
+    (ran_is (slots_front (env_term c.args.env.now) (map value_term c.args.store.now) _ _ _ _ _ c.in-len1-up.len_at_least c.arg-item.is
+    c.in-len1-up-at.len_at_least c.param-item.is) (ran_after_stops _ c.in_err-slot.ensures.ran)))
 
 pub slots_at-loop-rest-preserved : goal.slots_at-loop-rest-preserved
 slots_at-loop-rest-preserved t c = record {
   height = search rules;
   rest = λ new r a. c.loop-rest.invariant.rest new r
-      (slots_next (env_term c.args.env.now) (map value_term c.args.store.now) _ _ _ _ _ c.in-len1-up.len_at_least c.arg-item.is
-      c.in-len1-up-at.len_at_least c.param-item.is
+      (ran_is (slots_front (env_term c.args.env.now) (map value_term c.args.store.now) _ _ _ _ _ c.in-len1-up.len_at_least c.arg-item.is
+      c.in-len1-up-at.len_at_least c.param-item.is)
       (ran_after _ c.in_ok-slot.ensures.ran
-      (slots_more (env_term c.args.env.now) (map value_term c.args.store.now) (map host_term (tail_of c.loop-rest.rest.now))
-      (map param_term (tail_of c.loop-rest.at.now)) _ _ _ c.in_ok-push.ensures.ok a)));
+      (ran_is (slots_grown (env_term c.args.env.now) (map value_term c.args.store.now) (map host_term (tail_of c.loop-rest.rest.now))
+      (map param_term (tail_of c.loop-rest.at.now)) _ _ _ c.in_ok-push.ensures.ok) a)));
 }
 
 pub slots_at-returns-in-empty-clause-ran : goal.slots_at-returns-in-empty-clause-ran
 slots_at-returns-in-empty-clause-ran t c = c.loop-rest.invariant.rest _ _
-    (slots_end (env_term c.args.env.now) (map value_term c.args.store.now) _ _ _ c.in_default.len_below c.in-empty.len_below
+    (ran_is (slots_none (env_term c.args.env.now) (map value_term c.args.store.now) _ _ _ c.in_default.len_below c.in-empty.len_below)
     (ran_give refl))
 
 pub slots_at-returns-in_default-at-2-clause-ran : goal.slots_at-returns-in_default-at-2-clause-ran
 slots_at-returns-in_default-at-2-clause-ran t c = c.loop-rest.invariant.rest _ _
-    (slots_too_few (env_term c.args.env.now) (map value_term c.args.store.now) _ _ _ c.in_default.len_below c.in_default-at-2.len_at_least)
+    (ran_is (slots_too_few (env_term c.args.env.now) (map value_term c.args.store.now) _ _ _ c.in_default.len_below c.in_default-at-2.len_at_least) ran_stuck)
 
 pub slot_at-returns-in_err-v-in-Plain-clause-ran : goal.slot_at-returns-in_err-v-in-Plain-clause-ran
 slot_at-returns-in_err-v-in-Plain-clause-ran t c =

@@ -1,0 +1,7 @@
+pub mod ListLemmas
+pub mod TermLemmas
+pub mod CharacterLemmas
+pub mod EqualLemmas
+pub mod RunLemmas
+pub mod NameLemmas
+pub mod WellLemmas

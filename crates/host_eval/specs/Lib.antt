@@ -1,0 +1,3 @@
+pub mod ValueWords
+pub mod NamesTerm
+pub mod HeadAndTail

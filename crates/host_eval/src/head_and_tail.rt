@@ -1,0 +1,40 @@
+ghost use Rattle.std.specs.Prelude.{◌≡◌, map, IfOk, IsSome, Some};
+ghost use Rattle.std.specs.Option.{option_map};
+ghost use Rattle.task_model.specs.Value.{list_value, as_values, value_term};
+ghost use Rattle.host_eval.specs.ValueWords as words;
+ghost use Rattle.host_eval.specs.HeadAndTail.{head_and_tail};
+
+use std::alloc::Global;
+use task_model::{OutOfMemory, Value, copy_value, copy_values, shared};
+
+/// The first element of a list, and the list of the others.
+#[derive(Drop)]
+pub struct HeadAndTail {
+    pub head: Value,
+    pub tail: Value,
+}
+
+impl HeadAndTail {
+    /// The parts of a list, or none where it is empty. The tail is a new list of shared values.
+    pub fn of(alloc: Global, list: &Value) -> Result<Option<HeadAndTail>, OutOfMemory>
+        requires fits { IsSome (words.list_parts (value_term list.now)) }
+        ensures { IfOk result (λ o. words.list_parts (value_term list.now) ≡ Some (option_map head_and_tail o)) }
+    {
+        match list {
+            Value::List(items) => Ok(HeadAndTail::of_items(alloc, items.as_slice())?),
+            _ => unreachable!(),
+        }
+    }
+
+    fn of_items(alloc: Global, items: &[Value]) -> Result<Option<HeadAndTail>, OutOfMemory>
+        ensures { IfOk result (λ o. words.list_parts (list_value (as_values (map value_term items.now))) ≡ Some (option_map head_and_tail o)) }
+    {
+        let [first, rest @ ..] = items else {
+            return Ok(None);
+        };
+        let head = copy_value(first)?;
+        let rest = shared(alloc, copy_values(alloc, rest)?)?;
+        let tail = Value::List(rest);
+        Ok(Some(HeadAndTail { head, tail }))
+    }
+}

@@ -1,0 +1,21 @@
+//! Expressions, evaluated: a value in exact units and height, over a program that is accepted and an environment and a store that fit.
+#![tactic(auto)]
+
+mod characters;
+mod definitions;
+mod evaluation;
+mod head_and_tail;
+mod lookups;
+mod named;
+mod names;
+mod operators;
+mod same;
+mod unary;
+
+pub use definitions::function_named;
+pub use evaluation::eval;
+pub use head_and_tail::HeadAndTail;
+pub use names::{Links, Names};
+pub use operators::{computed, decider, list_of, operated};
+pub use same::{same_value, same_values};
+pub use unary::Unary;

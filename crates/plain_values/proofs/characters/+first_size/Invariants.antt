@@ -1,5 +1,0 @@
-use Rattle.std.proofs.Common.{length}
-use Rattle.plain_values.proofs.characters.+first_size.Given as goal
-
-abbrev pub decreases-first_size : goal.decreases-first_size
-decreases-first_size l = length l.bytes.now
