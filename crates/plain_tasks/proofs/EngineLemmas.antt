@@ -15,7 +15,7 @@ use Rattle.task_model.specs.declared.tree.Tree as tree
 use Rattle.task_model.specs.declared.purse.Stop.{Stop}
 use Rattle.task_model.proofs.RanLemmas.{ran_after, ran_after_stops}
 use Rattle.plain_tasks.specs.Bodies.{applied_plan, normal_plan}
-use Rattle.plain_values.proofs.RunLemmas.{ran_is}
+use Rattle.host_eval.proofs.RunLemmas.{ran_is}
 
 pub tells_same : {r : Bool} {a b a' b' : State} → IsTrue r ↔ (a ≡ b) → a ≡ a' → b ≡ b' → r ≡ true → a' ≡ b'
 tells_same h p q e = sym p ∙ h.0 e ∙ q

@@ -19,9 +19,10 @@ use Rattle.task_model.specs.declared.purse.Stop.{Stop}
 use Rattle.task_model.specs.declared.purse.Stop.TheVariants.{Over}
 use Rattle.task_model.proofs.RanLemmas.{ran_give}
 use Rattle.plain_values.specs.Known.{Known}
-use Rattle.plain_values.specs.ValueWords.{option_then, place_named}
+use Rattle.host_eval.specs.ValueWords.{option_then, place_named}
 use Rattle.plain_tasks.specs.Starts.{nodes_before, Called, called_of, task_in, share_known, call_task_plan}
-use Rattle.plain_values.proofs.RunLemmas.{ran_known_ok, ran_known_stops, placed_is}
+use Rattle.host_eval.proofs.RunLemmas.{ran_known_ok, placed_is}
+use Rattle.plain_values.proofs.RunLemmas.{ran_known_stops}
 
 pub ran_known_made : {c : CheckedTerm} {A B X : Type 0} (o : Option A) (view : X → A) (make : A → B) {vb : X → B}
     (r : Result X Stop) {old : Left} → ((x : X) → vb x ≡ make (view x)) → Known o view r

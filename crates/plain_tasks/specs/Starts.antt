@@ -13,7 +13,7 @@ use Rattle.task_model.specs.Tree.{TreeTerm, share_tree, State}
 use Rattle.task_model.specs.Checked.{param_names}
 use Rattle.task_model.specs.Plan.{evaluates, Plan, give, ask, unit, after}
 use Rattle.task_model.specs.Rules.{slots_for}
-use Rattle.plain_values.specs.ValueWords.{option_then, place_named}
+use Rattle.host_eval.specs.ValueWords.{option_then, place_named}
 use Rattle.plain_tasks.specs.declared.nodes.Start.{Start}
 
 abbrev pub start_term : Start → checked.Start

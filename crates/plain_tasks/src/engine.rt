@@ -334,11 +334,11 @@ fn stride_form(
     ensures ran { RunsPlan (rules_term rules.now) (model.stride_rule (rules_term rules.now) (tree_term t.now) (map value_term store.old.list)) (λ u. at (tree_term u) (map value_term store.new.list)) purse.old purse.new result }
 {
     match t {
-        Tree::Edit(..) => Ok(copy_tree(alloc, t)?),
-        Tree::Enter(_) => Ok(copy_tree(alloc, t)?),
-        Tree::Share(..) => Ok(copy_tree(alloc, t)?),
-        Tree::Fail => Ok(copy_tree(alloc, t)?),
-        Tree::Xor(..) => Ok(copy_tree(alloc, t)?),
+        Tree::Edit(..) => Ok(copy_tree(t)?),
+        Tree::Enter(_) => Ok(copy_tree(t)?),
+        Tree::Share(..) => Ok(copy_tree(t)?),
+        Tree::Fail => Ok(copy_tree(t)?),
+        Tree::Xor(..) => Ok(copy_tree(t)?),
         Tree::Then(left, k) => then_form(alloc, rules, left, k, store, purse),
         Tree::Next(left, k) => next_form(alloc, rules, left, k, store, purse),
         Tree::And(a, b) => and_form(alloc, rules, a, b, store, purse),

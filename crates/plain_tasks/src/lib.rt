@@ -8,6 +8,7 @@ mod evaluation;
 mod made;
 mod nodes;
 mod same;
+mod value_list;
 
 pub use engine::{
     failing, fails_at, normal_body, normalise, settle, settle_at, side_fails, stride,

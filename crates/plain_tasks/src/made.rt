@@ -1,18 +1,19 @@
-ghost use Rattle.std.specs.Prelude.{◌≡◌, ◌++◌, [], ◌∷◌, map, slice_get, slice_set, IfOk, if◌then◌else◌};
+ghost use Rattle.std.specs.Prelude.{◌≡◌, ◌++◌, [], ◌∷◌, map, slice_set, IfOk, if◌then◌else◌};
 ghost use Rattle.std.specs.Option.{is_some, option_map};
 ghost use Rattle.task_model.specs.Basic.{basic_term};
-ghost use Rattle.task_model.specs.Value as values;
 ghost use Rattle.task_model.specs.Value.{value_term};
 ghost use Rattle.task_model.specs.Env.{plain_slot, slot_term, env_term};
 ghost use Rattle.task_model.specs.Tree as trees;
 ghost use Rattle.task_model.specs.Tree.{cont_term, delay_term, tree_term};
 ghost use Rattle.task_model.specs.Rules as rules;
 
+use crate::value_list::ValueList;
 use std::alloc::Global;
 use task_model::{
-    Basic, Cont, Delay, Env, OutOfMemory, Row, Slot, Tree, Value, boxed, copy_basic, copy_slots,
-    copy_value, shared,
+    Basic, Cont, Delay, Env, OutOfMemory, Row, Slot, Tree, Value, copy_basic, copy_cont,
+    copy_slots, copy_value, shared,
 };
+use task_tree::value;
 
 pub fn enter_tree(b: &Basic) -> Result<Tree, OutOfMemory>
     ensures { IfOk result (λ t. tree_term t ≡ trees.enter_tree (basic_term b.now)) }
@@ -23,32 +24,22 @@ pub fn enter_tree(b: &Basic) -> Result<Tree, OutOfMemory>
 fn later_cont(alloc: Global, body: u32, env: &Env) -> Result<Cont, OutOfMemory>
     ensures { IfOk result (λ k. cont_term k ≡ rules.later body (env_term env.now)) }
 {
-    let slots = copy_slots(alloc, env.slots.as_slice())?;
+    let slots = shared(alloc, copy_slots(alloc, env.slots.as_slice())?)?;
     Ok(Cont { body, slots })
 }
 
 fn later_delay(alloc: Global, body: u32, env: &Env) -> Result<Delay, OutOfMemory>
     ensures { IfOk result (λ k. delay_term k ≡ rules.later body (env_term env.now)) }
 {
-    let slots = copy_slots(alloc, env.slots.as_slice())?;
+    let slots = shared(alloc, copy_slots(alloc, env.slots.as_slice())?)?;
     Ok(Delay { body, slots })
-}
-
-fn copy_cont(alloc: Global, k: &Cont) -> Result<Cont, OutOfMemory>
-    ensures { IfOk result (λ copy. cont_term copy ≡ cont_term k.now) }
-{
-    let slots = copy_slots(alloc, k.slots.as_slice())?;
-    Ok(Cont {
-        body: k.body,
-        slots,
-    })
 }
 
 /// An internal step to a body of the program.
 pub fn then_task(alloc: Global, left: Tree, body: u32, env: &Env) -> Result<Tree, OutOfMemory>
     ensures { IfOk result (λ t. tree_term t ≡ trees.then_tree (tree_term left) (rules.later body (env_term env.now))) }
 {
-    let left = boxed(alloc, left)?;
+    let left = shared(alloc, left)?;
     Ok(Tree::Then(left, later_cont(alloc, body, env)?))
 }
 
@@ -56,7 +47,7 @@ pub fn then_task(alloc: Global, left: Tree, body: u32, env: &Env) -> Result<Tree
 pub fn next_task(alloc: Global, left: Tree, body: u32, env: &Env) -> Result<Tree, OutOfMemory>
     ensures { IfOk result (λ t. tree_term t ≡ trees.next_tree (tree_term left) (rules.later body (env_term env.now))) }
 {
-    let left = boxed(alloc, left)?;
+    let left = shared(alloc, left)?;
     Ok(Tree::Next(left, later_cont(alloc, body, env)?))
 }
 
@@ -71,27 +62,27 @@ pub fn xor_task(alloc: Global, left: u32, right: u32, env: &Env) -> Result<Tree,
 pub fn then_tree(alloc: Global, left: Tree, k: &Cont) -> Result<Tree, OutOfMemory>
     ensures { IfOk result (λ t. tree_term t ≡ trees.then_tree (tree_term left) (cont_term k.now)) }
 {
-    let left = boxed(alloc, left)?;
-    Ok(Tree::Then(left, copy_cont(alloc, k)?))
+    let left = shared(alloc, left)?;
+    Ok(Tree::Then(left, copy_cont(k)?))
 }
 
 pub fn next_tree(alloc: Global, left: Tree, k: &Cont) -> Result<Tree, OutOfMemory>
     ensures { IfOk result (λ t. tree_term t ≡ trees.next_tree (tree_term left) (cont_term k.now)) }
 {
-    let left = boxed(alloc, left)?;
-    Ok(Tree::Next(left, copy_cont(alloc, k)?))
+    let left = shared(alloc, left)?;
+    Ok(Tree::Next(left, copy_cont(k)?))
 }
 
 pub fn and_tree(alloc: Global, a: Tree, b: Tree) -> Result<Tree, OutOfMemory>
     ensures { IfOk result (λ t. tree_term t ≡ trees.and_tree (tree_term a) (tree_term b)) }
 {
-    Ok(Tree::And(boxed(alloc, a)?, boxed(alloc, b)?))
+    Ok(Tree::And(shared(alloc, a)?, shared(alloc, b)?))
 }
 
 pub fn or_tree(alloc: Global, a: Tree, b: Tree) -> Result<Tree, OutOfMemory>
     ensures { IfOk result (λ t. tree_term t ≡ trees.or_tree (tree_term a) (tree_term b)) }
 {
-    Ok(Tree::Or(boxed(alloc, a)?, boxed(alloc, b)?))
+    Ok(Tree::Or(shared(alloc, a)?, shared(alloc, b)?))
 }
 
 /// The second alone where it has a value, and else both.
@@ -109,70 +100,14 @@ pub fn or_of(alloc: Global, a: Tree, b: Tree, store: &[Value]) -> Result<Tree, O
 pub fn has_value(t: &Tree, store: &[Value]) -> bool
     ensures { result ≡ is_some (rules.value_of (tree_term t.now) (map value_term store.now)) }
 {
-    match t {
-        Tree::Edit(..) => true,
-        Tree::Share(_, place) => store.get(*place as usize).is_some(),
-        Tree::And(a, b) => has_value(a, store) && has_value(b, store),
-        Tree::Or(a, b) => has_value(a, store) || has_value(b, store),
-        Tree::Enter(_) => false,
-        Tree::Then(..) => false,
-        Tree::Next(..) => false,
-        Tree::Fail => false,
-        Tree::Xor(..) => false,
-    }
+    task_tree::has_value(t, &ValueList { values: store })
 }
 
 /// The value that a tree has over a store.
 pub fn value_of(alloc: Global, t: &Tree, store: &[Value]) -> Result<Option<Value>, OutOfMemory>
     ensures { IfOk result (λ v. option_map value_term v ≡ rules.value_of (tree_term t.now) (map value_term store.now)) }
 {
-    match t {
-        Tree::Edit(_, v) => Ok(Some(copy_value(v)?)),
-        Tree::Share(_, place) => value_at_place(*place, store),
-        Tree::And(a, b) => {
-            let v = value_of(alloc, a, store)?;
-            let w = value_of(alloc, b, store)?;
-            paired(alloc, v, w)
-        }
-        Tree::Or(a, b) => {
-            if has_value(a, store) {
-                value_of(alloc, a, store)
-            } else {
-                value_of(alloc, b, store)
-            }
-        }
-        Tree::Enter(_) => Ok(None),
-        Tree::Then(..) => Ok(None),
-        Tree::Next(..) => Ok(None),
-        Tree::Fail => Ok(None),
-        Tree::Xor(..) => Ok(None),
-    }
-}
-
-fn value_at_place(place: u64, store: &[Value]) -> Result<Option<Value>, OutOfMemory>
-    ensures { IfOk result (λ v. option_map value_term v ≡ slice_get (map value_term store.now) place) }
-{
-    match store.get(place as usize) {
-        Some(v) => Ok(Some(copy_value(v)?)),
-        None => Ok(None),
-    }
-}
-
-fn paired(alloc: Global, v: Option<Value>, w: Option<Value>) -> Result<Option<Value>, OutOfMemory>
-    ensures { IfOk result (λ p. option_map value_term p ≡ rules.paired (option_map value_term v) (option_map value_term w)) }
-{
-    match (v, w) {
-        (Some(v), Some(w)) => Ok(Some(pair_value(alloc, v, w)?)),
-        _ => Ok(None),
-    }
-}
-
-/// Two values as a pair.
-pub fn pair_value(alloc: Global, v: Value, w: Value) -> Result<Value, OutOfMemory>
-    ensures { IfOk result (λ p. value_term p ≡ values.pair_value (value_term v) (value_term w)) }
-{
-    let v = shared(alloc, v)?;
-    Ok(Value::Pair(v, shared(alloc, w)?))
+    value(alloc, t, &ValueList { values: store })
 }
 
 /// The slots of a body with one value more.

@@ -1,82 +1,14 @@
 ghost use Rattle.std.specs.Prelude.{◌≡◌, ◌↔◌, IsTrue, map};
-ghost use Rattle.task_model.specs.Basic.{basic_term};
 ghost use Rattle.task_model.specs.Value.{value_term};
-ghost use Rattle.task_model.specs.Env.{slot_term};
-ghost use Rattle.task_model.specs.Tree.{cont_term, delay_term, tree_term, at};
+ghost use Rattle.task_model.specs.Tree.{tree_term, at};
 
-use plain_values::{same_value, same_values};
-use task_model::{Basic, Cont, Delay, Slot, Tree, Value};
-
-fn same_basic(a: &Basic, b: &Basic) -> bool
-    ensures { IsTrue result ↔ (basic_term a.now ≡ basic_term b.now) }
-{
-    match (a, b) {
-        (Basic::Unit, Basic::Unit) => true,
-        (Basic::Bool, Basic::Bool) => true,
-        (Basic::Int, Basic::Int) => true,
-        (Basic::Text, Basic::Text) => true,
-        (Basic::Pair(a, b), Basic::Pair(c, d)) => same_basic(a, c) && same_basic(b, d),
-        (Basic::List(a), Basic::List(b)) => same_basic(a, b),
-        _ => false,
-    }
-}
-
-fn same_slot(a: &Slot, b: &Slot) -> bool
-    ensures { IsTrue result ↔ (slot_term a.now ≡ slot_term b.now) }
-{
-    match (a, b) {
-        (Slot::Plain(v), Slot::Plain(w)) => same_value(v, w),
-        (Slot::Place(n), Slot::Place(m)) => n == m,
-        _ => false,
-    }
-}
-
-fn same_slots(xs: &[Slot], ys: &[Slot]) -> bool
-    ensures { IsTrue result ↔ (map slot_term xs.now ≡ map slot_term ys.now) }
-{
-    if xs.len() != ys.len() {
-        return false;
-    }
-    for (i, x) in xs.iter().enumerate() {
-        if !same_slot(x, &ys[i]) {
-            return false;
-        }
-    }
-    true
-}
-
-fn same_cont(a: &Cont, b: &Cont) -> bool
-    ensures { IsTrue result ↔ (cont_term a.now ≡ cont_term b.now) }
-{
-    a.body == b.body && same_slots(a.slots.as_slice(), b.slots.as_slice())
-}
-
-fn same_delay(a: &Delay, b: &Delay) -> bool
-    ensures { IsTrue result ↔ (delay_term a.now ≡ delay_term b.now) }
-{
-    a.body == b.body && same_slots(a.slots.as_slice(), b.slots.as_slice())
-}
-
-fn same_tree(a: &Tree, b: &Tree) -> bool
-    ensures { IsTrue result ↔ (tree_term a.now ≡ tree_term b.now) }
-{
-    match (a, b) {
-        (Tree::Edit(a, v), Tree::Edit(b, w)) => same_basic(a, b) && same_value(v, w),
-        (Tree::Enter(a), Tree::Enter(b)) => same_basic(a, b),
-        (Tree::Share(a, n), Tree::Share(b, m)) => same_basic(a, b) && n == m,
-        (Tree::Then(t, k), Tree::Then(u, j)) => same_tree(t, u) && same_cont(k, j),
-        (Tree::Next(t, k), Tree::Next(u, j)) => same_tree(t, u) && same_cont(k, j),
-        (Tree::Fail, Tree::Fail) => true,
-        (Tree::And(t, u), Tree::And(v, w)) => same_tree(t, v) && same_tree(u, w),
-        (Tree::Or(t, u), Tree::Or(v, w)) => same_tree(t, v) && same_tree(u, w),
-        (Tree::Xor(j, k), Tree::Xor(l, m)) => same_delay(j, l) && same_delay(k, m),
-        _ => false,
-    }
-}
+use host_eval::same_values;
+use task_model::{Tree, Value};
+use task_tree::same;
 
 /// Whether a tree and a store are the same as others.
 pub fn same_state(t: &Tree, store: &[Value], u: &Tree, held: &[Value]) -> bool
     ensures { IsTrue result ↔ (at (tree_term t.now) (map value_term store.now) ≡ at (tree_term u.now) (map value_term held.now)) }
 {
-    same_tree(t, u) && same_values(store, held)
+    same(t, u) && same_values(store, held)
 }

@@ -1,4 +1,5 @@
 use Rattle.std.proofs.Common.{◌≡◌, ◌++◌, ◌∷◌, [], Ok, List, map, sym, ap, ◌∙◌, refl, rules}
+use Rattle.task_model.specs.Rowed.{Rowed}
 use Rattle.task_model.specs.Value.{value_term}
 use Rattle.task_model.specs.Env.{plain_slot, slot_term}
 use Rattle.task_model.specs.declared.env.Slot.{Slot}
@@ -10,7 +11,8 @@ use Rattle.task_model.specs.Rules.{branch, fired, value_of}
 use Rattle.task_model.specs.declared.purse.Stop.TheVariants.{Over}
 use Rattle.task_model.proofs.RanLemmas.{stopped, ran_give, ran_ask, ran_ask_stops, ran_last, ran_after, ran_after_stops, ran_last_stride, ran_more_strides, ran_stride_stops, ran_strides_unpaid, asked_rule, asked_rule_stops}
 use Rattle.plain_values.specs.GivenRules.{rules_term}
-use Rattle.plain_values.proofs.RunLemmas.{ran_is, ran_known_ok, ran_known_stops}
+use Rattle.host_eval.proofs.RunLemmas.{ran_is, ran_known_ok}
+use Rattle.plain_values.proofs.RunLemmas.{ran_known_stops}
 use Rattle.plain_tasks.proofs.TaskLemmas.{ran_made_at, asked_normal}
 use Rattle.plain_tasks.proofs.EngineLemmas.{tells_same, tells_other, at_both, ran_tested, ran_tested_stops, ran_applied, ran_applied_stops, keeps, with_some, with_none}
 use Rattle.plain_tasks.proofs.engine.+engine.Goals as goal
@@ -95,7 +97,7 @@ sides_fail-returns-else-first-clause-ran t c = ran_after _ c.in_ok-first.ensures
 -- ---- a side
 pub side_fails-returns-in_err-t-clause-ran : goal.side_fails-returns-in_err-t-clause-ran
 side_fails-returns-in_err-t-clause-ran t c =
-    let slots = c.in_ok-slots.ensures ∙ ap (map slot_term) c.as_slice.ensures in
+    let slots = c.in_ok-slots.ensures ∙ ap (map slot_term) (c.as_slice.ensures ∙ ap (λ (r : Rowed Slot). r.list) c.deref.ensures) in
     let trial = c.in_ok-trial.ensures in
     rw (stopped _ c.in_err-t.field-0.0 c.from_residual-in_err-t.ensures.1)
     (ran_tested_stops (rules_term c.args.rules.now) c.args.k.now.body _ _ _ _ slots trial
@@ -103,7 +105,7 @@ side_fails-returns-in_err-t-clause-ran t c =
 
 pub side_fails-returns-clause-ran : goal.side_fails-returns-clause-ran
 side_fails-returns-clause-ran t c =
-    let slots = c.in_ok-slots.ensures ∙ ap (map slot_term) c.as_slice.ensures in
+    let slots = c.in_ok-slots.ensures ∙ ap (map slot_term) (c.as_slice.ensures ∙ ap (λ (r : Rowed Slot). r.list) c.deref.ensures) in
     let trial = c.in_ok-trial.ensures in
     ran_tested (rules_term c.args.rules.now) c.args.k.now.body _ _ _ _ slots trial
     (λ u. at (tree_term u) (map value_term c.normal_body.new.store.list)) (λ b. b) (λ s no. give no) c.in_ok-t.ensures.ran
@@ -264,7 +266,8 @@ tried-returns-in_err-t-clause-ran t c =
     let k = cont_term c.args.k.now in
     let left = tree_term c.args.left in
     let v = value_term c.args.v in
-    let slots = c.in_ok-slots.ensures ∙ ap (λ (l : List Slot). map slot_term l ++ plain_slot v ∷ []) c.as_slice.ensures in
+    let slots = c.in_ok-slots.ensures ∙ ap (λ (l : List Slot). map slot_term l ++ plain_slot v ∷ [])
+    (c.as_slice.ensures ∙ ap (λ (r : Rowed Slot). r.list) c.deref.ensures) in
     let trial = c.in_ok-trial.ensures ∙ ap (map value_term) c.as_slice-2.ensures in
     let f : State → Plan State = λ s. ask (fails s) (λ no. branch no (give (at (then_tree left k) σ)) (give s)) in
     let made : tree.Tree → State = λ u. at (tree_term u) (map value_term c.applied.new.store.list) in
@@ -279,7 +282,8 @@ tried-returns-in_err-failing-clause-ran t c =
     let k = cont_term c.args.k.now in
     let left = tree_term c.args.left in
     let v = value_term c.args.v in
-    let slots = c.in_ok-slots.ensures ∙ ap (λ (l : List Slot). map slot_term l ++ plain_slot v ∷ []) c.as_slice.ensures in
+    let slots = c.in_ok-slots.ensures ∙ ap (λ (l : List Slot). map slot_term l ++ plain_slot v ∷ [])
+    (c.as_slice.ensures ∙ ap (λ (r : Rowed Slot). r.list) c.deref.ensures) in
     let trial = c.in_ok-trial.ensures ∙ ap (map value_term) c.as_slice-2.ensures in
     let f : State → Plan State = λ s. ask (fails s) (λ no. branch no (give (at (then_tree left k) σ)) (give s)) in
     let made : tree.Tree → State = λ u. at (tree_term u) (map value_term c.applied.new.store.list) in
@@ -295,7 +299,8 @@ tried-returns-in_ok-then_tree-clause-ran t c =
     let k = cont_term c.args.k.now in
     let left = tree_term c.args.left in
     let v = value_term c.args.v in
-    let slots = c.in_ok-slots.ensures ∙ ap (λ (l : List Slot). map slot_term l ++ plain_slot v ∷ []) c.as_slice.ensures in
+    let slots = c.in_ok-slots.ensures ∙ ap (λ (l : List Slot). map slot_term l ++ plain_slot v ∷ [])
+    (c.as_slice.ensures ∙ ap (λ (r : Rowed Slot). r.list) c.deref.ensures) in
     let trial = c.in_ok-trial.ensures ∙ ap (map value_term) c.as_slice-2.ensures in
     let f : State → Plan State = λ s. ask (fails s) (λ no. branch no (give (at (then_tree left k) σ)) (give s)) in
     let made : tree.Tree → State = λ u. at (tree_term u) (map value_term c.applied.new.store.list) in
@@ -311,7 +316,8 @@ tried-returns-else-failing-clause-ran t c =
     let k = cont_term c.args.k.now in
     let left = tree_term c.args.left in
     let v = value_term c.args.v in
-    let slots = c.in_ok-slots.ensures ∙ ap (λ (l : List Slot). map slot_term l ++ plain_slot v ∷ []) c.as_slice.ensures in
+    let slots = c.in_ok-slots.ensures ∙ ap (λ (l : List Slot). map slot_term l ++ plain_slot v ∷ [])
+    (c.as_slice.ensures ∙ ap (λ (r : Rowed Slot). r.list) c.deref.ensures) in
     let trial = c.in_ok-trial.ensures ∙ ap (map value_term) c.as_slice-2.ensures in
     let f : State → Plan State = λ s. ask (fails s) (λ no. branch no (give (at (then_tree left k) σ)) (give s)) in
     let made : tree.Tree → State = λ u. at (tree_term u) (map value_term c.applied.new.store.list) in

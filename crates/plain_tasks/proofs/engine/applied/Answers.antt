@@ -2,7 +2,8 @@ use Rattle.std.proofs.Common.{refl}
 use Rattle.task_model.specs.Task.{BodyTerm}
 use Rattle.task_model.specs.declared.purse.Stop.TheVariants.{Over}
 use Rattle.task_model.proofs.RanLemmas.{ran_last}
-use Rattle.plain_values.proofs.RunLemmas.{ran_known_ok, ran_known_stops}
+use Rattle.host_eval.proofs.RunLemmas.{ran_known_ok}
+use Rattle.plain_values.proofs.RunLemmas.{ran_known_stops}
 use Rattle.plain_tasks.proofs.TaskLemmas.{asked_task}
 use Rattle.plain_tasks.proofs.engine.applied.Goals as goal
 

@@ -8,13 +8,14 @@ use Rattle.task_model.specs.Env.{place_slot, env_term}
 use Rattle.task_model.specs.Host.{host_term}
 use Rattle.task_model.specs.Rules.{bound}
 use Rattle.plain_values.specs.Known.{Known}
-use Rattle.plain_values.specs.ValueWords.{opened_list}
+use Rattle.plain_values.specs.Opened.{opened_list}
 use Rattle.task_model.specs.Task.{task_term}
 use Rattle.task_model.specs.Tree.{tree_term, State, at}
 use Rattle.task_model.specs.Plan.{Plan, gives_value, evaluates, give, ask}
 use Rattle.task_model.proofs.RanLemmas.{stopped, ran_give, ran_ask, ran_ask_stops, ran_last, ran_after, ran_after_stops, ran_unit, asked_rule, asked_rule_stops}
 use Rattle.plain_values.specs.GivenRules.{rules_term}
-use Rattle.plain_values.proofs.RunLemmas.{ran_is, ran_known_ok, placed_is, ran_chosen, ran_chosen_stops, ran_matched, ran_matched_stops}
+use Rattle.host_eval.proofs.RunLemmas.{ran_is, ran_known_ok, placed_is, ran_chosen}
+use Rattle.plain_values.proofs.RunLemmas.{ran_chosen_stops, ran_matched, ran_matched_stops}
 use Rattle.plain_tasks.proofs.TaskLemmas.{ran_known_made, ran_made_at, share_is, asked_task, ran_call_task, ran_call_task_none}
 use Rattle.plain_tasks.proofs.evaluation.+evaluate.Goals as goal
 

@@ -1,6 +1,6 @@
 use Rattle.std.proofs.Common.{refl}
 use Rattle.task_model.proofs.RanLemmas.{stopped, ran_give, ran_ask, ran_ask_stops}
-use Rattle.plain_values.proofs.RunLemmas.{ran_known_ok}
+use Rattle.host_eval.proofs.RunLemmas.{ran_known_ok}
 use Rattle.plain_tasks.proofs.evaluation.edit_form.Goals as goal
 
 pub returns-in_err-v-clause-ran : goal.returns-in_err-v-clause-ran

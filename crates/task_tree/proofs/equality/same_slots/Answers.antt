@@ -1,7 +1,7 @@
 use Rattle.std.proofs.Common.{◌≡◌, ◌<◌, length, arith, true≢false, sym, ◌∙◌}
 use Rattle.task_model.specs.Env.{slot_term}
-use Rattle.plain_values.proofs.TermLemmas.{differ_at}
-use Rattle.plain_tasks.proofs.same.same_slots.Goals as goal
+use Rattle.host_eval.proofs.TermLemmas.{differ_at}
+use Rattle.task_tree.proofs.equality.same_slots.Goals as goal
 
 pub returns-then-not-same_slot : goal.returns-then-not-same_slot
 returns-then-not-same_slot c =

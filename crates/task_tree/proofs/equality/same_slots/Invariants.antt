@@ -1,6 +1,6 @@
 use Rattle.std.proofs.Common.{◌≡◌, map, take}
 use Rattle.task_model.specs.Env.{slot_term}
-use Rattle.plain_tasks.proofs.same.same_slots.Given as goal
+use Rattle.task_tree.proofs.equality.same_slots.Given as goal
 
 abbrev pub invariant-loop-i : goal.invariant-loop-i
 invariant-loop-i l = map slot_term (take l.i l.xs) ≡ map slot_term (take l.i l.ys)

@@ -1,0 +1,17 @@
+//! Trees: the value that one has, whether two are the same, the places that one speaks of, and one with another node at an address.
+//! No tree is changed: what is made anew shares all that it can.
+#![tactic(auto)]
+
+mod down;
+mod equality;
+mod feet;
+mod replacing;
+#[cfg(test)]
+mod tests;
+mod values;
+
+pub use down::Down;
+pub use equality::same;
+pub use feet::foot;
+pub use replacing::{node_at, replace};
+pub use values::{has_value, value};
