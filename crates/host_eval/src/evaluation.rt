@@ -44,8 +44,9 @@ pub fn eval<R: Reads>(
     value_at(alloc, checked, e, names, reads, purse)
 }
 
+/// The same within an evaluation, at the height that the purse has left.
 #[cycle(value)]
-fn value_at<R: Reads>(
+pub fn value_at<R: Reads>(
     alloc: Global,
     checked: &Checked,
     e: &Host,
@@ -405,9 +406,9 @@ fn call_at<R: Reads>(
     value_at(alloc, checked, body, &inner, reads, purse)
 }
 
-// The slots of arguments at parameters, in order.
+/// The slots of arguments at parameters, in order.
 #[cycle(value)]
-fn slots_at<R: Reads>(
+pub fn slots_at<R: Reads>(
     alloc: Global,
     checked: &Checked,
     args: &[Host],

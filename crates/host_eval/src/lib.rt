@@ -13,8 +13,9 @@ mod same;
 mod unary;
 
 pub use definitions::function_named;
-pub use evaluation::eval;
+pub use evaluation::{eval, slots_at, value_at};
 pub use head_and_tail::HeadAndTail;
+pub use lookups::{place_named, truth};
 pub use names::{Links, Names};
 pub use operators::{computed, decider, list_of, operated};
 pub use same::{same_value, same_values};

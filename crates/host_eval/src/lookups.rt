@@ -42,7 +42,7 @@ fn value_in(slot: &Slot) -> Result<Value, OutOfMemory>
 }
 
 /// The place that a name stands for.
-pub(crate) fn place_named(names: &Names, name: &TaskText) -> u64
+pub fn place_named(names: &Names, name: &TaskText) -> u64
     requires paired { IsPaired (names_term names.now) }
     requires named { IsSome (words.place_named (names_term names.now) name.now) }
     ensures { words.place_named (names_term names.now) name.now ≡ Some result }
@@ -98,7 +98,7 @@ pub(crate) fn callee<'a>(program: &'a Program, name: &TaskText) -> (&'a [Param],
 }
 
 /// The truth of a bool.
-pub(crate) fn truth(v: &Value) -> bool
+pub fn truth(v: &Value) -> bool
     requires fits { IsSome (words.truth_of (value_term v.now)) }
     ensures { words.truth_of (value_term v.now) ≡ Some result }
 {

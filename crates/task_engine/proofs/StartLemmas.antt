@@ -1,0 +1,34 @@
+-- Where bodies begin, by the table.
+use Rattle.std.proofs.Common.{◌≡◌, ℕ, zero, suc, ◌<◌, List, [], ◌∷◌, length, get_or, Some, refl, sym, ap, ◌∙◌, arith}
+use Rattle.std.specs.Prelude.{slice_get, IsSome}
+use Rattle.task_model.specs.Program.{ProgramTerm}
+use Rattle.task_model.specs.Checked.{body_first}
+use Rattle.task_model.specs.Placed.{firsts_of}
+use Rattle.task_model.specs.Written.{IsWritten}
+use Rattle.task_laws.proofs.TableLemmas.{nodes_before, entries}
+
+some_within : {X : Type 0} (xs : List X) (i : ℕ) → IsSome (slice_get xs i) → i < length xs
+some_within [] i e = absurd (cc)
+some_within (x ∷ xs) zero e = omega arith
+some_within (x ∷ xs) (suc i) e = let lt = some_within xs i e in omega (arith, lt)
+
+pub within_some : {X : Type 0} (xs : List X) (i : ℕ) → i < length xs → IsSome (slice_get xs i)
+within_some [] i lt = absurd (omega arith)
+within_some (x ∷ xs) zero lt = refl
+within_some (x ∷ xs) (suc i) lt = within_some xs i (omega arith)
+
+pub start_there : (p : ProgramTerm) → IsWritten p → (i : ℕ) → IsSome (slice_get p.bodies i) → (starts : List ℕ) → starts ≡ firsts_of p
+    → IsSome (slice_get starts i)
+start_there p w i e starts is =
+    let long = ap length is ∙ entries p w in
+    let lt = some_within p.bodies i e in
+    within_some starts i (omega (arith, long, lt))
+
+pub start_is : (p : ProgramTerm) → IsWritten p → (i n : ℕ) (starts : List ℕ) → starts ≡ firsts_of p → slice_get starts i ≡ Some n
+    → n ≡ body_first p i
+start_is p w i n starts is e = sym (nodes_before p w i n (sym (ap (λ l. slice_get l i) is) ∙ e))
+
+pub found_at : {X : Type 0} (xs : List X) (i : ℕ) (x : X) → slice_get xs i ≡ Some x → x ≡ get_or xs i x
+found_at [] i x e = absurd (cc)
+found_at (y ∷ ys) zero x e = let same : y ≡ x = cc in sym same
+found_at (y ∷ ys) (suc i) x e = found_at ys i x e

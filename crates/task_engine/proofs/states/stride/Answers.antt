@@ -1,0 +1,5 @@
+use Rattle.task_model.proofs.RanLemmas.{spends_asked}
+use Rattle.task_engine.proofs.states.stride.Goals as goal
+
+pub returns-clause-spends : goal.returns-clause-spends
+returns-clause-spends c = spends_asked c.stride_at.ensures.asked

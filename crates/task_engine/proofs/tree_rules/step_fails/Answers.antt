@@ -1,0 +1,41 @@
+use Rattle.std.proofs.Common.{◌++◌, ◌∷◌, [], Bool, map, ap, ◌∙◌}
+use Rattle.task_model.specs.Rowed.{Rowed}
+use Rattle.task_model.specs.Value.{value_term}
+use Rattle.task_model.specs.Env.{plain_slot, slot_term}
+use Rattle.task_model.specs.declared.env.Slot.{Slot}
+use Rattle.task_model.specs.Task.{BodyTerm, body_term}
+use Rattle.task_model.specs.Tree.{cont_term}
+use Rattle.task_model.specs.Checked.{checked_term}
+use Rattle.task_model.specs.Plan.{fails, normal, Plan, give, ask}
+use Rattle.task_model.specs.Rules.{opened_env}
+use Rattle.host_eval.proofs.RunLemmas.{ran_known_ok}
+use Rattle.host_eval.proofs.WellLemmas.{well_found}
+use Rattle.typing_laws.proofs.CallLemmas.{well_known}
+use Rattle.task_engine.proofs.StrideLemmas.{step_env}
+use Rattle.task_engine.proofs.tree_rules.step_fails.Goals as goal
+
+pub body-own-requires : goal.body-own-requires
+body-own-requires c =
+    well_found _ _ c.requires.well
+
+pub body_first-requires : goal.body_first-requires
+body_first-requires c =
+    well_found _ _ c.requires.well
+
+pub binder_of-requires : goal.binder_of-requires
+binder_of-requires c =
+    c.requires.bound _ c.body-own.ensures
+
+pub tested-requires-clause-well : goal.tested-requires-clause-well
+tested-requires-clause-well c =
+    let slots = ap (map slot_term) (c.as_slice.ensures ∙ ap (λ (r : Rowed Slot). r.list) c.deref.ensures) in
+    let env = step_env (checked_term c.args.engine.now) c.args.k.now.body (body_term c.body-own.result.now) _ _ (cont_term c.args.k.now).slots _ _ _ _ c.with-names.ensures c.of_scope-outer.ensures c.binder_of.ensures slots c.body_first.ensures in
+    let f : BodyTerm → Plan Bool = λ b. ask (normal b.task (opened_env (checked_term c.args.engine.now) c.args.k.now.body b ((cont_term c.args.k.now).slots ++ plain_slot (value_term c.args.v) ∷ [])) (map value_term c.args.store.now.list)) (λ s. ask (fails s) give) in
+    rw env (well_known _ f _ c.body-own.ensures c.requires.well)
+
+pub returns-clause-ran : goal.returns-clause-ran
+returns-clause-ran c =
+    let slots = ap (map slot_term) (c.as_slice.ensures ∙ ap (λ (r : Rowed Slot). r.list) c.deref.ensures) in
+    let env = step_env (checked_term c.args.engine.now) c.args.k.now.body (body_term c.body-own.result.now) _ _ (cont_term c.args.k.now).slots _ _ _ _ c.with-names.ensures c.of_scope-outer.ensures c.binder_of.ensures slots c.body_first.ensures in
+    let f : BodyTerm → Plan Bool = λ b. ask (normal b.task (opened_env (checked_term c.args.engine.now) c.args.k.now.body b ((cont_term c.args.k.now).slots ++ plain_slot (value_term c.args.v) ∷ [])) (map value_term c.args.store.now.list)) (λ s. ask (fails s) give) in
+    ran_known_ok f c.body-own.ensures (rw env at c.tested.ensures.ran)

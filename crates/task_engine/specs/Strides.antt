@@ -1,0 +1,45 @@
+-- What strides and trials answer.
+use Rattle.std.specs.Prelude.{◌≡◌, ℕ, List, map, Option, Some, None, Result, Ok, Err, ◌⊎◌, slice_get, IsSome}
+use Rattle.task_model.specs.Value.{ValueTerm, value_term}
+use Rattle.task_model.specs.declared.value.Value.{Value}
+use Rattle.task_model.specs.declared.purse.Stop.{Stop}
+use Rattle.task_model.specs.Task.{BodyTerm}
+use Rattle.task_model.specs.Tree.{LaterTerm, TreeTerm, then_tree, tree_term, State, at}
+use Rattle.task_model.specs.Checked.{CheckedTerm}
+use Rattle.task_model.specs.Plan.{fails, Plan, give, ask}
+use Rattle.task_model.specs.Rules.{branch, applied}
+use Rattle.task_model.specs.declared.tree.Tree.{Tree}
+
+-- the tree after a stride: where nothing is answered it is the one that stood there
+abbrev pub after_stride : TreeTerm → Option Tree → TreeTerm
+after_stride t None = t
+after_stride t (Some u) = tree_term u
+
+-- a state where there is a tree
+abbrev pub state_at : List ValueTerm → Option Tree → Option State
+state_at σ None = None
+state_at σ (Some u) = Some (at (tree_term u) σ)
+
+-- a cont at a value, and none where what it leads to is failing
+abbrev pub attempt : CheckedTerm → LaterTerm → ValueTerm → List ValueTerm → Plan (Option State)
+attempt c k v σ = applied c k v σ (λ s. ask (fails s) (λ no. branch no (give None) (give (Some s))))
+
+-- what becomes of an internal step by such an answer
+abbrev pub after_attempt : LaterTerm → State → Option State → Plan State
+after_attempt k s None = give (at (then_tree s.tree k) s.store)
+after_attempt k s (Some s') = give s'
+
+-- the body of a step binds a name, and the body of a side of a choice none
+abbrev pub Binds : CheckedTerm → ℕ → Type 0
+Binds c i = (b : BodyTerm) → slice_get c.program.bodies i ≡ Some b → IsSome b.binder
+
+abbrev pub BindsNone : CheckedTerm → ℕ → Type 0
+BindsNone c i = (b : BodyTerm) → slice_get c.program.bodies i ≡ Some b → b.binder ≡ None
+
+-- what is answered of a stride from a tree over these values: nothing where tree and values are as they were
+abbrev pub AnswersStride : TreeTerm → List Value → List Value → Result (Option Tree) Stop → Result (Option Tree) Stop → Type 0
+AnswersStride t σ τ (Err s) r = r ≡ Err s
+AnswersStride t σ τ (Ok None) r = r ≡ Ok None
+AnswersStride t σ τ (Ok (Some u)) r =
+    ((r ≡ Ok None) × (at (tree_term u) (map value_term τ) ≡ at t (map value_term σ)))
+    ⊎ ((r ≡ Ok (Some u)) × (at (tree_term u) (map value_term τ) ≡ at t (map value_term σ) → ⊥))

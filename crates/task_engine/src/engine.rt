@@ -1,0 +1,125 @@
+ghost use Rattle.std.specs.Prelude.{◌≡◌, ◌<◌, IfOk, IsSome, Some, slice_get};
+ghost use Rattle.task_model.specs.Basic.{basic_term};
+ghost use Rattle.task_model.specs.Task.{body_term, task_term};
+ghost use Rattle.task_model.specs.Program.{program_term};
+ghost use Rattle.task_model.specs.Checked as checked;
+ghost use Rattle.task_model.specs.Checked.{checked_term};
+ghost use Rattle.task_engine.specs.Called.{seen_callee};
+
+use crate::callee::{Callee, callee_in};
+use crate::counts::{nodes_in, number_at};
+use crate::tables::{counts_of, definitions_of, starts_of};
+use std::alloc::Global;
+use std::marker::Model;
+use task_model::{Basic, Body, Checked, OutOfMemory, Row, Task, TaskText, copy_basic};
+
+/// An accepted program, with where its `edit` and `share` nodes stand: how many each body has, and how many stand before
+/// each definition.
+#[derive(Drop)]
+pub struct Engine {
+    alloc: Global,
+    checked: Checked,
+    nodes: Vec<u64>,
+    definitions: Row<u64>,
+    starts: Row<u64>,
+}
+
+impl Model for Engine {
+    ghost use Rattle.std.specs.Prelude.{◌≡◌};
+    ghost use Rattle.task_model.specs.Checked.{SeenChecked, counts_of};
+    ghost use Rattle.task_model.specs.Program.{program_term, def_term};
+    ghost use Rattle.task_model.specs.contracts.checked.Checked as checkeds;
+    ghost use Rattle.task_engine.specs.Tables.{AreTables};
+
+    ghost Value = { SeenChecked };
+
+    ghost coded = { checkeds.the_row.coded };
+
+    ghost view = { λ e. e.checked };
+
+    ghost invariant = { λ e. AreTables (program_term e.checked.program) e.nodes.items e.definitions.list e.starts.list };
+}
+
+impl Engine {
+    /// The tables are made in one walk of the program.
+    pub fn new(alloc: Global, checked: Checked) -> Result<Engine, OutOfMemory>
+        ensures { IfOk result (λ e. e ≡ checked) }
+    {
+        let program = checked.program();
+        let nodes = counts_of(alloc, program.bodies.as_slice())?;
+        let definitions = definitions_of(alloc, nodes.as_slice(), program.defs.as_slice())?;
+        let starts = starts_of(alloc, program)?;
+        Ok(Engine {
+            alloc,
+            checked,
+            nodes,
+            definitions,
+            starts,
+        })
+    }
+
+    pub fn checked(&self) -> &Checked
+        ensures { result.now ≡ self.now }
+    {
+        &self.checked
+    }
+
+    pub fn alloc(&self) -> Global {
+        self.alloc
+    }
+
+    /// How many nodes a task has, where their number fits 64 bits.
+    pub(crate) fn nodes_of(&self, t: &Task) -> u64
+        requires fits { checked.nodes_of (program_term self.now.program) (task_term t.now) < 18446744073709551616 }
+        ensures { result ≡ checked.nodes_of (program_term self.now.program) (task_term t.now) }
+    {
+        match nodes_in(self.nodes.as_slice(), 0, t) {
+            Ok(n) => n,
+            Err(_) => unreachable!(),
+        }
+    }
+
+    /// A body of the program.
+    pub(crate) fn body(&self, body: u32) -> &Body
+        requires { IsSome (slice_get (checked_term self.now).program.bodies body) }
+        ensures { slice_get (checked_term self.now).program.bodies body ≡ Some (body_term result.now) }
+    {
+        match self.checked.program().bodies.as_slice().get(body as usize) {
+            Some(own) => own,
+            None => unreachable!(),
+        }
+    }
+
+    /// How many `edit` and `share` nodes stand before a body.
+    pub(crate) fn body_first(&self, body: u32) -> u64
+        requires { IsSome (slice_get (checked_term self.now).program.bodies body) }
+        ensures { result ≡ checked.body_first (program_term self.now.program) body }
+    {
+        // The program of a checked one is written, so the table has an entry for each body.
+        let _accepted = self.checked.program();
+        number_at(self.starts.as_slice(), body as usize)
+    }
+
+    /// The type of a node.
+    pub(crate) fn node_type(&self, node: u64) -> Result<Basic, OutOfMemory>
+        requires { IsSome (slice_get (checked_term self.now).types node) }
+        ensures { IfOk result (λ b. slice_get (checked_term self.now).types node ≡ Some (basic_term b)) }
+    {
+        match self.checked.types().get(node as usize) {
+            Some(b) => copy_basic(b),
+            None => unreachable!(),
+        }
+    }
+
+    /// The task that a call names.
+    pub(crate) fn task_named(&self, name: &TaskText) -> Callee<'_>
+        requires { IsSome (checked.task_named (program_term self.now.program) name.now) }
+        ensures { checked.task_named (program_term self.now.program) name.now ≡ Some (seen_callee result) }
+    {
+        let defs = self.checked.program().defs.as_slice();
+        match callee_in(defs, self.definitions.as_slice(), name) {
+            Some(callee) => callee,
+            None => unreachable!(),
+        }
+    }
+}

@@ -1,0 +1,438 @@
+ghost use Rattle.std.specs.Prelude.{◌≡◌, ◌-◌, ◌≤◌, [], length, map, slice_get, IfOk, IsSome, OnOk, Some};
+ghost use Rattle.task_model.specs.Value.{value_term};
+ghost use Rattle.task_model.specs.Env.{slot_term};
+ghost use Rattle.task_model.specs.Host.{host_term};
+ghost use Rattle.task_model.specs.Program.{param_term};
+ghost use Rattle.task_model.specs.Task as tasks;
+ghost use Rattle.task_model.specs.Task.{task_term};
+ghost use Rattle.task_model.specs.Tree.{tree_term, at};
+ghost use Rattle.task_model.specs.Accepted.{IsAccepted};
+ghost use Rattle.task_model.specs.Checked.{checked_term, nodes_of};
+ghost use Rattle.task_model.specs.Plan.{gives_value, evaluates};
+ghost use Rattle.task_model.specs.Rules.{evaluate_rule, later_by, slots_for};
+ghost use Rattle.task_model.specs.Judgements.{Evaluates};
+ghost use Rattle.task_model.specs.Spends.{Spends};
+ghost use Rattle.task_model.specs.Calls.{RunsJudgement, RunsPlan};
+ghost use Rattle.typing_laws.specs.Well.{MayAsk, Well};
+ghost use Rattle.host_eval.specs.NamesTerm.{IsPaired, names_term};
+ghost use Rattle.task_engine.specs.Called.{task_call_plan, seen_callee};
+ghost use Rattle.task_engine.specs.Steps.{share_tree_at};
+
+use crate::callee::Callee;
+use crate::engine::Engine;
+use crate::kept::{and_tree, enter_tree, next_later, or_tree, then_later, xor_later};
+use host_eval::{HeadAndTail, Names, place_named, slots_at, truth, value_at};
+use shared_store::Store;
+use task_model::{Host, OutOfMemory, Param, Purse, Row, Slot, Stop, Task, TaskText, Tree, Value};
+
+/// The tree of a task, with the task's effects on the store. `Over` comes where no derivation is within the purse. After a
+/// stop the layers stand as before.
+pub fn evaluate(
+    engine: &Engine,
+    t: &Task,
+    names: &Names,
+    store: &mut Store<Value>,
+    purse: &mut Purse,
+) -> Result<Tree, Stop>
+    requires may { MayAsk (checked_term engine.now) (evaluates (task_term t.now) (names_term names.now) (map value_term store.old.list)) }
+    ensures layers { store.new.layers ≡ store.old.layers }
+    ensures spends { Spends (Evaluates (checked_term engine.now) (task_term t.now) (names_term names.now) (map value_term store.old.list)) (λ u. at (tree_term u) (map value_term store.new.list)) purse.old purse.new result }
+{
+    // The program of an engine is accepted.
+    let _accepted = engine.checked().program();
+    evaluate_at(engine, t, names, store, purse)
+}
+
+#[cycle(evaluate)]
+pub(crate) fn evaluate_at(
+    engine: &Engine,
+    t: &Task,
+    names: &Names,
+    store: &mut Store<Value>,
+    purse: &mut Purse,
+) -> Result<Tree, Stop>
+    requires accepted { IsAccepted (checked_term engine.now) }
+    requires may { MayAsk (checked_term engine.now) (evaluates (task_term t.now) (names_term names.now) (map value_term store.old.list)) }
+    ensures height { OnOk result (purse.new.height ≡ purse.old.height) }
+    ensures layers { store.new.layers ≡ store.old.layers }
+    ensures asked { RunsJudgement (checked_term engine.now) (evaluates (task_term t.now) (names_term names.now) (map value_term store.old.list)) (λ u. at (tree_term u) (map value_term store.new.list)) purse.old purse.new result }
+{
+    let height = purse.height_left();
+    purse.enter()?;
+    let u = evaluate_form(engine, t, names, store, purse)?;
+    purse.leave(height);
+    Ok(u)
+}
+
+// One form, under its rule.
+#[cycle(evaluate)]
+fn evaluate_form(
+    engine: &Engine,
+    t: &Task,
+    names: &Names,
+    store: &mut Store<Value>,
+    purse: &mut Purse,
+) -> Result<Tree, Stop>
+    requires accepted { IsAccepted (checked_term engine.now) }
+    requires may { MayAsk (checked_term engine.now) (evaluates (task_term t.now) (names_term names.now) (map value_term store.old.list)) }
+    ensures height { OnOk result (purse.new.height ≡ purse.old.height) }
+    ensures layers { store.new.layers ≡ store.old.layers }
+    ensures ran { RunsPlan (checked_term engine.now) (evaluate_rule (checked_term engine.now) (task_term t.now) (names_term names.now) (map value_term store.old.list)) (λ u. at (tree_term u) (map value_term store.new.list)) purse.old purse.new result }
+{
+    match t {
+        Task::Edit(e) => edit_form(engine, e, names, store, purse),
+        Task::Enter(b) => Ok(enter_tree(b)?),
+        Task::Share(name) => Ok(share_form(engine, name, names)?),
+        Task::Fail(_) => Ok(Tree::Fail),
+        Task::Call { name, args } => {
+            call_form(engine, name, args.as_slice(), names, store, purse)
+        }
+        Task::Then { left, body } => then_form(engine, left, *body, names, store, purse),
+        Task::Next { left, body } => next_form(engine, left, *body, names, store, purse),
+        Task::And(a, b) => and_form(engine, a, b, names, store, purse),
+        Task::Or(a, b) => or_form(engine, a, b, names, store, purse),
+        Task::Xor { left, right } => Ok(xor_later(engine.alloc(), *left, *right, names)?),
+        Task::Let { name, bound, rest } => let_form(engine, name, bound, rest, names, store, purse),
+        Task::If { test, yes, no } => if_form(engine, test, yes, no, names, store, purse),
+        Task::Case {
+            list,
+            empty,
+            head,
+            tail,
+            more,
+        } => case_form(engine, list, empty, head, tail, more, names, store, purse),
+        Task::New { name, init, rest } => new_form(engine, name, init, rest, names, store, purse),
+        Task::Put { name, value, rest } => put_form(engine, name, value, rest, names, store, purse),
+    }
+}
+
+// The value of an expression.
+fn host_value(
+    engine: &Engine,
+    e: &Host,
+    names: &Names,
+    store: &Store<Value>,
+    purse: &mut Purse,
+) -> Result<Value, Stop>
+    requires accepted { IsAccepted (checked_term engine.now) }
+    requires may { MayAsk (checked_term engine.now) (gives_value (host_term e.now) (names_term names.now) (map value_term store.now.list)) }
+    ensures height { OnOk result (purse.new.height ≡ purse.old.height) }
+    ensures asked { RunsJudgement (checked_term engine.now) (gives_value (host_term e.now) (names_term names.now) (map value_term store.now.list)) value_term purse.old purse.new result }
+{
+    value_at(engine.alloc(), engine.checked(), e, names, store, purse)
+}
+
+// The slots of arguments.
+fn argument_slots(
+    engine: &Engine,
+    args: &[Host],
+    params: &[Param],
+    names: &Names,
+    store: &Store<Value>,
+    purse: &mut Purse,
+) -> Result<Row<Slot>, Stop>
+    requires accepted { IsAccepted (checked_term engine.now) }
+    requires well { Well (checked_term engine.now) (slots_for (names_term names.now) (map value_term store.now.list) [] (map host_term args.now) (map param_term params.now)) }
+    requires paired { IsPaired (names_term names.now) }
+    ensures height { OnOk result (purse.new.height ≡ purse.old.height) }
+    ensures ran { RunsPlan (checked_term engine.now) (slots_for (names_term names.now) (map value_term store.now.list) [] (map host_term args.now) (map param_term params.now)) (λ r. map slot_term r.list) purse.old purse.new result }
+{
+    slots_at(
+        engine.alloc(),
+        engine.checked(),
+        args,
+        params,
+        names,
+        store,
+        purse,
+    )
+}
+
+// The environment of what follows a task.
+fn names_after<'e>(engine: &Engine, t: &Task, names: &Names<'e>) -> Names<'e>
+    requires within { nodes_of (checked_term engine.now).program (task_term t.now) ≤ length (checked_term engine.now).types - (names_term names.now).first }
+    ensures { names_term result ≡ later_by (nodes_of (checked_term engine.now).program (task_term t.now)) (names_term names.now) }
+{
+    // So many types fit 64 bits.
+    let _types = engine.checked().types().len();
+    let nodes = engine.nodes_of(t);
+    Names {
+        links: names.links,
+        first: names.first + nodes,
+    }
+}
+
+fn edit_form(
+    engine: &Engine,
+    e: &Host,
+    names: &Names,
+    store: &Store<Value>,
+    purse: &mut Purse,
+) -> Result<Tree, Stop>
+    requires accepted { IsAccepted (checked_term engine.now) }
+    requires may { MayAsk (checked_term engine.now) (evaluates (tasks.edit (host_term e.now)) (names_term names.now) (map value_term store.now.list)) }
+    ensures height { OnOk result (purse.new.height ≡ purse.old.height) }
+    ensures ran { RunsPlan (checked_term engine.now) (evaluate_rule (checked_term engine.now) (tasks.edit (host_term e.now)) (names_term names.now) (map value_term store.now.list)) (λ u. at (tree_term u) (map value_term store.now.list)) purse.old purse.new result }
+{
+    let b = engine.node_type(names.first)?;
+    let v = host_value(engine, e, names, store, purse)?;
+    Ok(Tree::Edit(b, v))
+}
+
+fn share_form(engine: &Engine, name: &TaskText, names: &Names) -> Result<Tree, OutOfMemory>
+    requires paired { IsPaired (names_term names.now) }
+    requires known { IsSome (share_tree_at (slice_get (checked_term engine.now).types (names_term names.now).first) (names_term names.now) name.now) }
+    ensures { IfOk result (λ t. share_tree_at (slice_get (checked_term engine.now).types (names_term names.now).first) (names_term names.now) name.now ≡ Some (tree_term t)) }
+{
+    let b = engine.node_type(names.first)?;
+    Ok(Tree::Share(b, place_named(names, name)))
+}
+
+#[cycle(evaluate)]
+fn then_form(
+    engine: &Engine,
+    left: &Task,
+    body: u32,
+    names: &Names,
+    store: &mut Store<Value>,
+    purse: &mut Purse,
+) -> Result<Tree, Stop>
+    requires accepted { IsAccepted (checked_term engine.now) }
+    requires may { MayAsk (checked_term engine.now) (evaluates (tasks.then_task (task_term left.now) body) (names_term names.now) (map value_term store.old.list)) }
+    ensures height { OnOk result (purse.new.height ≡ purse.old.height) }
+    ensures layers { store.new.layers ≡ store.old.layers }
+    ensures ran { RunsPlan (checked_term engine.now) (evaluate_rule (checked_term engine.now) (tasks.then_task (task_term left.now) body) (names_term names.now) (map value_term store.old.list)) (λ u. at (tree_term u) (map value_term store.new.list)) purse.old purse.new result }
+{
+    let left = evaluate_at(engine, left, names, store, purse)?;
+    Ok(then_later(engine.alloc(), left, body, names)?)
+}
+
+#[cycle(evaluate)]
+fn next_form(
+    engine: &Engine,
+    left: &Task,
+    body: u32,
+    names: &Names,
+    store: &mut Store<Value>,
+    purse: &mut Purse,
+) -> Result<Tree, Stop>
+    requires accepted { IsAccepted (checked_term engine.now) }
+    requires may { MayAsk (checked_term engine.now) (evaluates (tasks.next_task (task_term left.now) body) (names_term names.now) (map value_term store.old.list)) }
+    ensures height { OnOk result (purse.new.height ≡ purse.old.height) }
+    ensures layers { store.new.layers ≡ store.old.layers }
+    ensures ran { RunsPlan (checked_term engine.now) (evaluate_rule (checked_term engine.now) (tasks.next_task (task_term left.now) body) (names_term names.now) (map value_term store.old.list)) (λ u. at (tree_term u) (map value_term store.new.list)) purse.old purse.new result }
+{
+    let left = evaluate_at(engine, left, names, store, purse)?;
+    Ok(next_later(engine.alloc(), left, body, names)?)
+}
+
+#[cycle(evaluate)]
+fn and_form(
+    engine: &Engine,
+    a: &Task,
+    b: &Task,
+    names: &Names,
+    store: &mut Store<Value>,
+    purse: &mut Purse,
+) -> Result<Tree, Stop>
+    requires accepted { IsAccepted (checked_term engine.now) }
+    requires may { MayAsk (checked_term engine.now) (evaluates (tasks.and_task (task_term a.now) (task_term b.now)) (names_term names.now) (map value_term store.old.list)) }
+    ensures height { OnOk result (purse.new.height ≡ purse.old.height) }
+    ensures layers { store.new.layers ≡ store.old.layers }
+    ensures ran { RunsPlan (checked_term engine.now) (evaluate_rule (checked_term engine.now) (tasks.and_task (task_term a.now) (task_term b.now)) (names_term names.now) (map value_term store.old.list)) (λ u. at (tree_term u) (map value_term store.new.list)) purse.old purse.new result }
+{
+    let after = names_after(engine, a, names);
+    let t = evaluate_at(engine, a, names, store, purse)?;
+    let u = evaluate_at(engine, b, &after, store, purse)?;
+    Ok(and_tree(engine.alloc(), t, u)?)
+}
+
+#[cycle(evaluate)]
+fn or_form(
+    engine: &Engine,
+    a: &Task,
+    b: &Task,
+    names: &Names,
+    store: &mut Store<Value>,
+    purse: &mut Purse,
+) -> Result<Tree, Stop>
+    requires accepted { IsAccepted (checked_term engine.now) }
+    requires may { MayAsk (checked_term engine.now) (evaluates (tasks.or_task (task_term a.now) (task_term b.now)) (names_term names.now) (map value_term store.old.list)) }
+    ensures height { OnOk result (purse.new.height ≡ purse.old.height) }
+    ensures layers { store.new.layers ≡ store.old.layers }
+    ensures ran { RunsPlan (checked_term engine.now) (evaluate_rule (checked_term engine.now) (tasks.or_task (task_term a.now) (task_term b.now)) (names_term names.now) (map value_term store.old.list)) (λ u. at (tree_term u) (map value_term store.new.list)) purse.old purse.new result }
+{
+    let after = names_after(engine, a, names);
+    let t = evaluate_at(engine, a, names, store, purse)?;
+    let u = evaluate_at(engine, b, &after, store, purse)?;
+    Ok(or_tree(engine.alloc(), t, u)?)
+}
+
+#[cycle(evaluate)]
+fn let_form(
+    engine: &Engine,
+    name: &TaskText,
+    e: &Host,
+    rest: &Task,
+    names: &Names,
+    store: &mut Store<Value>,
+    purse: &mut Purse,
+) -> Result<Tree, Stop>
+    requires accepted { IsAccepted (checked_term engine.now) }
+    requires may { MayAsk (checked_term engine.now) (evaluates (tasks.let_task name.now (host_term e.now) (task_term rest.now)) (names_term names.now) (map value_term store.old.list)) }
+    ensures height { OnOk result (purse.new.height ≡ purse.old.height) }
+    ensures layers { store.new.layers ≡ store.old.layers }
+    ensures ran { RunsPlan (checked_term engine.now) (evaluate_rule (checked_term engine.now) (tasks.let_task name.now (host_term e.now) (task_term rest.now)) (names_term names.now) (map value_term store.old.list)) (λ u. at (tree_term u) (map value_term store.new.list)) purse.old purse.new result }
+{
+    let v = host_value(engine, e, names, store, purse)?;
+    let slot = Slot::Plain(v);
+    let inner = (&*names).with(&*name, &slot);
+    evaluate_at(engine, rest, &inner, store, purse)
+}
+
+#[cycle(evaluate)]
+fn if_form(
+    engine: &Engine,
+    test: &Host,
+    yes: &Task,
+    no: &Task,
+    names: &Names,
+    store: &mut Store<Value>,
+    purse: &mut Purse,
+) -> Result<Tree, Stop>
+    requires accepted { IsAccepted (checked_term engine.now) }
+    requires may { MayAsk (checked_term engine.now) (evaluates (tasks.if_task (host_term test.now) (task_term yes.now) (task_term no.now)) (names_term names.now) (map value_term store.old.list)) }
+    ensures height { OnOk result (purse.new.height ≡ purse.old.height) }
+    ensures layers { store.new.layers ≡ store.old.layers }
+    ensures ran { RunsPlan (checked_term engine.now) (evaluate_rule (checked_term engine.now) (tasks.if_task (host_term test.now) (task_term yes.now) (task_term no.now)) (names_term names.now) (map value_term store.old.list)) (λ u. at (tree_term u) (map value_term store.new.list)) purse.old purse.new result }
+{
+    let v = host_value(engine, test, names, store, purse)?;
+    let holds = truth(&v);
+    if holds {
+        evaluate_at(engine, yes, names, store, purse)
+    } else {
+        let after = names_after(engine, yes, names);
+        evaluate_at(engine, no, &after, store, purse)
+    }
+}
+
+#[cycle(evaluate)]
+fn case_form(
+    engine: &Engine,
+    list: &Host,
+    empty: &Task,
+    head: &TaskText,
+    tail: &TaskText,
+    more: &Task,
+    names: &Names,
+    store: &mut Store<Value>,
+    purse: &mut Purse,
+) -> Result<Tree, Stop>
+    requires accepted { IsAccepted (checked_term engine.now) }
+    requires may { MayAsk (checked_term engine.now) (evaluates (tasks.case_task (host_term list.now) (task_term empty.now) head.now tail.now (task_term more.now)) (names_term names.now) (map value_term store.old.list)) }
+    ensures height { OnOk result (purse.new.height ≡ purse.old.height) }
+    ensures layers { store.new.layers ≡ store.old.layers }
+    ensures ran { RunsPlan (checked_term engine.now) (evaluate_rule (checked_term engine.now) (tasks.case_task (host_term list.now) (task_term empty.now) head.now tail.now (task_term more.now)) (names_term names.now) (map value_term store.old.list)) (λ u. at (tree_term u) (map value_term store.new.list)) purse.old purse.new result }
+{
+    let v = host_value(engine, list, names, store, purse)?;
+    let parts = HeadAndTail::of(engine.alloc(), &v)?;
+    match parts {
+        None => evaluate_at(engine, empty, names, store, purse),
+        Some(parts) => {
+            let first = Slot::Plain(parts.head);
+            let rest = Slot::Plain(parts.tail);
+            let after = names_after(engine, empty, names);
+            let outer = after.with(&*head, &first);
+            let inner = outer.with(&*tail, &rest);
+            evaluate_at(engine, more, &inner, store, purse)
+        }
+    }
+}
+
+#[cycle(evaluate)]
+fn new_form(
+    engine: &Engine,
+    name: &TaskText,
+    e: &Host,
+    rest: &Task,
+    names: &Names,
+    store: &mut Store<Value>,
+    purse: &mut Purse,
+) -> Result<Tree, Stop>
+    requires accepted { IsAccepted (checked_term engine.now) }
+    requires may { MayAsk (checked_term engine.now) (evaluates (tasks.new_task name.now (host_term e.now) (task_term rest.now)) (names_term names.now) (map value_term store.old.list)) }
+    ensures height { OnOk result (purse.new.height ≡ purse.old.height) }
+    ensures layers { store.new.layers ≡ store.old.layers }
+    ensures ran { RunsPlan (checked_term engine.now) (evaluate_rule (checked_term engine.now) (tasks.new_task name.now (host_term e.now) (task_term rest.now)) (names_term names.now) (map value_term store.old.list)) (λ u. at (tree_term u) (map value_term store.new.list)) purse.old purse.new result }
+{
+    let v = host_value(engine, e, names, store, purse)?;
+    let place = store.grow(v)?;
+    let slot = Slot::Place(place);
+    let inner = (&*names).with(&*name, &slot);
+    evaluate_at(engine, rest, &inner, store, purse)
+}
+
+#[cycle(evaluate)]
+fn put_form(
+    engine: &Engine,
+    name: &TaskText,
+    e: &Host,
+    rest: &Task,
+    names: &Names,
+    store: &mut Store<Value>,
+    purse: &mut Purse,
+) -> Result<Tree, Stop>
+    requires accepted { IsAccepted (checked_term engine.now) }
+    requires may { MayAsk (checked_term engine.now) (evaluates (tasks.put_task name.now (host_term e.now) (task_term rest.now)) (names_term names.now) (map value_term store.old.list)) }
+    ensures height { OnOk result (purse.new.height ≡ purse.old.height) }
+    ensures layers { store.new.layers ≡ store.old.layers }
+    ensures ran { RunsPlan (checked_term engine.now) (evaluate_rule (checked_term engine.now) (tasks.put_task name.now (host_term e.now) (task_term rest.now)) (names_term names.now) (map value_term store.old.list)) (λ u. at (tree_term u) (map value_term store.new.list)) purse.old purse.new result }
+{
+    let place = place_named(names, name);
+    let v = host_value(engine, e, names, store, purse)?;
+    store.set(place, v)?;
+    evaluate_at(engine, rest, names, store, purse)
+}
+
+#[cycle(evaluate)]
+fn call_form(
+    engine: &Engine,
+    name: &TaskText,
+    args: &[Host],
+    names: &Names,
+    store: &mut Store<Value>,
+    purse: &mut Purse,
+) -> Result<Tree, Stop>
+    requires accepted { IsAccepted (checked_term engine.now) }
+    requires may { MayAsk (checked_term engine.now) (evaluates (tasks.call_task name.now (map host_term args.now)) (names_term names.now) (map value_term store.old.list)) }
+    ensures height { OnOk result (purse.new.height ≡ purse.old.height) }
+    ensures layers { store.new.layers ≡ store.old.layers }
+    ensures ran { RunsPlan (checked_term engine.now) (evaluate_rule (checked_term engine.now) (tasks.call_task name.now (map host_term args.now)) (names_term names.now) (map value_term store.old.list)) (λ u. at (tree_term u) (map value_term store.new.list)) purse.old purse.new result }
+{
+    let callee = engine.task_named(name);
+    call_at(engine, &callee, args, names, store, purse)
+}
+
+// A call of a task, for one unit.
+#[cycle(evaluate)]
+fn call_at(
+    engine: &Engine,
+    callee: &Callee,
+    args: &[Host],
+    names: &Names,
+    store: &mut Store<Value>,
+    purse: &mut Purse,
+) -> Result<Tree, Stop>
+    requires accepted { IsAccepted (checked_term engine.now) }
+    requires well { Well (checked_term engine.now) (task_call_plan (seen_callee callee.now) (map host_term args.now) (names_term names.now) (map value_term store.old.list)) }
+    requires paired { IsPaired (names_term names.now) }
+    ensures height { OnOk result (purse.new.height ≡ purse.old.height) }
+    ensures layers { store.new.layers ≡ store.old.layers }
+    ensures ran { RunsPlan (checked_term engine.now) (task_call_plan (seen_callee callee.now) (map host_term args.now) (names_term names.now) (map value_term store.old.list)) (λ u. at (tree_term u) (map value_term store.new.list)) purse.old purse.new result }
+{
+    purse.spend()?;
+    let params = callee.params;
+    let slots = argument_slots(engine, args, params, names, store, purse)?;
+    let inner = Names::of_params(params, slots.as_slice(), callee.first);
+    evaluate_at(engine, callee.task, &inner, store, purse)
+}

@@ -1,0 +1,22 @@
+//! The rules of tasks and trees, in exact units and heights: evaluation, over a program that is accepted, a store with layers, and
+//! environments that are borrowed.
+#![tactic(auto)]
+
+mod callee;
+mod counts;
+mod engine;
+mod evaluation;
+mod kept;
+mod signs;
+mod states;
+mod strode;
+mod tables;
+mod tree_rules;
+mod unchanged;
+mod walk;
+
+pub use callee::Callee;
+pub use engine::Engine;
+pub use evaluation::evaluate;
+pub use signs::{test_next, test_side};
+pub use states::{apply, failing, normalise, settle, stride};

@@ -1,0 +1,175 @@
+ghost use Rattle.std.specs.Prelude.{◌≡◌, map, IfOk, IsSome, None, Some};
+ghost use Rattle.std.specs.Option.{is_some, option_map};
+ghost use Rattle.std.specs.Arc.{arc_value};
+ghost use Rattle.task_model.specs.Value.{value_term};
+ghost use Rattle.task_model.specs.Task.{body_term};
+ghost use Rattle.task_model.specs.Tree as trees;
+ghost use Rattle.task_model.specs.Tree.{TreeTerm, cont_term, tree_term};
+ghost use Rattle.task_model.specs.Rules as rules;
+ghost use Rattle.task_engine.specs.Strides.{after_stride};
+
+use shared_store::Store;
+use std::alloc::Global;
+use std::sync::Arc;
+use task_model::{
+    Body, Cont, OutOfMemory, TaskText, Tree, Value, copy_cont, copy_tree, share, shared,
+};
+use task_tree::{has_value, value};
+
+/// The name that a step's body binds.
+pub(crate) fn binder_of(own: &Body) -> &TaskText
+    requires { IsSome (body_term own.now).binder }
+    ensures { (body_term own.now).binder ≡ Some result.now }
+{
+    match &own.binder {
+        Some(name) => name,
+        None => unreachable!(),
+    }
+}
+
+/// The tree after a stride.
+pub(crate) fn strode_tree(strode: Option<Tree>, old: &Tree) -> Result<Tree, OutOfMemory>
+    ensures { IfOk result (λ t. tree_term t ≡ after_stride (tree_term old.now) strode) }
+{
+    match strode {
+        Some(t) => Ok(t),
+        None => copy_tree(old),
+    }
+}
+
+// The same as a part of a tree: where nothing changed it is shared.
+fn strode_part(
+    alloc: Global,
+    strode: Option<Tree>,
+    old: &Arc<Tree>,
+) -> Result<Arc<Tree>, OutOfMemory>
+    ensures { IfOk result (λ t. tree_term (arc_value t) ≡ after_stride (tree_term (arc_value old.now)) strode) }
+{
+    match strode {
+        Some(t) => shared(alloc, t),
+        None => share(old),
+    }
+}
+
+/// Whether the tree after a stride has a value.
+pub(crate) fn strode_has_value(strode: &Option<Tree>, old: &Tree, store: &Store<Value>) -> bool
+    ensures { result ≡ is_some (rules.value_of (after_stride (tree_term old.now) strode.now) (map value_term store.now.list)) }
+{
+    match strode {
+        Some(t) => has_value(t, store),
+        None => has_value(old, store),
+    }
+}
+
+/// Its value.
+pub(crate) fn strode_value(
+    alloc: Global,
+    strode: &Option<Tree>,
+    old: &Tree,
+    store: &Store<Value>,
+) -> Result<Option<Value>, OutOfMemory>
+    ensures { IfOk result (λ v. option_map value_term v ≡ rules.value_of (after_stride (tree_term old.now) strode.now) (map value_term store.now.list)) }
+{
+    match strode {
+        Some(t) => value(alloc, t, store),
+        None => value(alloc, old, store),
+    }
+}
+
+/// An internal step whose left was strided.
+pub(crate) fn then_of(
+    alloc: Global,
+    strode: Option<Tree>,
+    k: &Cont,
+) -> Result<Option<Tree>, OutOfMemory>
+    ensures tree { IfOk result (λ o. (t : TreeTerm) → after_stride (trees.then_tree t (cont_term k.now)) o ≡ trees.then_tree (after_stride t strode) (cont_term k.now)) }
+    ensures none { IfOk result (λ o. o ≡ None → strode ≡ None) }
+{
+    match strode {
+        None => Ok(None),
+        Some(left) => {
+            let left = shared(alloc, left)?;
+            Ok(Some(Tree::Then(left, copy_cont(k)?)))
+        }
+    }
+}
+
+/// A user step whose left was strided.
+pub(crate) fn next_of(
+    alloc: Global,
+    strode: Option<Tree>,
+    k: &Cont,
+) -> Result<Option<Tree>, OutOfMemory>
+    ensures tree { IfOk result (λ o. (t : TreeTerm) → after_stride (trees.next_tree t (cont_term k.now)) o ≡ trees.next_tree (after_stride t strode) (cont_term k.now)) }
+    ensures none { IfOk result (λ o. o ≡ None → strode ≡ None) }
+{
+    match strode {
+        None => Ok(None),
+        Some(left) => {
+            let left = shared(alloc, left)?;
+            Ok(Some(Tree::Next(left, copy_cont(k)?)))
+        }
+    }
+}
+
+/// Two parts that were both strided.
+pub(crate) fn and_of(
+    alloc: Global,
+    t: Option<Tree>,
+    a: &Arc<Tree>,
+    u: Option<Tree>,
+    b: &Arc<Tree>,
+) -> Result<Option<Tree>, OutOfMemory>
+    ensures tree { IfOk result (λ o. after_stride (trees.and_tree (tree_term (arc_value a.now)) (tree_term (arc_value b.now))) o
+        ≡ trees.and_tree (after_stride (tree_term (arc_value a.now)) t) (after_stride (tree_term (arc_value b.now)) u)) }
+    ensures none { IfOk result (λ o. o ≡ None → (t ≡ None) × (u ≡ None)) }
+{
+    match (t, u) {
+        (None, None) => Ok(None),
+        (t, u) => {
+            let a = strode_part(alloc, t, a)?;
+            Ok(Some(Tree::And(a, strode_part(alloc, u, b)?)))
+        }
+    }
+}
+
+/// An internal choice whose parts were both strided: the second alone where it has a value, and else both.
+pub(crate) fn or_of(
+    alloc: Global,
+    t: Option<Tree>,
+    a: &Arc<Tree>,
+    u: Option<Tree>,
+    b: &Arc<Tree>,
+    store: &Store<Value>,
+) -> Result<Option<Tree>, OutOfMemory>
+    ensures tree { IfOk result (λ o. after_stride (trees.or_tree (tree_term (arc_value a.now)) (tree_term (arc_value b.now))) o
+        ≡ rules.or_of (rules.value_of (after_stride (tree_term (arc_value b.now)) u) (map value_term store.now.list))
+        (after_stride (tree_term (arc_value a.now)) t) (after_stride (tree_term (arc_value b.now)) u)) }
+    ensures none { IfOk result (λ o. o ≡ None → (t ≡ None) × (u ≡ None)) }
+{
+    if strode_has_value(&u, b, store) {
+        Ok(Some(strode_tree(u, b)?))
+    } else {
+        both_of(alloc, t, a, u, b)
+    }
+}
+
+fn both_of(
+    alloc: Global,
+    t: Option<Tree>,
+    a: &Arc<Tree>,
+    u: Option<Tree>,
+    b: &Arc<Tree>,
+) -> Result<Option<Tree>, OutOfMemory>
+    ensures tree { IfOk result (λ o. after_stride (trees.or_tree (tree_term (arc_value a.now)) (tree_term (arc_value b.now))) o
+        ≡ trees.or_tree (after_stride (tree_term (arc_value a.now)) t) (after_stride (tree_term (arc_value b.now)) u)) }
+    ensures none { IfOk result (λ o. o ≡ None → (t ≡ None) × (u ≡ None)) }
+{
+    match (t, u) {
+        (None, None) => Ok(None),
+        (t, u) => {
+            let a = strode_part(alloc, t, a)?;
+            Ok(Some(Tree::Or(a, strode_part(alloc, u, b)?)))
+        }
+    }
+}

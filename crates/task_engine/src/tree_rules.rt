@@ -1,0 +1,603 @@
+ghost use Rattle.std.specs.Prelude.{◌≡◌, ◌↔◌, ◌<◌, ◌∷◌, List, length, map, slice_get, IfOk, IfSome, IsTrue, None, OnOk, Some};
+ghost use Rattle.std.specs.Arc.{arc_value};
+ghost use Rattle.task_model.specs.declared.value.Value as values;
+ghost use Rattle.task_model.specs.Value.{value_term};
+ghost use Rattle.task_model.specs.Task.{task_term};
+ghost use Rattle.task_model.specs.Tree as trees;
+ghost use Rattle.task_model.specs.Tree.{cont_term, delay_term, tree_term, at};
+ghost use Rattle.task_model.specs.Accepted.{IsAccepted};
+ghost use Rattle.task_model.specs.Checked.{checked_term};
+ghost use Rattle.task_model.specs.Plan.{evaluates, fails, normal, settles, strides, give, ask, stride_on};
+ghost use Rattle.task_model.specs.Rules as rules;
+ghost use Rattle.task_model.specs.Calls.{RunsJudgement, RunsPlan};
+ghost use Rattle.typing_laws.specs.Well.{MayAsk, Well};
+ghost use Rattle.host_eval.specs.NamesTerm.{names_term};
+ghost use Rattle.task_engine.specs.Strides.{after_stride, state_at, attempt, Binds, BindsNone, AnswersStride};
+
+use crate::engine::Engine;
+use crate::evaluation::evaluate_at;
+use crate::strode::{
+    and_of, binder_of, next_of, or_of, strode_has_value, strode_tree, strode_value, then_of,
+};
+use crate::unchanged::is_unchanged;
+use host_eval::Names;
+use shared_store::Store;
+use std::sync::Arc;
+use task_model::{Cont, Delay, Purse, Slot, Stop, Task, Tree, Value};
+use task_tree::same;
+
+/// Whether a tree is failing. The store stays.
+#[cycle(engine)]
+pub(crate) fn fails_at(
+    engine: &Engine,
+    t: &Tree,
+    store: &mut Store<Value>,
+    purse: &mut Purse,
+) -> Result<bool, Stop>
+    requires accepted { IsAccepted (checked_term engine.now) }
+    requires may { MayAsk (checked_term engine.now) (fails (at (tree_term t.now) (map value_term store.old.list))) }
+    ensures height { OnOk result (purse.new.height ≡ purse.old.height) }
+    ensures store { store.new ≡ store.old }
+    ensures asked { RunsJudgement (checked_term engine.now) (fails (at (tree_term t.now) (map value_term store.old.list))) (λ b. b) purse.old purse.new result }
+{
+    let height = purse.height_left();
+    purse.enter()?;
+    let no = fails_form(engine, t, store, purse)?;
+    purse.leave(height);
+    Ok(no)
+}
+
+// One form, under its rule.
+#[cycle(engine)]
+fn fails_form(
+    engine: &Engine,
+    t: &Tree,
+    store: &mut Store<Value>,
+    purse: &mut Purse,
+) -> Result<bool, Stop>
+    requires accepted { IsAccepted (checked_term engine.now) }
+    requires may { MayAsk (checked_term engine.now) (fails (at (tree_term t.now) (map value_term store.old.list))) }
+    ensures height { OnOk result (purse.new.height ≡ purse.old.height) }
+    ensures store { store.new ≡ store.old }
+    ensures ran { RunsPlan (checked_term engine.now) (rules.fail_rule (checked_term engine.now) (tree_term t.now) (map value_term store.old.list)) (λ b. b) purse.old purse.new result }
+{
+    match t {
+        Tree::Edit(..) => Ok(false),
+        Tree::Enter(_) => Ok(false),
+        Tree::Share(..) => Ok(false),
+        Tree::Then(left, _) => fails_at(engine, left, store, purse),
+        Tree::Next(left, _) => fails_at(engine, left, store, purse),
+        Tree::Fail => Ok(true),
+        Tree::And(a, b) => both_fail(engine, a, b, store, purse),
+        Tree::Or(a, b) => both_fail(engine, a, b, store, purse),
+        Tree::Xor(a, b) => sides_fail(engine, a, b, store, purse),
+    }
+}
+
+#[cycle(engine)]
+fn both_fail(
+    engine: &Engine,
+    a: &Tree,
+    b: &Tree,
+    store: &mut Store<Value>,
+    purse: &mut Purse,
+) -> Result<bool, Stop>
+    requires accepted { IsAccepted (checked_term engine.now) }
+    requires well { Well (checked_term engine.now) (rules.fail_rule (checked_term engine.now) (trees.and_tree (tree_term a.now) (tree_term b.now)) (map value_term store.old.list)) }
+    ensures height { OnOk result (purse.new.height ≡ purse.old.height) }
+    ensures store { store.new ≡ store.old }
+    ensures ran { RunsPlan (checked_term engine.now) (rules.fail_rule (checked_term engine.now) (trees.and_tree (tree_term a.now) (tree_term b.now)) (map value_term store.old.list)) (λ b. b) purse.old purse.new result }
+{
+    let first = fails_at(engine, a, store, purse)?;
+    if first {
+        fails_at(engine, b, store, purse)
+    } else {
+        Ok(false)
+    }
+}
+
+#[cycle(engine)]
+fn sides_fail(
+    engine: &Engine,
+    a: &Delay,
+    b: &Delay,
+    store: &mut Store<Value>,
+    purse: &mut Purse,
+) -> Result<bool, Stop>
+    requires accepted { IsAccepted (checked_term engine.now) }
+    requires well { Well (checked_term engine.now) (rules.fail_rule (checked_term engine.now) (trees.xor_tree (delay_term a.now) (delay_term b.now)) (map value_term store.old.list)) }
+    requires first { BindsNone (checked_term engine.now) (delay_term a.now).body }
+    requires second { BindsNone (checked_term engine.now) (delay_term b.now).body }
+    ensures height { OnOk result (purse.new.height ≡ purse.old.height) }
+    ensures store { store.new ≡ store.old }
+    ensures ran { RunsPlan (checked_term engine.now) (rules.fail_rule (checked_term engine.now) (trees.xor_tree (delay_term a.now) (delay_term b.now)) (map value_term store.old.list)) (λ b. b) purse.old purse.new result }
+{
+    let first = side_fails(engine, a, store, purse)?;
+    if first {
+        side_fails(engine, b, store, purse)
+    } else {
+        Ok(false)
+    }
+}
+
+/// Whether a side of a choice is failing. The store stays.
+#[cycle(engine)]
+pub(crate) fn side_fails(
+    engine: &Engine,
+    k: &Delay,
+    store: &mut Store<Value>,
+    purse: &mut Purse,
+) -> Result<bool, Stop>
+    requires accepted { IsAccepted (checked_term engine.now) }
+    requires well { Well (checked_term engine.now) (rules.side (checked_term engine.now) (delay_term k.now) (map value_term store.old.list)) }
+    requires unbound { BindsNone (checked_term engine.now) (delay_term k.now).body }
+    ensures height { OnOk result (purse.new.height ≡ purse.old.height) }
+    ensures store { store.new ≡ store.old }
+    ensures ran { RunsPlan (checked_term engine.now) (rules.side (checked_term engine.now) (delay_term k.now) (map value_term store.old.list)) (λ b. b) purse.old purse.new result }
+{
+    let own = engine.body(k.body);
+    let names = Names::of_scope(&own.scope, k.slots.as_slice(), engine.body_first(k.body));
+    tested(engine, &own.task, &names, store, purse)
+}
+
+/// Whether a cont at a value is failing. The store stays.
+pub(crate) fn step_fails(
+    engine: &Engine,
+    k: &Cont,
+    v: Value,
+    store: &mut Store<Value>,
+    purse: &mut Purse,
+) -> Result<bool, Stop>
+    requires accepted { IsAccepted (checked_term engine.now) }
+    requires well { Well (checked_term engine.now) (rules.trial (checked_term engine.now) (cont_term k.now) (value_term v) (map value_term store.old.list)) }
+    requires bound { Binds (checked_term engine.now) (cont_term k.now).body }
+    ensures height { OnOk result (purse.new.height ≡ purse.old.height) }
+    ensures store { store.new ≡ store.old }
+    ensures ran { RunsPlan (checked_term engine.now) (rules.trial (checked_term engine.now) (cont_term k.now) (value_term v) (map value_term store.old.list)) (λ b. b) purse.old purse.new result }
+{
+    let own = engine.body(k.body);
+    let slot = Slot::Plain(v);
+    let outer = Names::of_scope(&own.scope, k.slots.as_slice(), engine.body_first(k.body));
+    let names = outer.with(binder_of(own), &slot);
+    tested(engine, &own.task, &names, store, purse)
+}
+
+// Whether what a task normalises to is failing, under a layer that is dropped.
+#[cycle(engine)]
+fn tested(
+    engine: &Engine,
+    t: &Task,
+    names: &Names,
+    store: &mut Store<Value>,
+    purse: &mut Purse,
+) -> Result<bool, Stop>
+    requires accepted { IsAccepted (checked_term engine.now) }
+    requires well { Well (checked_term engine.now) (ask (normal (task_term t.now) (names_term names.now) (map value_term store.old.list)) (λ s. ask (fails s) give)) }
+    ensures height { OnOk result (purse.new.height ≡ purse.old.height) }
+    ensures store { store.new ≡ store.old }
+    ensures ran { RunsPlan (checked_term engine.now) (ask (normal (task_term t.now) (names_term names.now) (map value_term store.old.list)) (λ s. ask (fails s) give)) (λ b. b) purse.old purse.new result }
+{
+    store.begin()?;
+    let failing = normal_fails(engine, t, names, store, purse);
+    store.drop_layer();
+    failing
+}
+
+#[cycle(engine)]
+fn normal_fails(
+    engine: &Engine,
+    t: &Task,
+    names: &Names,
+    store: &mut Store<Value>,
+    purse: &mut Purse,
+) -> Result<bool, Stop>
+    requires accepted { IsAccepted (checked_term engine.now) }
+    requires well { Well (checked_term engine.now) (ask (normal (task_term t.now) (names_term names.now) (map value_term store.old.list)) (λ s. ask (fails s) give)) }
+    ensures height { OnOk result (purse.new.height ≡ purse.old.height) }
+    ensures layers { store.new.layers ≡ store.old.layers }
+    ensures ran { RunsPlan (checked_term engine.now) (ask (normal (task_term t.now) (names_term names.now) (map value_term store.old.list)) (λ s. ask (fails s) give)) (λ b. b) purse.old purse.new result }
+{
+    let u = normal_at(engine, t, names, store, purse)?;
+    fails_at(engine, &u, store, purse)
+}
+
+#[cycle(engine)]
+pub(crate) fn normal_at(
+    engine: &Engine,
+    t: &Task,
+    names: &Names,
+    store: &mut Store<Value>,
+    purse: &mut Purse,
+) -> Result<Tree, Stop>
+    requires accepted { IsAccepted (checked_term engine.now) }
+    requires may { MayAsk (checked_term engine.now) (normal (task_term t.now) (names_term names.now) (map value_term store.old.list)) }
+    ensures height { OnOk result (purse.new.height ≡ purse.old.height) }
+    ensures layers { store.new.layers ≡ store.old.layers }
+    ensures asked { RunsJudgement (checked_term engine.now) (normal (task_term t.now) (names_term names.now) (map value_term store.old.list)) (λ u. at (tree_term u) (map value_term store.new.list)) purse.old purse.new result }
+{
+    let height = purse.height_left();
+    purse.enter()?;
+    let u = normal_form(engine, t, names, store, purse)?;
+    purse.leave(height);
+    Ok(u)
+}
+
+#[cycle(engine)]
+fn normal_form(
+    engine: &Engine,
+    t: &Task,
+    names: &Names,
+    store: &mut Store<Value>,
+    purse: &mut Purse,
+) -> Result<Tree, Stop>
+    requires accepted { IsAccepted (checked_term engine.now) }
+    requires well { Well (checked_term engine.now) (ask (evaluates (task_term t.now) (names_term names.now) (map value_term store.old.list)) (λ s. stride_on s give)) }
+    ensures height { OnOk result (purse.new.height ≡ purse.old.height) }
+    ensures layers { store.new.layers ≡ store.old.layers }
+    ensures ran { RunsPlan (checked_term engine.now) (ask (evaluates (task_term t.now) (names_term names.now) (map value_term store.old.list)) (λ s. stride_on s give)) (λ u. at (tree_term u) (map value_term store.new.list)) purse.old purse.new result }
+{
+    let u = evaluate_at(engine, t, names, store, purse)?;
+    stride_all(engine, u, store, purse)
+}
+
+/// Strides until one changes nothing, each for one unit besides its own.
+#[cycle(engine)]
+pub(crate) fn stride_all(
+    engine: &Engine,
+    t: Tree,
+    store: &mut Store<Value>,
+    purse: &mut Purse,
+) -> Result<Tree, Stop>
+    requires accepted { IsAccepted (checked_term engine.now) }
+    requires may { MayAsk (checked_term engine.now) (strides (at (tree_term t) (map value_term store.old.list))) }
+    ensures height { OnOk result (purse.new.height ≡ purse.old.height) }
+    ensures layers { store.new.layers ≡ store.old.layers }
+    ensures ran { RunsPlan (checked_term engine.now) (stride_on (at (tree_term t) (map value_term store.old.list)) give) (λ u. at (tree_term u) (map value_term store.new.list)) purse.old purse.new result }
+{
+    let mut tree = t;
+    'strides: loop {
+        purse.spend()?;
+        let changed = changing(engine, &tree, store, purse)?;
+        match changed {
+            None => return Ok(tree),
+            Some(next) => tree = next,
+        }
+    }
+}
+
+pub(crate) fn settle_at(
+    engine: &Engine,
+    t: Tree,
+    store: &mut Store<Value>,
+    purse: &mut Purse,
+) -> Result<Tree, Stop>
+    requires accepted { IsAccepted (checked_term engine.now) }
+    requires may { MayAsk (checked_term engine.now) (settles (at (tree_term t) (map value_term store.old.list))) }
+    ensures height { OnOk result (purse.new.height ≡ purse.old.height) }
+    ensures layers { store.new.layers ≡ store.old.layers }
+    ensures asked { RunsJudgement (checked_term engine.now) (settles (at (tree_term t) (map value_term store.old.list))) (λ u. at (tree_term u) (map value_term store.new.list)) purse.old purse.new result }
+{
+    let height = purse.height_left();
+    purse.enter()?;
+    let u = stride_all(engine, t, store, purse)?;
+    purse.leave(height);
+    Ok(u)
+}
+
+// One stride, which answers nothing where it changes neither tree nor store.
+#[cycle(engine)]
+fn changing(
+    engine: &Engine,
+    t: &Tree,
+    store: &mut Store<Value>,
+    purse: &mut Purse,
+) -> Result<Option<Tree>, Stop>
+    requires accepted { IsAccepted (checked_term engine.now) }
+    requires may { MayAsk (checked_term engine.now) (strides (at (tree_term t.now) (map value_term store.old.list))) }
+    ensures height { OnOk result (purse.new.height ≡ purse.old.height) }
+    ensures layers { store.new.layers ≡ store.old.layers }
+    ensures none { IfOk result (λ o. o ≡ None → (map value_term store.new.list) ≡ (map value_term store.old.list)) }
+    ensures other { IfOk result (λ o. IfSome o (λ u. at (tree_term u) (map value_term store.new.list) ≡ at (tree_term t.now) (map value_term store.old.list) → ⊥)) }
+    ensures asked { RunsJudgement (checked_term engine.now) (strides (at (tree_term t.now) (map value_term store.old.list))) (λ o. at (after_stride (tree_term t.now) o) (map value_term store.new.list)) purse.old purse.new result }
+{
+    store.begin()?;
+    let strode = stride_at(engine, t, store, purse);
+    judged(t, strode, store)
+}
+
+/// One stride. Nothing is answered where nothing fires: the tree and the store are as they were.
+#[cycle(engine)]
+pub(crate) fn stride_at(
+    engine: &Engine,
+    t: &Tree,
+    store: &mut Store<Value>,
+    purse: &mut Purse,
+) -> Result<Option<Tree>, Stop>
+    requires accepted { IsAccepted (checked_term engine.now) }
+    requires may { MayAsk (checked_term engine.now) (strides (at (tree_term t.now) (map value_term store.old.list))) }
+    ensures height { OnOk result (purse.new.height ≡ purse.old.height) }
+    ensures layers { store.new.layers ≡ store.old.layers }
+    ensures kept { IfOk result (λ o. o ≡ None → store.new.list ≡ store.old.list) }
+    ensures asked { RunsJudgement (checked_term engine.now) (strides (at (tree_term t.now) (map value_term store.old.list))) (λ o. at (after_stride (tree_term t.now) o) (map value_term store.new.list)) purse.old purse.new result }
+{
+    let height = purse.height_left();
+    purse.enter()?;
+    let u = stride_form(engine, t, store, purse)?;
+    purse.leave(height);
+    Ok(u)
+}
+
+// One form, under its rule.
+#[cycle(engine)]
+fn stride_form(
+    engine: &Engine,
+    t: &Tree,
+    store: &mut Store<Value>,
+    purse: &mut Purse,
+) -> Result<Option<Tree>, Stop>
+    requires accepted { IsAccepted (checked_term engine.now) }
+    requires may { MayAsk (checked_term engine.now) (strides (at (tree_term t.now) (map value_term store.old.list))) }
+    ensures height { OnOk result (purse.new.height ≡ purse.old.height) }
+    ensures layers { store.new.layers ≡ store.old.layers }
+    ensures kept { IfOk result (λ o. o ≡ None → store.new.list ≡ store.old.list) }
+    ensures ran { RunsPlan (checked_term engine.now) (rules.stride_rule (checked_term engine.now) (tree_term t.now) (map value_term store.old.list)) (λ o. at (after_stride (tree_term t.now) o) (map value_term store.new.list)) purse.old purse.new result }
+{
+    match t {
+        Tree::Edit(..) => Ok(None),
+        Tree::Enter(_) => Ok(None),
+        Tree::Share(..) => Ok(None),
+        Tree::Fail => Ok(None),
+        Tree::Xor(..) => Ok(None),
+        Tree::Then(left, k) => then_form(engine, left, k, store, purse),
+        Tree::Next(left, k) => next_form(engine, left, k, store, purse),
+        Tree::And(a, b) => and_form(engine, a, b, store, purse),
+        Tree::Or(a, b) => or_form(engine, a, b, store, purse),
+    }
+}
+
+#[cycle(engine)]
+fn next_form(
+    engine: &Engine,
+    left: &Tree,
+    k: &Cont,
+    store: &mut Store<Value>,
+    purse: &mut Purse,
+) -> Result<Option<Tree>, Stop>
+    requires accepted { IsAccepted (checked_term engine.now) }
+    requires may { MayAsk (checked_term engine.now) (strides (at (trees.next_tree (tree_term left.now) (cont_term k.now)) (map value_term store.old.list))) }
+    ensures height { OnOk result (purse.new.height ≡ purse.old.height) }
+    ensures layers { store.new.layers ≡ store.old.layers }
+    ensures kept { IfOk result (λ o. o ≡ None → store.new.list ≡ store.old.list) }
+    ensures ran { RunsPlan (checked_term engine.now) (rules.stride_rule (checked_term engine.now) (trees.next_tree (tree_term left.now) (cont_term k.now)) (map value_term store.old.list)) (λ o. at (after_stride (trees.next_tree (tree_term left.now) (cont_term k.now)) o) (map value_term store.new.list)) purse.old purse.new result }
+{
+    let strode = stride_at(engine, left, store, purse)?;
+    Ok(next_of(engine.alloc(), strode, k)?)
+}
+
+#[cycle(engine)]
+fn and_form(
+    engine: &Engine,
+    a: &Arc<Tree>,
+    b: &Arc<Tree>,
+    store: &mut Store<Value>,
+    purse: &mut Purse,
+) -> Result<Option<Tree>, Stop>
+    requires accepted { IsAccepted (checked_term engine.now) }
+    requires may { MayAsk (checked_term engine.now) (strides (at (trees.and_tree (tree_term (arc_value a.now)) (tree_term (arc_value b.now))) (map value_term store.old.list))) }
+    ensures height { OnOk result (purse.new.height ≡ purse.old.height) }
+    ensures layers { store.new.layers ≡ store.old.layers }
+    ensures kept { IfOk result (λ o. o ≡ None → store.new.list ≡ store.old.list) }
+    ensures ran { RunsPlan (checked_term engine.now) (rules.stride_rule (checked_term engine.now) (trees.and_tree (tree_term (arc_value a.now)) (tree_term (arc_value b.now))) (map value_term store.old.list)) (λ o. at (after_stride (trees.and_tree (tree_term (arc_value a.now)) (tree_term (arc_value b.now))) o) (map value_term store.new.list)) purse.old purse.new result }
+{
+    let t = stride_at(engine, a, store, purse)?;
+    let u = stride_at(engine, b, store, purse)?;
+    Ok(and_of(engine.alloc(), t, a, u, b)?)
+}
+
+#[cycle(engine)]
+fn or_form(
+    engine: &Engine,
+    a: &Arc<Tree>,
+    b: &Arc<Tree>,
+    store: &mut Store<Value>,
+    purse: &mut Purse,
+) -> Result<Option<Tree>, Stop>
+    requires accepted { IsAccepted (checked_term engine.now) }
+    requires may { MayAsk (checked_term engine.now) (strides (at (trees.or_tree (tree_term (arc_value a.now)) (tree_term (arc_value b.now))) (map value_term store.old.list))) }
+    ensures height { OnOk result (purse.new.height ≡ purse.old.height) }
+    ensures layers { store.new.layers ≡ store.old.layers }
+    ensures kept { IfOk result (λ o. o ≡ None → store.new.list ≡ store.old.list) }
+    ensures ran { RunsPlan (checked_term engine.now) (rules.stride_rule (checked_term engine.now) (trees.or_tree (tree_term (arc_value a.now)) (tree_term (arc_value b.now))) (map value_term store.old.list)) (λ o. at (after_stride (trees.or_tree (tree_term (arc_value a.now)) (tree_term (arc_value b.now))) o) (map value_term store.new.list)) purse.old purse.new result }
+{
+    let t = stride_at(engine, a, store, purse)?;
+    if strode_has_value(&t, a, store) {
+        Ok(Some(strode_tree(t, a)?))
+    } else {
+        let u = stride_at(engine, b, store, purse)?;
+        Ok(or_of(engine.alloc(), t, a, u, b, store)?)
+    }
+}
+
+#[cycle(engine)]
+fn then_form(
+    engine: &Engine,
+    left: &Tree,
+    k: &Cont,
+    store: &mut Store<Value>,
+    purse: &mut Purse,
+) -> Result<Option<Tree>, Stop>
+    requires accepted { IsAccepted (checked_term engine.now) }
+    requires may { MayAsk (checked_term engine.now) (strides (at (trees.then_tree (tree_term left.now) (cont_term k.now)) (map value_term store.old.list))) }
+    ensures height { OnOk result (purse.new.height ≡ purse.old.height) }
+    ensures layers { store.new.layers ≡ store.old.layers }
+    ensures kept { IfOk result (λ o. o ≡ None → store.new.list ≡ store.old.list) }
+    ensures ran { RunsPlan (checked_term engine.now) (rules.stride_rule (checked_term engine.now) (trees.then_tree (tree_term left.now) (cont_term k.now)) (map value_term store.old.list)) (λ o. at (after_stride (trees.then_tree (tree_term left.now) (cont_term k.now)) o) (map value_term store.new.list)) purse.old purse.new result }
+{
+    let strode = stride_at(engine, left, store, purse)?;
+    fired(engine, left, strode, k, store, purse)
+}
+
+// An internal step whose left was strided.
+#[cycle(engine)]
+fn fired(
+    engine: &Engine,
+    left: &Tree,
+    strode: Option<Tree>,
+    k: &Cont,
+    store: &mut Store<Value>,
+    purse: &mut Purse,
+) -> Result<Option<Tree>, Stop>
+    requires accepted { IsAccepted (checked_term engine.now) }
+    requires well { Well (checked_term engine.now) (rules.fired (checked_term engine.now) (rules.value_of (after_stride (tree_term left.now) strode) (map value_term store.old.list)) (cont_term k.now) (at (after_stride (tree_term left.now) strode) (map value_term store.old.list))) }
+    requires bound { Binds (checked_term engine.now) (cont_term k.now).body }
+    ensures height { OnOk result (purse.new.height ≡ purse.old.height) }
+    ensures layers { store.new.layers ≡ store.old.layers }
+    ensures kept { IfOk result (λ o. o ≡ None → (strode ≡ None) × (store.new.list ≡ store.old.list)) }
+    ensures ran { RunsPlan (checked_term engine.now) (rules.fired (checked_term engine.now) (rules.value_of (after_stride (tree_term left.now) strode) (map value_term store.old.list)) (cont_term k.now) (at (after_stride (tree_term left.now) strode) (map value_term store.old.list))) (λ o. at (after_stride (trees.then_tree (tree_term left.now) (cont_term k.now)) o) (map value_term store.new.list)) purse.old purse.new result }
+{
+    let value = strode_value(engine.alloc(), &strode, left, store)?;
+    match value {
+        None => Ok(then_of(engine.alloc(), strode, k)?),
+        Some(v) => fired_at(engine, left, strode, v, k, store, purse),
+    }
+}
+
+// An internal step whose left has a value.
+#[cycle(engine)]
+fn fired_at(
+    engine: &Engine,
+    left: &Tree,
+    strode: Option<Tree>,
+    v: Value,
+    k: &Cont,
+    store: &mut Store<Value>,
+    purse: &mut Purse,
+) -> Result<Option<Tree>, Stop>
+    requires accepted { IsAccepted (checked_term engine.now) }
+    requires well { Well (checked_term engine.now) (rules.fired (checked_term engine.now) (Some (value_term v)) (cont_term k.now) (at (after_stride (tree_term left.now) strode) (map value_term store.old.list))) }
+    requires bound { Binds (checked_term engine.now) (cont_term k.now).body }
+    ensures height { OnOk result (purse.new.height ≡ purse.old.height) }
+    ensures layers { store.new.layers ≡ store.old.layers }
+    ensures kept { IfOk result (λ o. o ≡ None → (strode ≡ None) × (store.new.list ≡ store.old.list)) }
+    ensures ran { RunsPlan (checked_term engine.now) (rules.fired (checked_term engine.now) (Some (value_term v)) (cont_term k.now) (at (after_stride (tree_term left.now) strode) (map value_term store.old.list))) (λ o. at (after_stride (trees.then_tree (tree_term left.now) (cont_term k.now)) o) (map value_term store.new.list)) purse.old purse.new result }
+{
+    let tried = tried(engine, k, v, store, purse)?;
+    match tried {
+        Some(t) => Ok(Some(t)),
+        None => Ok(then_of(engine.alloc(), strode, k)?),
+    }
+}
+
+// The cont at a value under a layer, which is kept unless the cont fails or stops.
+#[cycle(engine)]
+fn tried(
+    engine: &Engine,
+    k: &Cont,
+    v: Value,
+    store: &mut Store<Value>,
+    purse: &mut Purse,
+) -> Result<Option<Tree>, Stop>
+    requires accepted { IsAccepted (checked_term engine.now) }
+    requires well { Well (checked_term engine.now) (attempt (checked_term engine.now) (cont_term k.now) (value_term v) (map value_term store.old.list)) }
+    requires bound { Binds (checked_term engine.now) (cont_term k.now).body }
+    ensures height { OnOk result (purse.new.height ≡ purse.old.height) }
+    ensures layers { store.new.layers ≡ store.old.layers }
+    ensures dropped { IfOk result (λ o. o ≡ None → store.new.list ≡ store.old.list) }
+    ensures ran { RunsPlan (checked_term engine.now) (attempt (checked_term engine.now) (cont_term k.now) (value_term v) (map value_term store.old.list)) (state_at (map value_term store.new.list)) purse.old purse.new result }
+{
+    store.begin()?;
+    let attempted = attempted(engine, k, v, store, purse);
+    end_trial(&attempted, store);
+    attempted
+}
+
+#[cycle(engine)]
+fn attempted(
+    engine: &Engine,
+    k: &Cont,
+    v: Value,
+    store: &mut Store<Value>,
+    purse: &mut Purse,
+) -> Result<Option<Tree>, Stop>
+    requires accepted { IsAccepted (checked_term engine.now) }
+    requires well { Well (checked_term engine.now) (attempt (checked_term engine.now) (cont_term k.now) (value_term v) (map value_term store.old.list)) }
+    requires bound { Binds (checked_term engine.now) (cont_term k.now).body }
+    ensures height { OnOk result (purse.new.height ≡ purse.old.height) }
+    ensures layers { store.new.layers ≡ store.old.layers }
+    ensures ran { RunsPlan (checked_term engine.now) (attempt (checked_term engine.now) (cont_term k.now) (value_term v) (map value_term store.old.list)) (state_at (map value_term store.new.list)) purse.old purse.new result }
+{
+    let t = apply_at(engine, k, v, store, purse)?;
+    let failing = fails_at(engine, &t, store, purse)?;
+    if failing { Ok(None) } else { Ok(Some(t)) }
+}
+
+/// A cont at a value.
+pub(crate) fn apply_at(
+    engine: &Engine,
+    k: &Cont,
+    v: Value,
+    store: &mut Store<Value>,
+    purse: &mut Purse,
+) -> Result<Tree, Stop>
+    requires accepted { IsAccepted (checked_term engine.now) }
+    requires well { Well (checked_term engine.now) (rules.applied (checked_term engine.now) (cont_term k.now) (value_term v) (map value_term store.old.list) give) }
+    requires bound { Binds (checked_term engine.now) (cont_term k.now).body }
+    ensures height { OnOk result (purse.new.height ≡ purse.old.height) }
+    ensures layers { store.new.layers ≡ store.old.layers }
+    ensures ran { RunsPlan (checked_term engine.now) (rules.applied (checked_term engine.now) (cont_term k.now) (value_term v) (map value_term store.old.list) give) (λ u. at (tree_term u) (map value_term store.new.list)) purse.old purse.new result }
+{
+    let own = engine.body(k.body);
+    let slot = Slot::Plain(v);
+    let outer = Names::of_scope(&own.scope, k.slots.as_slice(), engine.body_first(k.body));
+    let names = outer.with(binder_of(own), &slot);
+    evaluate_at(engine, &own.task, &names, store, purse)
+}
+
+// The end of a stride's layer: nothing is answered where tree and values are as they were. After a stop what it wrote is undone.
+fn judged(
+    t: &Tree,
+    strode: Result<Option<Tree>, Stop>,
+    store: &mut Store<Value>,
+) -> Result<Option<Tree>, Stop>
+    requires { 0 < length store.old.layers }
+    ensures layers { (σ : List values.Value) (below : List (List values.Value)) → store.old.layers ≡ σ ∷ below → store.new.layers ≡ below }
+    ensures list { IfOk result (λ o. store.new.list ≡ store.old.list) }
+    ensures judged { (σ : List values.Value) (below : List (List values.Value)) → store.old.layers ≡ σ ∷ below → AnswersStride (tree_term t.now) σ store.old.list strode result }
+{
+    match strode {
+        Ok(None) => {
+            store.keep();
+            Ok(None)
+        }
+        Ok(Some(u)) => {
+            let same = is_same_state(t, &u, store);
+            store.keep();
+            if same { Ok(None) } else { Ok(Some(u)) }
+        }
+        Err(stop) => {
+            store.drop_layer();
+            Err(stop)
+        }
+    }
+}
+
+// The end of a trial's layer, which is kept where the trial led to a tree.
+fn end_trial(attempted: &Result<Option<Tree>, Stop>, store: &mut Store<Value>)
+    requires { 0 < length store.old.layers }
+    ensures layers { (σ : List values.Value) (below : List (List values.Value)) → store.old.layers ≡ σ ∷ below → store.new.layers ≡ below }
+    ensures kept { IfOk attempted.now (λ o. IfSome o (λ u. store.new.list ≡ store.old.list)) }
+    ensures dropped { (σ : List values.Value) (below : List (List values.Value)) → store.old.layers ≡ σ ∷ below → IfOk attempted.now (λ o. o ≡ None → store.new.list ≡ σ) }
+{
+    match attempted {
+        Ok(Some(_)) => store.keep(),
+        Ok(None) => store.drop_layer(),
+        Err(_) => store.drop_layer(),
+    }
+}
+
+fn is_same_state(t: &Tree, u: &Tree, store: &Store<Value>) -> bool
+    requires { 0 < length store.now.layers }
+    ensures { (σ : List values.Value) → slice_get store.now.layers 0 ≡ Some σ → IsTrue result ↔ (at (tree_term u.now) (map value_term store.now.list) ≡ at (tree_term t.now) (map value_term σ)) }
+{
+    is_unchanged(store) && same(u, t)
+}
