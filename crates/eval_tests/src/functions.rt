@@ -10,8 +10,8 @@ ghost use Rattle.task_model.specs.Spends.{Spends};
 ghost use Rattle.typing_laws.specs.Well.{MayAsk};
 ghost use Rattle.host_eval.specs.ValueWords.{function_in, function_term};
 
-use crate::empty_store::EmptyStore;
 use host_eval::{Names, eval, function_named};
+use shared_store::Store;
 use std::alloc::Global;
 use task_model::{Checked, Host, Purse, Stop, TaskText, Value};
 
@@ -29,7 +29,8 @@ pub fn value_of(
         None => None,
         Some(e) => {
             let names = Names::of_params(&[], &[], 0);
-            Some(eval(alloc, checked, e, &names, &EmptyStore, purse))
+            let store: Store<Value> = Store::new(alloc);
+            Some(eval(alloc, checked, e, &names, &store, purse))
         }
     }
 }

@@ -2,7 +2,6 @@
 //! that stand in them many times.
 #![tactic(auto)]
 
-mod empty_store;
 mod functions;
 mod repeats;
 #[cfg(test)]
