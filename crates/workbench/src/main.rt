@@ -3,6 +3,7 @@
 #![tactic(auto)]
 
 mod checked_programs;
+mod evaluated_programs;
 mod programs;
 mod work;
 
@@ -27,7 +28,7 @@ fn main(rt: HostRuntime) -> io::Result<()> {
     };
     let Some(work) = Work::named(work.as_str()) else {
         return rt.println(
-            "workbench: the first word is text, list, tokens, program, parameters, parameter, definitions, parentheses, small, deep or names",
+            "workbench: the first word is text, list, tokens, program, parameters, parameter, definitions, parentheses, small, deep, names, calls, sums, elements or joins",
         );
     };
     let (Ok(size), Ok(times)) = (

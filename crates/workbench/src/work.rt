@@ -1,8 +1,11 @@
 use crate::checked_programs::{deep_of, names_of, small_of};
+use crate::evaluated_programs::{calls_of, elements_of, joins_of, sums_of};
 use crate::programs::{definitions_of, parameter_of, parameters_of, parentheses_of, program_of};
+use eval_tests::value_of;
 use host_types::check;
 use literal_text::read_any;
 use std::alloc::{AllocError, Global};
+use task_model::{Purse, TaskText};
 use task_reader::read_program;
 use task_syntax::lex;
 
@@ -31,6 +34,14 @@ pub(crate) enum Work {
     Deep,
     /// A program of so many look-ups of the outermost of 200 names, which is checked too.
     Names,
+    /// A program that calls a function so many times doubled, which is checked and evaluated.
+    Calls,
+    /// A program that computes with a number so many times doubled, which is checked and evaluated.
+    Sums,
+    /// A program that makes a list by so many doublings and adds it up, which is checked and evaluated.
+    Elements,
+    /// A program that joins a text so many times doubled, which is checked and evaluated.
+    Joins,
 }
 
 impl Work {
@@ -47,6 +58,10 @@ impl Work {
             "small" => Some(Work::Small),
             "deep" => Some(Work::Deep),
             "names" => Some(Work::Names),
+            "calls" => Some(Work::Calls),
+            "sums" => Some(Work::Sums),
+            "elements" => Some(Work::Elements),
+            "joins" => Some(Work::Joins),
             _ => None,
         }
     }
@@ -64,6 +79,10 @@ impl Work {
             Work::Small => small_of(alloc, size),
             Work::Deep => deep_of(alloc, size),
             Work::Names => names_of(alloc, size),
+            Work::Calls => calls_of(alloc, size),
+            Work::Sums => sums_of(alloc, size),
+            Work::Elements => elements_of(alloc, size),
+            Work::Joins => joins_of(alloc, size),
         }
     }
 
@@ -84,6 +103,7 @@ impl Work {
             Work::Tokens => lex(alloc, source).is_ok(),
             Work::Parentheses => read_program(alloc, source.as_bytes()).is_err(),
             Work::Small | Work::Deep | Work::Names => is_checked(alloc, source),
+            Work::Calls | Work::Sums | Work::Elements | Work::Joins => is_evaluated(alloc, source),
             _ => read_program(alloc, source.as_bytes()).is_ok(),
         }
     }
@@ -93,6 +113,26 @@ impl Work {
 fn is_checked(alloc: Global, source: &str) -> bool {
     match read_program(alloc, source.as_bytes()) {
         Ok(read) => check(alloc, read.program).is_ok(),
+        Err(_) => false,
+    }
+}
+
+// Whether the program is accepted, and its function `it` gives a value.
+fn is_evaluated(alloc: Global, source: &str) -> bool {
+    let (Ok(read), Ok(name)) = (
+        read_program(alloc, source.as_bytes()),
+        TaskText::of(alloc, "it"),
+    ) else {
+        return false;
+    };
+    match check(alloc, read.program) {
+        Ok(checked) => {
+            let mut purse = Purse::new(u32::MAX);
+            match value_of(alloc, &checked, &name, &mut purse) {
+                Some(given) => given.is_ok(),
+                None => false,
+            }
+        }
         Err(_) => false,
     }
 }
