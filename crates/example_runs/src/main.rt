@@ -10,7 +10,9 @@ use task_model::{OutOfMemory, Row, TaskText};
 use tophat::tophat;
 
 /// The examples: NAME.th, with its script NAME.script and what it writes, NAME.out.
-const EXAMPLES: &[&str] = &["pair", "stock"];
+const EXAMPLES: &[&str] = &[
+    "approval", "board", "leave", "order", "pair", "poll", "stock",
+];
 
 /// The most bytes of a script or of a file of answers.
 const LONGEST: u64 = 65_536;

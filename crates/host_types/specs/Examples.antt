@@ -6,14 +6,14 @@ use Rattle.task_model.specs.Host.{int_expr, bool_expr, name_expr, read_expr, nil
 use Rattle.task_model.specs.Task.{TaskTerm, edit, enter, share, call_task, next_task, and_task, new_task, put_task}
 use Rattle.task_model.specs.Program.{ParamTerm, DefTerm, ProgramTerm, ref_kind, task_body, main_name}
 use Rattle.task_model.specs.declared.host.Op.TheVariants as ops
-use Rattle.task_model.specs.Accepted.{main_program}
 
 abbrev task : Text → List ParamTerm → BasicTerm → TaskTerm → DefTerm
 task f ps b t = record { name = f; params = ps; result = b; what = task_body t }
 
 -- `task main() : int = edit (1 + true)`
 abbrev pub wrong_sum : ProgramTerm
-wrong_sum = main_program int_type (edit (op_expr ops.Add (int_expr (pos 1)) (bool_expr true)))
+wrong_sum =
+    record { defs = task main_name [] int_type (edit (op_expr ops.Add (int_expr (pos 1)) (bool_expr true))) ∷ []; bodies = [] }
 
 -- `task t() : int = t()` and `task main() : int = t()`
 abbrev pub endless : ProgramTerm

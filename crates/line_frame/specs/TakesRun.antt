@@ -2,8 +2,9 @@
 use Rattle.std.specs.Prelude.{ℕ, ◌≡◌, ◌+◌, ◌-◌, List, ◌++◌, length, take}
 use Rattle.line_frame.specs.declared.cursor.Cursor.{Cursor}
 
--- They were counted, and kept up to one byte more than the longest line has.
+-- They were counted, and kept up to one byte more than the longest line has. No answer became due.
 pub record TakesRun (longest : ℕ) (from to : Cursor) (run : List ℕ) : Type 0 where
   pub counted : to.count ≡ from.count + length run
   pub numbered : to.number ≡ from.number
+  pub due : to.due.text.list ≡ from.due.text.list
   pub kept : to.kept.list ≡ from.kept.list ++ take (longest + 1 - length from.kept.list) run

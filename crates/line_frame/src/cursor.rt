@@ -1,15 +1,18 @@
 ghost use Rattle.std.specs.Prelude.{◌≡◌, ◌+◌, ◌-◌, ◌<◌, ◌≤◌, ◌^◌, ◌++◌, [], length, take, MatchOption, OnOk};
 
 use crate::Finish;
+use crate::due::Due;
 use std::alloc::Global;
 use task_model::{OutOfMemory, Row};
 
-/// What is kept of the next line, how many bytes of the script have come, and the number of that line.
+/// What is kept of the next line, how many bytes of the script have come, the number of that line, and the answers
+/// that are due to the lines before it.
 #[derive(Drop)]
 pub(crate) struct Cursor {
     pub(crate) kept: Row<u8>,
     pub(crate) count: u64,
     pub(crate) number: u64,
+    pub(crate) due: Due,
     ghost numbered: { number ≤ count + 1 },
 }
 
@@ -21,18 +24,21 @@ impl Cursor {
         ensures kept { result.kept.list ≡ [] }
         ensures count { result.count ≡ 0 }
         ensures number { result.number ≡ 1 }
+        ensures due { result.due.text.list ≡ [] }
     {
         Cursor {
             kept: Row::new(alloc),
             count: 0,
             number: 1,
+            due: Due::new(alloc),
         }
     }
 
     /// Takes the next bytes of a line, none of which is its LF. None: go on.
     pub(crate) fn take_run(&mut self, longest: usize, run: &[u8]) -> Option<Finish>
         requires { self.old.count + length run.now < 2 ^ 63 }
-        ensures { MatchOption result (TakesRun longest self.old self.new run.now) (λ finish. finish ≡ Finish.Memory) }
+        ensures takes { MatchOption result (TakesRun longest self.old self.new run.now) (λ finish. finish ≡ Finish.Memory) }
+        ensures due { self.new.due.text.list ≡ self.old.due.text.list }
     {
         match keep(&mut self.kept, longest, run) {
             Ok(()) => {

@@ -12,12 +12,13 @@ use std::alloc::Global;
 // How many bytes one read of a script gives at most.
 const PIECE: usize = 65536;
 
-/// Runs the lines of a script: each line is run, and its answer written, before the next is judged.
+/// Runs the lines of a script: each line is run before the next is judged, and its answer written before more is read.
 ///
 /// The run ends at the first line outside the grammar (`Bad`), at the first byte beyond `limit` bytes
 /// (`InputTooLong`), at the first read or write that fails, at want of memory, or where the script
-/// does (`Done`). Lines that end within the bytes that were read before are answered. Memory is taken
-/// for what is kept of a line, and by the machine.
+/// does (`Done`). Lines that end within the bytes that were read before are answered; the answers to lines
+/// that end within one read go out together. Memory is taken for what is kept of a line, for the answers
+/// that are due, and by the machine. Want of it for those answers ends nothing: they are written.
 pub fn drive<M: Machine, I: Source, O: Sink>(
     alloc: Global,
     machine: &mut M,
@@ -44,7 +45,7 @@ pub fn drive<M: Machine, I: Source, O: Sink>(
                     return finish;
                 }
             }
-            Got::End => return end_script(alloc, machine, out, &cursor),
+            Got::End => return end_script(alloc, machine, out, &mut cursor),
             Got::Failed => return Finish::ReadFault,
         }
     }

@@ -7,12 +7,13 @@ ghost use Rattle.line_frame.specs.Stands.{Goes, RunsLine, EndsAt, EndsScript};
 ghost use Rattle.line_frame.specs.declared.finish.Finish.{Finish};
 
 use crate::cursor::Cursor;
+use crate::due::Due;
 use crate::{Finish, LineStop, Machine};
 use memchr::memchr;
-use outer_io::{Sink, Written, write_all};
+use outer_io::{Sink, Written};
 use std::alloc::Global;
 
-/// Takes the next bytes of a script: each line that ends is run, and its answer written. None: go on.
+/// Takes the next bytes of a script: each line that ends is run, and at the end all answers are written. None: go on.
 pub(crate) fn take_piece<M: Machine, O: Sink>(
     alloc: Global,
     machine: &mut M,
@@ -23,6 +24,7 @@ pub(crate) fn take_piece<M: Machine, O: Sink>(
 ) -> Option<Finish>
     requires { limit < 2 ^ 63 }
     ensures goes { Goes M.tells machine.old machine.new (O.taken out.old) (O.taken out.new) M.LONGEST limit cursor.old cursor.new piece.now result }
+    ensures none_due { IfNone result (cursor.new.due.text.list ≡ []) }
     ensures counted { IfNone result ((cursor.new.count ≡ cursor.old.count + length piece.now) × (cursor.old.count ≤ limit → cursor.new.count ≤ limit)) }
     ensures count { O.faults out.old ≤ O.faults out.new }
     ensures failed { result ≡ Some Finish.WriteFault → Rose (O.faults out.old) (O.faults out.new) }
@@ -35,7 +37,10 @@ pub(crate) fn take_piece<M: Machine, O: Sink>(
             Err(finish) => return Some(finish),
         }
     }
-    None
+    match cursor.due.write(out) {
+        Written::Whole => None,
+        Written::Failed => Some(Finish::WriteFault),
+    }
 }
 
 /// The end of a script: a last line without its LF is run.
@@ -43,20 +48,20 @@ pub(crate) fn end_script<M: Machine, O: Sink>(
     alloc: Global,
     machine: &mut M,
     out: &mut O,
-    cursor: &Cursor,
+    cursor: &mut Cursor,
 ) -> Finish
-    ensures ends { EndsScript M.tells machine.old (O.taken out.old) (O.taken out.new) M.LONGEST cursor.now result }
+    ensures ends { EndsScript M.tells machine.old (O.taken out.old) (O.taken out.new) M.LONGEST cursor.old result }
     ensures count { O.faults out.old ≤ O.faults out.new }
     ensures failed { result ≡ Finish.WriteFault → Rose (O.faults out.old) (O.faults out.new) }
     ensures exact { O.faults out.new ≡ write_faults_after_run (O.faults out.old) result }
 {
     let line = cursor.kept.as_slice();
     if line.is_empty() {
-        return Finish::Done;
+        return cursor.due.end(out, Finish::Done);
     }
-    match end_line(alloc, machine, out, line, cursor.number) {
+    match end_line(alloc, machine, out, &mut cursor.due, line, cursor.number) {
         Some(finish) => finish,
-        None => Finish::Done,
+        None => cursor.due.end(out, Finish::Done),
     }
 }
 
@@ -85,10 +90,10 @@ fn take_line<M: Machine, O: Sink>(
     let run = run_length(bytes);
     let taken = bytes.len().min(run + 1);
     if taken as u64 > limit.saturating_sub(cursor.count) {
-        return Err(Finish::InputTooLong);
+        return Err(cursor.due.end(out, Finish::InputTooLong));
     }
     if let Some(finish) = cursor.take_run(M::LONGEST, &bytes[..run]) {
-        return Err(finish);
+        return Err(cursor.due.end(out, finish));
     }
     if run == bytes.len() {
         return Ok(run);
@@ -111,7 +116,7 @@ fn run_length(bytes: &[u8]) -> usize
     }
 }
 
-// Takes the LF that ends a line: the line is run, and its answer written. What stands behind it changes no end.
+// Takes the LF that ends a line: the line is run, and its answer is due. What stands behind it changes no end.
 fn take_lf<M: Machine, O: Sink>(
     alloc: Global,
     machine: &mut M,
@@ -128,7 +133,14 @@ fn take_lf<M: Machine, O: Sink>(
     ensures exact { MatchOption result (O.faults out.new ≡ O.faults out.old) (λ finish. O.faults out.new ≡ write_faults_after_run (O.faults out.old) finish) }
 {
     cursor.count += 1;
-    match end_line(alloc, machine, out, cursor.kept.as_slice(), cursor.number) {
+    match end_line(
+        alloc,
+        machine,
+        out,
+        &mut cursor.due,
+        cursor.kept.as_slice(),
+        cursor.number,
+    ) {
         Some(finish) => Some(finish),
         None => {
             cursor.kept.truncate(0);
@@ -138,30 +150,34 @@ fn take_lf<M: Machine, O: Sink>(
     }
 }
 
-// Runs a line that has ended, and writes its answer.
+// Runs a line that has ended: its answer is due. Where the run ends, what was due is written first.
 fn end_line<M: Machine, O: Sink>(
     alloc: Global,
     machine: &mut M,
     out: &mut O,
+    due: &mut Due,
     line: &[u8],
     number: u64,
 ) -> Option<Finish>
     ensures line { MatchOption result
-        (RunsLine (M.tells machine.old) (M.tells machine.new) (O.taken out.old) (O.taken out.new) M.LONGEST line.now)
-        (EndsAt (M.tells machine.old) (O.taken out.old) (O.taken out.new) M.LONGEST number line.now) }
+        (RunsLine (M.tells machine.old) (M.tells machine.new) (O.taken out.old) (O.taken out.new) due.old.text.list due.new.text.list M.LONGEST line.now)
+        (EndsAt (M.tells machine.old) (O.taken out.old) (O.taken out.new) due.old.text.list M.LONGEST number line.now) }
     ensures count { O.faults out.old ≤ O.faults out.new }
     ensures failed { result ≡ Some Finish.WriteFault → Rose (O.faults out.old) (O.faults out.new) }
     ensures exact { MatchOption result (O.faults out.new ≡ O.faults out.old) (λ finish. O.faults out.new ≡ write_faults_after_run (O.faults out.old) finish) }
 {
     match machine.run_line(alloc, line) {
-        Ok(text) => match write_all(out, text.as_slice()) {
+        Ok(answer) => match due.add(out, answer.as_slice()) {
             Written::Whole => None,
             Written::Failed => Some(Finish::WriteFault),
         },
-        Err(LineStop::Bad { column }) => Some(Finish::Bad {
-            line: number,
-            column,
-        }),
-        Err(LineStop::Memory) => Some(Finish::Memory),
+        Err(LineStop::Bad { column }) => Some(due.end(
+            out,
+            Finish::Bad {
+                line: number,
+                column,
+            },
+        )),
+        Err(LineStop::Memory) => Some(due.end(out, Finish::Memory)),
     }
 }

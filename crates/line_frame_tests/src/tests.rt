@@ -1,6 +1,10 @@
 ghost use Rattle.std.specs.Prelude.{◌≡◌, [], ◌∷◌, ◌<◌, ◌^◌};
 ghost use Rattle.std.specs.List.{flat_map};
 
+mod counter;
+mod joined;
+mod judge;
+
 use line_frame::{Finish, LineStop, Machine, drive};
 use outer_io::{Got, MemSink, MemSource, Source};
 use std::alloc::Global;
@@ -82,8 +86,12 @@ fn a_script_is_run_in_pieces_of_any_size(rt: HostRuntime) -> Result<(), Fail> {
         run(&rt, piece, 14, 0, 0, (Finish::Done, b"y\ny\ny\ny\n"))?;
         run(&rt, piece, 13, 0, 0, (Finish::InputTooLong, b"y\ny\ny\n"))?;
         run(&rt, piece, 11, 0, 0, (Finish::InputTooLong, b"y\n"))?;
+    }
+    for piece in [1, 5] {
         run(&rt, piece, 99, 0, 2, (Finish::WriteFault, b"y\n"))?;
     }
+    run(&rt, 99, 99, 0, 1, (Finish::WriteFault, b""))?;
+    run(&rt, 99, 99, 0, 2, (Finish::WriteFault, b"y\ny\ny\n"))?;
     run(&rt, 5, 99, 2, 0, (Finish::ReadFault, b"y\n"))?;
     run(&rt, 99, 99, 2, 0, (Finish::ReadFault, b"y\ny\ny\n"))?;
     Ok(())
@@ -101,13 +109,16 @@ fn stopped_at(alloc: Global, piece: usize, write: u64) -> Result<(Finish, u64), 
 
 #[test]
 fn nothing_is_read_before_what_came_is_answered(rt: HostRuntime) -> Result<(), Fail> {
-    let table: [(usize, u64, u64); 6] = [
+    let table: [(usize, u64, u64); 9] = [
         (2, 1, 4),
         (2, 2, 2),
         (2, 3, 0),
         (1, 1, 4),
         (3, 1, 3),
         (3, 2, 0),
+        (4, 1, 2),
+        (4, 2, 0),
+        (6, 1, 0),
     ];
     for (piece, write, want) in table {
         assert_eq!(rt;

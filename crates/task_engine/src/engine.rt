@@ -80,7 +80,7 @@ impl Engine {
     }
 
     /// A body of the program.
-    pub(crate) fn body(&self, body: u32) -> &Body
+    pub fn body(&self, body: u32) -> &Body
         requires { IsSome (slice_get (checked_term self.now).program.bodies body) }
         ensures { slice_get (checked_term self.now).program.bodies body ≡ Some (body_term result.now) }
     {
@@ -91,7 +91,7 @@ impl Engine {
     }
 
     /// How many `edit` and `share` nodes stand before a body.
-    pub(crate) fn body_first(&self, body: u32) -> u64
+    pub fn body_first(&self, body: u32) -> u64
         requires { IsSome (slice_get (checked_term self.now).program.bodies body) }
         ensures { result ≡ checked.body_first (program_term self.now.program) body }
     {

@@ -1,4 +1,4 @@
-ghost use Rattle.std.specs.Prelude.{◌≡◌, map};
+ghost use Rattle.std.specs.Prelude.{◌≡◌, map, IfOk, None};
 ghost use Rattle.task_model.specs.Value.{value_term};
 ghost use Rattle.task_model.specs.Task.{task_term};
 ghost use Rattle.task_model.specs.Tree.{cont_term, tree_term, at};
@@ -42,6 +42,7 @@ pub fn stride(
 ) -> Result<Option<Tree>, Stop>
     requires may { MayAsk (checked_term engine.now) (strides (at (tree_term t.now) (map value_term store.old.list))) }
     ensures layers { store.new.layers ≡ store.old.layers }
+    ensures kept { IfOk result (λ o. o ≡ None → store.new.list ≡ store.old.list) }
     ensures spends { Spends (judgements.Strides (checked_term engine.now) (at (tree_term t.now) (map value_term store.old.list))) (λ o. at (after_stride (tree_term t.now) o) (map value_term store.new.list)) purse.old purse.new result }
 {
     // The program of an engine is accepted.

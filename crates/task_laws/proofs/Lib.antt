@@ -6,9 +6,6 @@ mod PlaceLemmas
 mod FootLemmas
 mod FailingLemmas
 mod NextLemmas
-mod PlainLemmas
-mod PlainFaceLemmas
-mod PlainFitLemmas
 pub mod ParseLemmas
 pub mod PlacedLemmas
 pub mod CountLemmas

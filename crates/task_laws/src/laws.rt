@@ -14,10 +14,7 @@ ghost use Rattle.task_model.specs.Address.{Address, address_turns, address_of};
 ghost use Rattle.task_model.specs.declared.input.Turn.{Turn};
 ghost use Rattle.task_laws.specs.ActsAt.{ActsAt};
 ghost use Rattle.task_model.specs.Item.{ItemTerm};
-ghost use Rattle.task_model.specs.Accepted.{IsPlainChecked, IsAccepted};
 ghost use Rattle.task_model.specs.Written.{IsWritten};
-ghost use Rattle.task_model.specs.PlainTree.{IsSmallTree};
-ghost use Rattle.task_model.specs.Fits.{Fits};
 ghost use Rattle.task_model.specs.Program.{ProgramTerm};
 ghost use Rattle.task_model.specs.Grammar.{program, task, expression, Parse};
 ghost use Rattle.task_model.specs.Meaning.{meaning, bodies_of, program_of};
@@ -27,15 +24,14 @@ ghost use Rattle.task_model.specs.FullTask.{full_in, full_bodies};
 ghost use Rattle.task_laws.specs.BodyFronts.{edit_words, body_fronts};
 ghost use Rattle.task_laws.specs.ProgramNodes.{definitions_nodes};
 ghost use Rattle.task_model.specs.Placed.{IsPlaced, firsts_of};
-ghost use Rattle.task_model.specs.Outcome.{taken, not_offered, over_budget, IsOutcome};
+ghost use Rattle.task_model.specs.Outcome.{not_offered, IsOutcome};
 ghost use Rattle.task_model.specs.Text.{Text};
-ghost use Rattle.task_model.specs.State.{IsReached, IsLegal, IsPage, history_prefix, version_of};
+ghost use Rattle.task_model.specs.State.{IsLegal, IsPage, history_prefix, version_of};
 ghost use Rattle.task_model.specs.declared.widget.Face.{Face};
 ghost use Rattle.task_model.specs.Sign.{Test};
 ghost use Rattle.task_model.specs.Offer.{next_offer, OfferTerm, AreOffers, SomeMatches};
 ghost use Rattle.task_model.specs.Widget.{WidgetTerm, AreWidgets};
 ghost use Rattle.task_laws.specs.TreePlaces.{places_in};
-ghost use Rattle.task_laws.specs.PlainStates.{IsPlainState, SetsInt, OffersInt, IsPlainShape};
 
 /// A tree's foot has exactly the places that are in the tree, in increasing order and each once. Two stores agree on it
 /// where they have the same length and the same values at these places.
@@ -119,34 +115,6 @@ pub fn inputs_act_at_their_address()
         address_of t σ path act ≡ None → (r : Option State) (n h : ℕ) → Handled c (at t σ) (record { path = path; act = act }) r n h ↔ gives None r n h }
     ensures turns { (t : TreeTerm) (σ : List ValueTerm) (path : List Turn) (act : ActTerm) (a : Address) →
         address_of t σ path act ≡ Some a → address_turns a ≡ path }
-{}
-
-/// A plain program meets none of the other cases: at all its states the tree is plain and small and the store empty; the
-/// tree isn't failing; it offers nothing but setting ints, for certain, and shows nothing but editors of ints and pairs;
-/// what is taken sets an int, and no input is over the budget. Today all programs that are run are plain.
-pub fn plain_programs_stay_plain()
-    ensures accepted { (c : CheckedTerm) (budget : ℕ) (items : List ItemTerm) (s : State) →
-        IsPlainChecked c → IsReached c budget items s → IsPlainState c budget s }
-    ensures state { (c : CheckedTerm) (budget : ℕ) (s : State) → IsPlainState c budget s → IsSmallTree s.tree × (s.store ≡ []) }
-    ensures failing { (c : CheckedTerm) (budget : ℕ) (s : State) → IsPlainState c budget s → (n h : ℕ) → Fails c s true n h → ⊥ }
-    ensures offers { (c : CheckedTerm) (budget : ℕ) (s : State) → IsPlainState c budget s →
-        (os : List OfferTerm) → AreOffers c budget s.tree s.store os → All OffersInt os }
-    ensures widgets { (c : CheckedTerm) (budget : ℕ) (s : State) → IsPlainState c budget s →
-        (ws : List WidgetTerm) → AreWidgets c budget s.tree s.store ws → All (λ w. IsPlainShape w.shape) ws }
-    ensures taken { (c : CheckedTerm) (budget : ℕ) (s : State) → IsPlainState c budget s →
-        (i : InputTerm) (t : State) → IsOutcome c budget s i (taken t) → SetsInt i.act }
-    ensures over_budget { (c : CheckedTerm) (budget : ℕ) (s : State) → IsPlainState c budget s →
-        (i : InputTerm) → IsOutcome c budget s i over_budget → ⊥ }
-{}
-
-/// A plain program that is written is accepted, with int as the type of each of its `edit` nodes.
-pub fn plain_programs_are_accepted()
-    ensures { (c : CheckedTerm) → IsWritten c.program → IsPlainChecked c → IsAccepted c }
-{}
-
-/// Each state of a plain program fits the program.
-pub fn plain_states_fit()
-    ensures { (c : CheckedTerm) (budget : ℕ) (s : State) → IsPlainState c budget s → Fits c s }
 {}
 
 /// Of a program that is written no body is absent, and the scope of each one is the names in scope where it stands.

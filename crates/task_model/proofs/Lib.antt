@@ -8,6 +8,5 @@ pub mod OutcomeLemmas
 pub mod RowLemmas
 pub mod RanLemmas
 pub mod DemandLemmas
-pub mod PlainAccepted
 pub mod BodyCounts
 pub mod BodyLemmas

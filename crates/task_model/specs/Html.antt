@@ -33,10 +33,10 @@ form_text path act fields button =
 abbrev pub paragraph : Text → Text
 paragraph text = codes "<p>" ++ text ++ codes "</p>\n"
 
--- what an editor's field shows: the content of a text, and of any other value its literal
-abbrev pub shown_value : ValueTerm → Text
-shown_value (text_value t) = html_escaped t
-shown_value v = html_escaped (value_text v)
+-- what the field of an editor of a type shows: of text the content, and of any other type the value's literal
+abbrev pub shown_value : BasicTerm → ValueTerm → Text
+shown_value text_type (text_value t) = html_escaped t
+shown_value b v = html_escaped (value_text v)
 
 -- the fields of an editor's form: a text is edited raw, in an area, and any other type as a literal
 abbrev pub editor_fields : BasicTerm → Text → Text
@@ -58,9 +58,9 @@ sign_form path act signs.Over = form_text path act [] (act ++ codes "?")
 
 -- what is shown of a node, at a path
 abbrev pub shape_fragment : Text → ShapeTerm → Text
-shape_fragment path (edit_shape b v) = editor_text path (codes "edit") b (shown_value v)
+shape_fragment path (edit_shape b v) = editor_text path (codes "edit") b (shown_value b v)
 shape_fragment path (enter_shape b) = editor_text path (codes "enter") b []
-shape_fragment path (share_shape b v) = editor_text path (codes "share") b (shown_value v)
+shape_fragment path (share_shape b v) = editor_text path (codes "share") b (shown_value b v)
 shape_fragment path then_shape = paragraph (path ++ codes " then")
 shape_fragment path (step_shape s) = paragraph (path ++ codes " step") ++ sign_form path (codes "next") s
 shape_fragment path fail_shape = paragraph (path ++ codes " fail")

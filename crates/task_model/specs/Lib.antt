@@ -46,7 +46,6 @@ pub mod TaskTyping
 pub mod Placed
 pub mod Fits
 pub mod Accepted
-pub mod PlainTree
 pub mod State
 pub mod Spends
 pub mod Token

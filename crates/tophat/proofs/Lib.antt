@@ -1,8 +1,9 @@
-mod CutLine
 mod SentenceLemmas
 mod LineLemmas
 mod SessionLemmas
+mod VerdictLemmas
 mod OpeningLemmas
+mod SoakLemmas
 mod ReportLemmas
 mod WorkLemmas
 mod PromiseLemmas

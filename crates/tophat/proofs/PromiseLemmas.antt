@@ -1,19 +1,23 @@
 -- The promise follows from how a command went.
-use Rattle.std.proofs.Common.{◌≡◌, ℕ, ◌++◌, Option, None, Some, ◌⊎◌, inl, inr, refl, sym, ◌∙◌, ap, subst}
-use Rattle.std.specs.Prelude.{option_map, IfSome, IfNone, MatchOption}
+use Rattle.std.proofs.Common.{◌≡◌, ℕ, ◌++◌, Option, None, Some, ◌⊎◌, inl, inr, refl, sym, ◌∙◌, ap, subst, arith}
+use Rattle.std.specs.Prelude.{MatchOption, Result, Ok, Err, IfOk, IfErr}
 use Rattle.std.specs.Io.KnownBytes.{Appends}
 use Rattle.outer_io.specs.Sink.{IsStart}
 use Rattle.line_frame.specs.declared.finish.Finish.TheVariants as finishes
 use Rattle.task_model.specs.Text.{Text}
 use Rattle.tophat.specs.declared.ending.Ending.{Ending}
-use Rattle.tophat.specs.declared.ending.Ending.TheVariants.{Usage, FileFault, Unopened, Ran}
+use Rattle.tophat.specs.declared.ending.Ending.TheVariants.{Usage, FileFault, Unopened, Ran, WriteFault}
 use Rattle.tophat.specs.declared.no_world.NoWorld.TheVariants.{Memory}
-use Rattle.tophat.specs.Command.{CommandTerm}
-use Rattle.tophat.specs.Ending.{status_of}
+use Rattle.command_words.specs.Commands.{CommandTerm, command_term, IsAsked}
+use Rattle.command_words.specs.declared.command.Command.{Command}
+use Rattle.command_words.specs.declared.stop.WordStop.{WordStop}
+use Rattle.command_words.specs.declared.stop.WordStop.TheVariants as words
+use Rattle.command_words.specs.declared.stop.WordStop.TheVariants.{Outside}
+use Rattle.tophat.specs.Ending.{status_of, text_of}
 use Rattle.tophat.specs.Promise.{IsCutShort, WritesReport, Promised, HasVerdictBy}
 use Rattle.tophat.specs.Verdict.{IsVerdictOf}
-use Rattle.tophat.specs.Top.{Limits, Report, Reports}
-use Rattle.tophat.specs.Worked.{HasVerdictAt, IfNotRun, Writes}
+use Rattle.tophat.specs.Top.{Limits, Report, named, source_of, Reports}
+use Rattle.tophat.specs.Worked.{HasVerdictAt, IfNotRun, IfSilent, Writes}
 use Rattle.tophat.specs.Went.{Counted, Went}
 use Rattle.tophat.proofs.ReportLemmas.{report_exists}
 use Rattle.tophat.proofs.WorkLemmas.{is_usage}
@@ -29,6 +33,7 @@ writes_either report written (Unopened Memory) c = inr (inr (inr refl), c)
 writes_either report written (Ran finishes.ReadFault) c = inr (inl refl, c)
 writes_either report written (Ran finishes.WriteFault) c = inr (inr (inl refl), c)
 writes_either report written (Ran finishes.Memory) c = inr (inr (inr refl), c)
+writes_either report written WriteFault c = inr (inr (inl refl), c)
 writes_either report written ending c = inl c
 
 writes_report : (report : Report) (before written : Text) (now : Option Text) (ending : Ending) (status : ℕ) → status ≡ status_of ending
@@ -48,18 +53,20 @@ readable_by file ending status e r = inr r
 
 pub promised : (l : Limits) (command : Option CommandTerm) (holds : Option (Option Text))
     (left_old left_new taken_old taken_new said_old said_new : Option Text)
-    (files input out err : Counted) (untouched : Type 0) (status : ℕ)
-    → Went l command holds left_old left_new taken_old taken_new said_old said_new files input out err untouched status
+    (files input out err : Counted) (unread unwritten : Type 0) (status : ℕ)
+    → Went l command holds left_old left_new taken_old taken_new said_old said_new files input out err unread unwritten status
     → Promised l command holds left_old taken_old taken_new status
-promised l command None left_old left_new taken_old taken_new said_old said_new files input out err untouched status w = tt
-promised l command (Some file) None left_new taken_old taken_new said_old said_new files input out err untouched status w = tt
-promised l command (Some file) (Some script) left_new None taken_new said_old said_new files input out err untouched status w = tt
-promised l command (Some file) (Some script) left_new (Some first) taken_new said_old said_new files input out err untouched status w = (
-  subst (HasVerdictBy status) (sym w.worked.file_told) (readable_by w.worked.file w.ending status w.status_is w.worked.verdict_is),
+promised l command None left_old left_new taken_old taken_new said_old said_new files input out err unread unwritten status w = tt
+promised l command (Some file) None left_new taken_old taken_new said_old said_new files input out err unread unwritten status w = tt
+promised l command (Some file) (Some script) left_new None taken_new said_old said_new files input out err unread unwritten status w = tt
+promised l command (Some file) (Some script) left_new (Some first) taken_new said_old said_new files input out err unread unwritten status w = (
+  subst (λ (f : Option Text). HasVerdictBy status (source_of command f)) (sym w.worked.file_told)
+      (readable_by (source_of command w.worked.file) w.ending status w.status_is w.worked.verdict_is),
   λ verdict h.
       let d = w.worked in
       let r = report_exists l command file verdict script in
-      let known : IsVerdictOf d.file verdict = subst (λ (f : Option Text). IsVerdictOf f verdict) d.file_told h in
+      let known : IsVerdictOf (source_of command d.file) verdict =
+      subst (λ (f : Option Text). IsVerdictOf (source_of command f) verdict) d.file_told h in
       let reports : Reports l command d.file verdict d.script r.0 =
       subst (λ (z : Text). Reports l command d.file verdict z r.0) d.script_told
       (subst (λ (f : Option Text). Reports l command f verdict script r.0) d.file_told r.1) in (
@@ -70,16 +77,39 @@ promised l command (Some file) (Some script) left_new (Some first) taken_new sai
       ),
 )
 
--- status 2 comes exactly where the words ask for nothing
-pub usage_is : {A : Type 0} (view : A → CommandTerm) (asked : Option A) (command : Option CommandTerm) (ending : Ending) (status : ℕ)
-    (no_file no_read no_write : Type 0)
-    → option_map view asked ≡ command → status ≡ status_of ending → IfSome asked (λ _. ending ≡ Usage → ⊥)
-    → IfNone asked ((ending ≡ Usage) × no_file)
-    → IfNotRun ending (no_read × no_write) → MatchOption command ((status ≡ 2) × no_file × no_read × no_write) (λ _. status ≡ 2 → ⊥)
-usage_is view None None ending status no_file no_read no_write e is some none run =
-    let kept = subst (λ (z : Ending). IfNotRun z (no_read × no_write)) none.0 run in
-    (is ∙ ap status_of none.0, none.1, kept.0, kept.1)
-usage_is view (Some asked) (Some command) ending status no_file no_read no_write e is some none run = λ two. some
+-- status 2 comes where the words are outside the grammar, unless memory ran out, and nowhere else
+pub usage_is : (asked : Result Command WordStop) (command : Option CommandTerm) (ending : Ending) (status : ℕ) (no_file no_read no_write : Type 0)
+    → IsAsked command asked → status ≡ status_of ending → IfOk asked (λ _. ending ≡ Usage → ⊥)
+    → (asked ≡ Err Outside → ending ≡ Usage) → (asked ≡ Err words.Memory → ending ≡ Unopened Memory) → IfErr asked (λ _. no_file)
+    → IfNotRun ending no_read → IfSilent ending no_write
+    → MatchOption command (((status ≡ 2) ⊎ (status ≡ 8)) × no_file × no_read × no_write) (λ _. status ≡ 2 → ⊥)
+usage_is (Ok asked) (Some command) ending status no_file no_read no_write g is some outside memory file run silent = λ two. some
     (is_usage ending (sym is ∙ two))
-usage_is view None (Some command) ending status no_file no_read no_write e is some none run = absurd (cc)
-usage_is view (Some asked) None ending status no_file no_read no_write e is some none run = absurd (cc)
+usage_is (Ok asked) None ending status no_file no_read no_write g is some outside memory file run silent = absurd (cc)
+usage_is (Err Outside) None ending status no_file no_read no_write g is some outside memory file run silent =
+    let e = outside refl in (
+      inl (is ∙ ap status_of e),
+      file,
+      subst (λ (z : Ending). IfNotRun z no_read) e run,
+      subst (λ (z : Ending). IfSilent z no_write) e silent,
+    )
+usage_is (Err Outside) (Some command) ending status no_file no_read no_write g is some outside memory file run silent = absurd (cc)
+usage_is (Err words.Memory) None ending status no_file no_read no_write g is some outside memory file run silent =
+    let e = memory refl in (
+      inr (is ∙ ap status_of e),
+      file,
+      subst (λ (z : Ending). IfNotRun z no_read) e run,
+      subst (λ (z : Ending). IfSilent z no_write) e silent,
+    )
+usage_is (Err words.Memory) (Some command) ending status no_file no_read no_write g is some outside memory file run silent = λ two.
+    let e = is ∙ ap status_of (memory refl) in absurd (omega (arith, e, two))
+
+-- the name that is told of the file of a command, where any is
+pub named_text : (asked : Result Command WordStop) (command : Option CommandTerm) (ending : Ending) (name : Text) → IsAsked command asked
+    → IfOk asked (λ c. name ≡ named (Some (command_term c))) → (asked ≡ Err Outside → ending ≡ Usage)
+    → (asked ≡ Err words.Memory → ending ≡ Unopened Memory) → text_of name ending ≡ text_of (named command) ending
+named_text (Ok asked) command ending name g is outside memory = ap (λ (z : Text). text_of z ending) (is ∙ ap named (sym g))
+named_text (Err Outside) command ending name g is outside memory =
+    subst (λ (z : Ending). text_of name z ≡ text_of (named command) z) (sym (outside refl)) refl
+named_text (Err words.Memory) command ending name g is outside memory =
+    subst (λ (z : Ending). text_of name z ≡ text_of (named command) z) (sym (memory refl)) refl

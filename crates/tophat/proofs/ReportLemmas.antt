@@ -7,13 +7,15 @@ use Rattle.world_core.specs.World.{WorldTerm}
 use Rattle.line_frame.specs.Told.{Told}
 use Rattle.line_frame.specs.Script.{TellsScript}
 use Rattle.line_frame.specs.declared.finish.Finish.{Finish}
+use Rattle.command_words.specs.Commands.{CommandTerm, run, check, soak}
 use Rattle.tophat.specs.declared.ending.Ending.TheVariants.{Usage, Absent, FileTooLong, Unopened}
 use Rattle.tophat.specs.declared.no_world.NoWorld.TheVariants.{Refused, OverBudget}
-use Rattle.tophat.specs.Command.{CommandTerm, run}
 use Rattle.tophat.specs.Verdict.{Verdict, accepted, refused}
 use Rattle.tophat.specs.Session.{Tells}
-use Rattle.tophat.specs.Top.{Limits, Report, ends, reported, Opened, world, none, world_at, OpensVerdict, OpensFile, ReportsOpened, Reports, ReportsLines}
+use Rattle.tophat.specs.SoakReport.{TallyTerm, no_inputs, summary_text, IsSummary}
+use Rattle.tophat.specs.Top.{Limits, Report, ends, writes, reported, Opened, world, none, world_at, checks, soak_budget, OpensVerdict, ReportsFile, ReportsOpened, ReportsVerdict, ReportsTold, ReportsSoak, ReportsCommand, Reports, ReportsLines}
 use Rattle.tophat.proofs.SessionLemmas.{script_exists, script_once, told_exists}
+use Rattle.tophat.proofs.SoakLemmas.{soaks_exist, soaks_once}
 
 -- ---- openings
 pub opens_once : (budget : ℕ) (verdict : Verdict) (o p : Opened) → OpensVerdict budget verdict o → OpensVerdict budget verdict p → o ≡ p
@@ -32,57 +34,110 @@ opens_exists budget (accepted c) = by (opening_decided c budget)
     by (opens s o) = (world (world_at c budget s), (s, o, refl))
     by (never_opens never) = (none (Unopened OverBudget), (never, refl))
 
--- ---- files
-pub file_once : (limit budget : ℕ) (file : Option Text) (verdict : Verdict) (o p : Opened) → OpensFile limit budget file verdict o
-    → OpensFile limit budget file verdict p → o ≡ p
-file_once limit budget None verdict o p d e = d ∙ sym e
-file_once limit budget (Some bytes) verdict o p (inl d) (inl e) = opens_once budget verdict o p d.1 e.1
-file_once limit budget (Some bytes) verdict o p (inl d) (inr e) = let le = d.0 in let lt = e.0 in absurd (omega arith)
-file_once limit budget (Some bytes) verdict o p (inr d) (inl e) = let lt = d.0 in let le = e.0 in absurd (omega arith)
-file_once limit budget (Some bytes) verdict o p (inr d) (inr e) = d.1 ∙ sym e.1
+-- ---- one report, and there is one
+abbrev Once : (Report → Type 0) → Type 0
+Once Says = (r s : Report) → Says r → Says s → r ≡ s
 
-file_exists : (limit budget : ℕ) (file : Option Text) (verdict : Verdict) → (o : Opened) × OpensFile limit budget file verdict o
-file_exists limit budget None verdict = (none Absent, refl)
-file_exists limit budget (Some bytes) verdict = elim (leb_tells (length bytes) limit) [
-  | inl p ↦ let o = opens_exists budget verdict in (o.0, inl (p.1, o.1))
-  | inr q ↦ (none FileTooLong, inr (q.1, refl))
+abbrev There : (Report → Type 0) → Type 0
+There Says = (r : Report) × Says r
+
+file_once : (limit : ℕ) (file : Option Text) (Says : Report → Type 0) → Once Says → Once (ReportsFile limit file Says)
+file_once limit None Says one r s d e = d ∙ sym e
+file_once limit (Some bytes) Says one r s (inl d) (inl e) = one r s d.1 e.1
+file_once limit (Some bytes) Says one r s (inl d) (inr e) = let le = d.0 in let lt = e.0 in absurd (omega arith)
+file_once limit (Some bytes) Says one r s (inr d) (inl e) = let lt = d.0 in let le = e.0 in absurd (omega arith)
+file_once limit (Some bytes) Says one r s (inr d) (inr e) = d.1 ∙ sym e.1
+
+file_exists : (limit : ℕ) (file : Option Text) (Says : Report → Type 0) → There Says → There (ReportsFile limit file Says)
+file_exists limit None Says some = (ends Absent, refl)
+file_exists limit (Some bytes) Says some = elim (leb_tells (length bytes) limit) [
+  | inl p ↦ (some.0, inl (p.1, some.1))
+  | inr q ↦ (ends FileTooLong, inr (q.1, refl))
 ]
 
--- ---- reports
-opened_once : (TellsAt : WorldTerm → Told → Type 0) → ((w : WorldTerm) (t u : Told) → TellsAt w t → TellsAt w u → t ≡ u)
-    → (o : Opened) (r s : Report) → ReportsOpened TellsAt o r → ReportsOpened TellsAt o s → r ≡ s
-opened_once TellsAt one (world w) r s d e = d.2 ∙ ap reported (one w d.0 e.0 d.1 e.1) ∙ sym e.2
-opened_once TellsAt one (none ending) r s d e = d ∙ sym e
+opened_once : (ReportsAt : WorldTerm → Report → Type 0) → ((w : WorldTerm) → Once (ReportsAt w)) → (o : Opened)
+    → Once (ReportsOpened ReportsAt o)
+opened_once ReportsAt one (world w) r s d e = one w r s d e
+opened_once ReportsAt one (none ending) r s d e = d ∙ sym e
 
-opened_exists : (TellsAt : WorldTerm → Told → Type 0) → ((w : WorldTerm) → (t : Told) × TellsAt w t) → (o : Opened)
-    → (r : Report) × ReportsOpened TellsAt o r
-opened_exists TellsAt some (world w) = let t = some w in (reported t.0, (t.0, t.1, refl))
-opened_exists TellsAt some (none ending) = (ends ending, refl)
+opened_exists : (ReportsAt : WorldTerm → Report → Type 0) → ((w : WorldTerm) → There (ReportsAt w)) → (o : Opened)
+    → There (ReportsOpened ReportsAt o)
+opened_exists ReportsAt some (world w) = some w
+opened_exists ReportsAt some (none ending) = (ends ending, refl)
+
+verdict_once : (budget : ℕ) (verdict : Verdict) (ReportsAt : WorldTerm → Report → Type 0) → ((w : WorldTerm) → Once (ReportsAt w))
+    → Once (ReportsVerdict budget verdict ReportsAt)
+verdict_once budget verdict ReportsAt one r s d e =
+    let same = opens_once budget verdict d.0 e.0 d.1 e.1 in
+    opened_once ReportsAt one e.0 r s (subst (λ (o : Opened). ReportsOpened ReportsAt o r) same d.2) e.2
+
+verdict_exists : (budget : ℕ) (verdict : Verdict) (ReportsAt : WorldTerm → Report → Type 0) → ((w : WorldTerm) → There (ReportsAt w))
+    → There (ReportsVerdict budget verdict ReportsAt)
+verdict_exists budget verdict ReportsAt some =
+    let o = opens_exists budget verdict in
+    let r = opened_exists ReportsAt some o.0 in
+    (r.0, (o.0, o.1, r.1))
+
+told_reported_once : (TellsAt : WorldTerm → Told → Type 0) → ((w : WorldTerm) (t u : Told) → TellsAt w t → TellsAt w u → t ≡ u)
+    → (w : WorldTerm) → Once (ReportsTold TellsAt w)
+told_reported_once TellsAt one w r s d e = d.2 ∙ ap reported (one w d.0 e.0 d.1 e.1) ∙ sym e.2
+
+told_reported : (TellsAt : WorldTerm → Told → Type 0) → ((w : WorldTerm) → (t : Told) × TellsAt w t) → (w : WorldTerm)
+    → There (ReportsTold TellsAt w)
+told_reported TellsAt some w = let t = some w in (reported t.0, (t.0, t.1, refl))
+
+summary_once : (count seed : ℕ) (w : WorldTerm) (a b : Text) → IsSummary count seed w a → IsSummary count seed w b → a ≡ b
+summary_once count seed w a b d e =
+    let same = soaks_once count seed w no_inputs d.0 e.0 d.1 e.1 d.2 e.2 in
+    d.3 ∙ ap (λ (z : WorldTerm). summary_text count d.1 z) same.0 ∙ ap (λ (z : TallyTerm). summary_text count z e.0) same.1 ∙ sym e.3
+
+pub soak_once : (count seed : ℕ) (w : WorldTerm) → Once (ReportsSoak count seed w)
+soak_once count seed w r s d e =
+    d.2 ∙ ap writes (summary_once count seed w d.0 e.0 d.1 e.1) ∙ sym e.2
+
+soak_exists : (count seed : ℕ) (w : WorldTerm) → There (ReportsSoak count seed w)
+soak_exists count seed w = let u = soaks_exist count seed w no_inputs in
+    (writes (summary_text count u.1 u.0), (summary_text count u.1 u.0, (u.0, u.1, u.2, refl), refl))
+
+-- ---- commands
+pub soak_verdict_once : (count seed : ℕ) (verdict : Verdict) → Once (ReportsVerdict soak_budget verdict (ReportsSoak count seed))
+soak_verdict_once count seed verdict = verdict_once soak_budget verdict (ReportsSoak count seed) (soak_once count seed)
+
+command_once : (l : Limits) (command : Option CommandTerm) (file : Option Text) (verdict : Verdict) (TellsAt : WorldTerm → Told → Type 0)
+    → ((w : WorldTerm) (t u : Told) → TellsAt w t → TellsAt w u → t ≡ u) → Once (ReportsCommand l command file verdict TellsAt)
+command_once l None file verdict TellsAt one r s d e = d ∙ sym e
+command_once l (Some (run name budget)) file verdict TellsAt one r s d e =
+    file_once l.file file (ReportsVerdict budget verdict (ReportsTold TellsAt))
+    (verdict_once budget verdict (ReportsTold TellsAt) (told_reported_once TellsAt one)) r s d e
+command_once l (Some (check name)) file verdict TellsAt one r s d e =
+    file_once l.file file (λ z. z ≡ checks verdict) (λ a b p q. p ∙ sym q) r s d e
+command_once l (Some (soak count seed)) file verdict TellsAt one r s d e = soak_verdict_once count seed verdict r s d e
+
+command_reported : (l : Limits) (command : Option CommandTerm) (file : Option Text) (verdict : Verdict) (TellsAt : WorldTerm → Told → Type 0)
+    → ((w : WorldTerm) → (t : Told) × TellsAt w t) → There (ReportsCommand l command file verdict TellsAt)
+command_reported l None file verdict TellsAt some = (ends Usage, refl)
+command_reported l (Some (run name budget)) file verdict TellsAt some =
+    file_exists l.file file (ReportsVerdict budget verdict (ReportsTold TellsAt))
+    (verdict_exists budget verdict (ReportsTold TellsAt) (told_reported TellsAt some))
+command_reported l (Some (check name)) file verdict TellsAt some = file_exists l.file file (λ z. z ≡ checks verdict) (checks verdict, refl)
+command_reported l (Some (soak count seed)) file verdict TellsAt some =
+    verdict_exists soak_budget verdict (ReportsSoak count seed) (soak_exists count seed)
 
 pub report_once : (l : Limits) (command : Option CommandTerm) (file : Option Text) (verdict : Verdict) (script : Text) (r s : Report)
     → Reports l command file verdict script r → Reports l command file verdict script s → r ≡ s
-report_once l None file verdict script r s d e = d ∙ sym e
-report_once l (Some (run name budget)) file verdict script r s d e =
-    let TellsAt : WorldTerm → Told → Type 0 = λ w told. TellsScript (Tells l.line w 1) l.script script told in
-    let same = file_once l.file budget file verdict d.0 e.0 d.1 e.1 in
-    opened_once TellsAt (λ w t u p q. script_once l.line l.script w script t u p q) e.0 r s
-    (subst (λ (o : Opened). ReportsOpened TellsAt o r) same d.2) e.2
+report_once l command file verdict script r s d e =
+    command_once l command file verdict (λ w told. TellsScript (Tells l.line w 1) l.script script told)
+    (λ w t u p q. script_once l.line l.script w script t u p q) r s d e
 
 pub report_exists : (l : Limits) (command : Option CommandTerm) (file : Option Text) (verdict : Verdict) (script : Text)
     → (r : Report) × Reports l command file verdict script r
-report_exists l None file verdict script = (ends Usage, refl)
-report_exists l (Some (run name budget)) file verdict script =
-    let TellsAt : WorldTerm → Told → Type 0 = λ w told. TellsScript (Tells l.line w 1) l.script script told in
-    let o = file_exists l.file budget file verdict in
-    let r = opened_exists TellsAt (λ w. script_exists l.line l.script w script) o.0 in
-    (r.0, (o.0, o.1, r.1))
+report_exists l command file verdict script =
+    command_reported l command file verdict (λ w told. TellsScript (Tells l.line w 1) l.script script told)
+    (λ w. script_exists l.line l.script w script)
 
 -- the same of lines
 pub lines_reported : (l : Limits) (command : Option CommandTerm) (file : Option Text) (verdict : Verdict) (lines : List Text)
     (finish : Finish)
     → (r : Report) × ReportsLines l command file verdict lines finish r
-lines_reported l None file verdict lines finish = (ends Usage, refl)
-lines_reported l (Some (run name budget)) file verdict lines finish =
-    let o = file_exists l.file budget file verdict in
-    let r = opened_exists (λ w told. Tells l.line w 1 lines finish told) (λ w. told_exists l.line w 1 lines finish) o.0 in
-    (r.0, (o.0, o.1, r.1))
+lines_reported l command file verdict lines finish =
+    command_reported l command file verdict (λ w told. Tells l.line w 1 lines finish told) (λ w. told_exists l.line w 1 lines finish)

@@ -2,10 +2,12 @@
 use Rattle.std.proofs.Common.{◌≡◌, ℕ, ◌+◌, ◌<◌, ◌≤◌, [], length, replicate, Option, None, Some, refl, sym, ◌∙◌, ap, subst, inl, inr, ◌⊎◌, arith, append-nil}
 use Rattle.std.proofs.lemmas.List.{length-replicate}
 use Rattle.std.proofs.KnownBytes.{Appends-nil, Consumes-nil}
+use Rattle.std.specs.Io.KnownBytes.{Appends}
 use Rattle.std.specs.Prelude.{Ok, Err}
 use Rattle.outer_io.specs.Causes.{Rose}
 use Rattle.outer_io.specs.Files.{AnswersFile}
-use Rattle.outer_io.specs.Sink.{IsStart, Wrote}
+use Rattle.outer_io.specs.Sink.{IsStart}
+use Rattle.outer_io.specs.Sink as sinks
 use Rattle.outer_io.specs.declared.files.FileAnswer.TheVariants.{Bytes, TooLong}
 use Rattle.outer_io.specs.declared.files.FileAnswer.TheVariants as answers
 use Rattle.outer_io.specs.declared.sink.Written.{Written}
@@ -16,21 +18,29 @@ use Rattle.task_syntax.specs.declared.stop.ReadKind.TheVariants as reads
 use Rattle.world_core.specs.World.{WorldTerm, SeenWorld, world_term}
 use Rattle.line_frame.specs.Told.{Told, Comes}
 use Rattle.line_frame.specs.Drove.{Drove, IsTold}
+use Rattle.line_frame.specs.Script.{TellsScript}
 use Rattle.line_frame.specs.declared.finish.Finish.{Finish}
 use Rattle.line_frame.specs.declared.finish.Finish.TheVariants as finishes
 use Rattle.tophat.specs.declared.ending.Ending.{Ending}
-use Rattle.tophat.specs.declared.ending.Ending.TheVariants.{Usage, Absent, FileTooLong, FileFault, Unopened, Ran}
+use Rattle.tophat.specs.declared.ending.Ending.TheVariants.{Usage, Absent, FileTooLong, FileFault, Unopened, Ran, Wrote, WriteFault}
 use Rattle.tophat.specs.declared.no_world.NoWorld.{NoWorld}
 use Rattle.tophat.specs.declared.no_world.NoWorld.TheVariants.{Refused, OverBudget, Memory}
-use Rattle.tophat.specs.declared.refusal.Refusal.TheVariants.{Read, NotBuilt}
-use Rattle.tophat.specs.Command.{CommandTerm, run}
+use Rattle.tophat.specs.declared.refusal.Refusal.TheVariants.{Read}
+use Rattle.command_words.specs.Commands.{CommandTerm, run, check, soak, IsAsked}
+use Rattle.command_words.specs.declared.stop.WordStop.{WordStop}
+use Rattle.command_words.specs.declared.stop.WordStop.TheVariants as words
+use Rattle.input_lines.specs.Soak.{soak_text}
 use Rattle.tophat.specs.Ending.{status_of}
-use Rattle.tophat.specs.Verdict.{Verdict, refused, IsVerdictOf, HasVerdict}
+use Rattle.task_model.specs.Checked.{CheckedTerm}
+use Rattle.task_model.specs.Printed.{program_text}
+use Rattle.tophat.specs.Verdict.{Verdict, accepted, refused, IsVerdict, IsOnlyVerdict, Judges, IsVerdictOf, HasVerdict}
 use Rattle.tophat.specs.Session.{Tells}
-use Rattle.tophat.specs.Top.{Limits, Report, ends, reported, Opened, world, none, OpensVerdict, OpensFile, ReportsOpened, Reports}
-use Rattle.tophat.specs.Went.{Heard, Counted, NoneFailed, FailedBy, file_faults_after, input_faults_after, output_faults_after}
-use Rattle.tophat.specs.Worked.{IsFile, IfRan, Writes, HasVerdictAt, HasVerdictAfter, Worked, Opens, OpensBytes}
-use Rattle.tophat.proofs.ReportLemmas.{file_once}
+use Rattle.tophat.specs.Top.{Limits, limits, Report, ends, writes, reported, source_of, soak_budget, Opened, world, none, checks, ReportsFile, ReportsOpened, ReportsVerdict, ReportsTold, Reports}
+use Rattle.tophat.specs.Sources.{FindsFile, WritesText, TellsText, ReportsCheck, ReportsInputs}
+use Rattle.tophat.specs.Went.{Heard, Counted, NoneFailed, FailedBy, IsWriteFault, file_faults_after, input_faults_after, output_faults_after}
+use Rattle.tophat.specs.Worked.{IsFile, IfRan, Writes, HasVerdictAt, HasVerdictAfter, Worked, Opens, OpensBytes, word_ending}
+use Rattle.tophat.specs.SoakReport.{IsSummary}
+use Rattle.tophat.proofs.ReportLemmas.{opens_once, soak_verdict_once}
 
 -- ---- what was written of a report
 pub writes_nothing : (report : Report) (ending : Ending) → report ≡ ends ending → Writes report [] ending
@@ -39,6 +49,7 @@ writes_nothing report (Unopened Memory) e = (report.output, refl)
 writes_nothing report (Ran finishes.ReadFault) e = (report.output, refl)
 writes_nothing report (Ran finishes.WriteFault) e = (report.output, refl)
 writes_nothing report (Ran finishes.Memory) e = (report.output, refl)
+writes_nothing report WriteFault e = (report.output, refl)
 writes_nothing report ending e = e
 
 starts_told : (told : Told) (written : Text) (report : Report) → report ≡ reported told → IsStart written told.output
@@ -52,11 +63,6 @@ writes_told told written finishes.WriteFault report e c = starts_told told writt
 writes_told told written finishes.Memory report e c = starts_told told written report e c
 writes_told told written finish report e c = e ∙ ap reported c
 
--- a file that comes to an end is reported so
-end_reported : (TellsAt : WorldTerm → Told → Type 0) (o : Opened) (ending : Ending) (report : Report) → o ≡ none ending
-    → ReportsOpened TellsAt o report → report ≡ ends ending
-end_reported TellsAt o ending report e d = subst (λ (z : Opened). ReportsOpened TellsAt z report) e d
-
 -- ---- files
 -- a file that is known, or any
 known_file : (holds : Option (Option Text)) → (file : Option Text) × IsFile holds file
@@ -68,16 +74,16 @@ known_script : (left : Option Text) → (script : Text) × IsTold left script
 known_script None = ([], tt)
 known_script (Some script) = (script, refl)
 
-found_bytes : (holds : Option (Option Text)) (limit : ℕ) (bytes : Rowed ℕ) → AnswersFile holds limit (Bytes bytes)
+pub found_bytes : (holds : Option (Option Text)) (limit : ℕ) (bytes : Rowed ℕ) → AnswersFile holds limit (Bytes bytes)
     → IsFile holds (Some bytes.list)
 found_bytes None limit bytes f = tt
 found_bytes (Some known) limit bytes f = f
 
-found_absent : (holds : Option (Option Text)) (limit : ℕ) → AnswersFile holds limit answers.Absent → IsFile holds None
+pub found_absent : (holds : Option (Option Text)) (limit : ℕ) → AnswersFile holds limit answers.Absent → IsFile holds None
 found_absent None limit f = tt
 found_absent (Some known) limit f = f
 
-found_over : (holds : Option (Option Text)) (limit : ℕ) → AnswersFile holds limit TooLong
+pub found_over : (holds : Option (Option Text)) (limit : ℕ) → AnswersFile holds limit TooLong
     → (bytes : Text) × (limit < length bytes) × IsFile holds (Some bytes)
 found_over None limit f =
     let long = length-replicate {A = ℕ} (limit + 1) 0 in
@@ -89,14 +95,16 @@ over_readable : (bytes : Text) → 1048576 < length bytes → HasVerdict (Some b
 over_readable bytes lt = (refused 1048576 (Read reads.TooLong), (lt, refl))
 
 -- ---- commands
--- nothing was read or written
-worked_still : (l : Limits) (command : Option CommandTerm) (holds : Option (Option Text)) (left out : Option Text) (ending : Ending)
-    (file : Option Text)
-    → IsFile holds file → HasVerdictAt ending file → ((fact : Finish → Type 0) → IfRan ending fact)
-    → ((verdict : Verdict) → IsVerdictOf file verdict → (script : Text) (report : Report) → Reports l command file verdict script report
-    → Writes report [] ending)
-    → Worked l command holds left left out out ending
-worked_still l command holds left out ending file is verdict_is not_run comes =
+-- nothing of the input was read, and this was written
+worked_still : (l : Limits) (command : Option CommandTerm) (holds : Option (Option Text)) (left old new : Option Text) (written : Text)
+    (ending : Ending) (file : Option Text)
+    → IsFile holds file → Appends old new written → HasVerdictAt ending (source_of command file)
+    → ((fact : Finish → Type 0) → IfRan ending fact)
+    → ((verdict : Verdict) → IsVerdictOf (source_of command file) verdict → (script : Text) (report : Report)
+    → Reports l command file verdict script report
+    → Writes report written ending)
+    → Worked l command holds left left old new ending
+worked_still l command holds left old new written ending file is took verdict_is not_run comes =
     let s = known_script left in
     let other : (finish : Finish) → ending ≡ Ran finish → ⊥ =
     λ finish e. subst (λ (z : Ending). IfRan z (λ f. ⊥)) e (not_run (λ f. ⊥)) in
@@ -106,12 +114,12 @@ worked_still l command holds left out ending file is verdict_is not_run comes =
       read = [];
       earlier = [];
       last = [];
-      written = [];
+      written = written;
       file_told = is;
       script_told = s.1;
       begins = (s.0, refl);
       consumed = Consumes-nil left;
-      took = Appends-nil out;
+      took = took;
       verdict_is = verdict_is;
       comes = λ verdict h report d. comes verdict h s.0 report d;
       answered = λ e. absurd (other finishes.ReadFault e);
@@ -124,131 +132,276 @@ worked_still l command holds left out ending file is verdict_is not_run comes =
 pub worked_usage : (l : Limits) (holds : Option (Option Text)) (left out : Option Text) → Worked l None holds left left out out Usage
 worked_usage l holds left out =
     let k = known_file holds in
-    worked_still l None holds left out Usage k.0 k.1 tt (λ fact. tt) (λ verdict h script report d. d)
+    worked_still l None holds left out out [] Usage k.0 k.1 (Appends-nil out) tt (λ fact. tt) (λ verdict h script report d. d)
 
-module _ (l : Limits) (name : Text) (budget : ℕ) (holds : Option (Option Text)) where
-  -- there is no such file, and any verdict is one of it
-  pub worked_absent : (left out : Option Text) → AnswersFile holds l.file answers.Absent
-      → Worked l (Some (run name budget)) holds left left out out Absent
-  worked_absent left out f =
-      worked_still l (Some (run name budget)) holds left out Absent None (found_absent holds l.file f) (refused 0 NotBuilt, tt)
-      (λ fact. tt)
-      (λ verdict h script report d. end_reported _ d.0 Absent report d.1 d.2)
+-- memory ran out before anything was written
+pub worked_memory : (l : Limits) (command : Option CommandTerm) (holds : Option (Option Text)) (left out : Option Text)
+    → Worked l command holds left left out out (Unopened Memory)
+worked_memory l command holds left out =
+    let k = known_file holds in
+    worked_still l command holds left out out [] (Unopened Memory) k.0 k.1 (Appends-nil out) tt (λ fact. tt)
+    (λ verdict h script report d. (report.output, refl))
 
-  pub worked_over : (left out : Option Text) → 1048576 ≤ l.file → AnswersFile holds l.file TooLong
-      → Worked l (Some (run name budget)) holds left left out out FileTooLong
-  worked_over left out le f =
-      let p = found_over holds l.file f in
-      let lt = p.1 in
-      worked_still l (Some (run name budget)) holds left out FileTooLong (Some p.0) p.2 (over_readable p.0 (omega arith)) (λ fact. tt)
-      (λ verdict h script report d. end_reported _ d.0 FileTooLong report
-      (file_once l.file budget (Some p.0) verdict d.0 (none FileTooLong) d.1 (inr (lt, refl))) d.2)
+-- the words ask for no command
+pub worked_words : (l : Limits) (command : Option CommandTerm) (holds : Option (Option Text)) (left out : Option Text) (stop : WordStop)
+    → IsAsked command (Err stop) → Worked l command holds left left out out (word_ending stop)
+worked_words l command holds left out words.Outside e =
+    subst (λ (k : Option CommandTerm). Worked l k holds left left out out Usage) (sym e) (worked_usage l holds left out)
+worked_words l command holds left out words.Memory a = worked_memory l command holds left out
 
-  -- the first part of what is reported, which is nothing
-  pub worked_fault : (left out : Option Text) → Worked l (Some (run name budget)) holds left left out out FileFault
-  worked_fault left out =
-      let k = known_file holds in
-      worked_still l (Some (run name budget)) holds left out FileFault k.0 k.1 tt (λ fact. tt)
-      (λ verdict h script report d. (report.output, refl))
+-- ---- files that end a command
+-- a command that asks for a file, and what it reports of bytes
+pub record AsksFile (l : Limits) (command : Option CommandTerm) : Type 1 where
+  pub Says : Verdict → Text → Report → Type 0
+  pub source : (file : Option Text) → source_of command file ≡ file
+  pub reports : (file : Option Text) (verdict : Verdict) (script : Text) (report : Report) → Reports l command file verdict script report
+      → ReportsFile l.file file (Says verdict script) report
 
-  pub worked_memory : (left out : Option Text) → Worked l (Some (run name budget)) holds left left out out (Unopened Memory)
-  worked_memory left out =
-      let k = known_file holds in
-      worked_still l (Some (run name budget)) holds left out (Unopened Memory) k.0 k.1 tt (λ fact. tt)
-      (λ verdict h script report d. (report.output, refl))
+pub run_asks : (l : Limits) (name : Text) (budget : ℕ) → AsksFile l (Some (run name budget))
+run_asks l name budget = record {
+  Says = λ verdict script. ReportsVerdict budget verdict (ReportsTold (λ w told. TellsScript (Tells l.line w 1) l.script script told));
+  source = λ file. refl;
+  reports = λ file verdict script report d. d;
+}
 
-  module _ (bytes : Rowed ℕ) (found : AnswersFile holds l.file (Bytes bytes)) (within : length bytes.list ≤ l.file) where
-    -- what the file comes to is what its bytes do
-    same_opened : (verdict : Verdict) (o p : Opened) → OpensFile l.file budget (Some bytes.list) verdict o → OpensVerdict budget verdict p
-        → o ≡ p
-    same_opened verdict o p d e = file_once l.file budget (Some bytes.list) verdict o p d (inl (within, e))
+pub check_asks : (l : Limits) (name : Text) → AsksFile l (Some (check name))
+check_asks l name = record {
+  Says = λ verdict script report. report ≡ checks verdict;
+  source = λ file. refl;
+  reports = λ file verdict script report d. d;
+}
 
-    no_world : (why : NoWorld) (verdict : Verdict) (script : Text) (report : Report) → Opens budget verdict (Err why)
-        → Reports l (Some (run name budget)) (Some bytes.list) verdict script report → Writes report [] (Unopened why)
-    no_world Memory verdict script report o d = (report.output, refl)
-    no_world (Refused place refusal) verdict script report o d =
-        end_reported _ d.0 (Unopened (Refused place refusal)) report
-        (same_opened verdict d.0 (none (Unopened (Refused place refusal))) d.1 o) d.2
-    no_world OverBudget verdict script report o d =
-        end_reported _ d.0 (Unopened OverBudget) report (same_opened verdict d.0 (none (Unopened OverBudget)) d.1 o) d.2
+absent_reported : (limit : ℕ) (Says : Report → Type 0) (report : Report) → ReportsFile limit None Says report → report ≡ ends Absent
+absent_reported limit Says report d = d
 
-    readable_at : (why : NoWorld) → HasVerdictAfter {A = Finish} (Err why) bytes.list → HasVerdictAt (Unopened why) (Some bytes.list)
-    readable_at Memory h = tt
-    readable_at (Refused place refusal) h = h
-    readable_at OverBudget h = h
+over_reported : (limit : ℕ) (bytes : Text) (Says : Report → Type 0) (report : Report) → limit < length bytes
+    → ReportsFile limit (Some bytes) Says report → report ≡ ends FileTooLong
+over_reported limit bytes Says report lt (inl d) = let le = d.0 in absurd (omega arith)
+over_reported limit bytes Says report lt (inr d) = d.1
 
-    -- the bytes have no world
-    pub worked_unopened : (left out : Option Text) (why : NoWorld) → OpensBytes budget bytes.list (Err why)
-        → HasVerdictAfter {A = Finish} (Err why) bytes.list
-        → Worked l (Some (run name budget)) holds left left out out (Unopened why)
-    worked_unopened left out why o verdict_is =
-        worked_still l (Some (run name budget)) holds left out (Unopened why) (Some bytes.list) (found_bytes holds l.file bytes found)
-        (readable_at why verdict_is) (λ fact. tt)
-        (λ verdict h script report d. no_world why verdict script report (o verdict h) d)
+pub bytes_reported : (limit : ℕ) (bytes : Text) (Says : Report → Type 0) (report : Report) → length bytes ≤ limit
+    → ReportsFile limit (Some bytes) Says report → Says report
+bytes_reported limit bytes Says report le (inl d) = d.1
+bytes_reported limit bytes Says report le (inr d) = let lt = d.0 in absurd (omega arith)
 
-    -- at the world of the bytes
-    at_world : (w : SeenWorld) (TellsAt : WorldTerm → Told → Type 0) (verdict : Verdict) (o : Opened) (report : Report)
-        → Opens budget verdict (Ok w)
-        → OpensFile l.file budget (Some bytes.list) verdict o → ReportsOpened TellsAt o report
-        → (told : Told) × TellsAt (world_term w) told × (report ≡ reported told)
-    at_world w TellsAt verdict o report is d r =
-        subst (λ (z : Opened). ReportsOpened TellsAt z report) (same_opened verdict o (world (world_term w)) d is) r
+-- the file couldn't be had, or isn't there, or is too long
+pub worked_file : (l : Limits) (command : Option CommandTerm) → AsksFile l command → (holds : Option (Option Text)) (left out : Option Text)
+    (ending : Ending) → 1048576 ≤ l.file → FindsFile l.file holds (Err ending) → Worked l command holds left left out out ending
+worked_file l command asks holds left out Absent le f =
+    worked_still l command holds left out out [] Absent None f (Appends-nil out)
+    (subst HasVerdict (sym (asks.source None)) (refused 0 (Read reads.TooLong), tt)) (λ fact. tt)
+    (λ verdict h script report d. absent_reported l.file (asks.Says verdict script) report (asks.reports None verdict script report d))
+worked_file l command asks holds left out FileTooLong le (bytes, lt, is) =
+    worked_still l command holds left out out [] FileTooLong (Some bytes) is (Appends-nil out)
+    (subst HasVerdict (sym (asks.source (Some bytes))) (over_readable bytes (omega arith))) (λ fact. tt)
+    (λ verdict h script report d. over_reported l.file bytes (asks.Says verdict script) report lt
+    (asks.reports (Some bytes) verdict script report d))
+worked_file l command asks holds left out FileFault le f =
+    let k = known_file holds in
+    worked_still l command holds left out out [] FileFault k.0 k.1 (Appends-nil out) tt (λ fact. tt)
+    (λ verdict h script report d. (report.output, refl))
+worked_file l command asks holds left out (Unopened Memory) le f = worked_memory l command holds left out
+worked_file l command asks holds left out (Unopened (Refused place refusal)) le f = absurd f
+worked_file l command asks holds left out (Unopened OverBudget) le f = absurd f
+worked_file l command asks holds left out Usage le f = absurd f
+worked_file l command asks holds left out (Ran finish) le f = absurd f
+worked_file l command asks holds left out Wrote le f = absurd f
+worked_file l command asks holds left out WriteFault le f = absurd f
 
-    readable_ran : (finish : Finish) → HasVerdict (Some bytes.list) → HasVerdictAt (Ran finish) (Some bytes.list)
-    readable_ran finish h = h
+-- ---- a command that writes one text
+-- the reason for which nothing was written
+why_writes : (why : NoWorld) (Says : Report → Type 0) (report : Report) → TellsText Says (Err why) → Says report
+    → Writes report [] (Unopened why)
+why_writes Memory Says report t d = (report.output, refl)
+why_writes (Refused place refusal) Says report t d = t report d
+why_writes OverBudget Says report t d = t report d
 
-    -- a script was run on the world of the bytes
-    pub worked_ran : (left_old left_new taken_old taken_new : Option Text) (finish : Finish) (w : SeenWorld)
-        → OpensBytes budget bytes.list (Ok w)
-        → Drove (Tells l.line (world_term w) 1) l.script left_old left_new taken_old taken_new finish → HasVerdict (Some bytes.list)
-        → Worked l (Some (run name budget)) holds left_old left_new taken_old taken_new (Ran finish)
-    worked_ran left_old left_new taken_old taken_new finish w o d verdict_is = record {
-      file = Some bytes.list;
-      script = d.script;
-      read = d.read;
-      earlier = d.earlier;
-      last = d.last;
-      written = d.written;
-      file_told = found_bytes holds l.file bytes found;
-      script_told = d.told;
-      begins = d.begins;
-      consumed = d.consumed;
-      took = d.took;
-      verdict_is = readable_ran finish verdict_is;
-      comes = λ verdict h report r.
-          let t = at_world w _ verdict r.0 report (o verdict h) r.1 r.2 in
-          writes_told t.0 d.written finish report t.2 (d.comes t.0 t.1);
-      answered = λ e verdict h report r.
-          let t = at_world w _ verdict r.0 report (o verdict h) r.1 r.2 in
-          let fault : finish ≡ finishes.ReadFault = cc in
-          t.2 ∙ ap reported (d.answered fault t.0 t.1) ∙ ap (λ (z : Finish). record { output = d.written; ending = Ran z }) (sym fault);
-      pieces = d.pieces;
-      in_time = λ verdict h report r.
-          let t = at_world w _ verdict r.0 report (o verdict h) r.1 r.2 in
-          let i = d.in_time t.0 t.1 in (
-            ap (λ (z : Report). z.ending) t.2 ∙ ap Ran i.0,
-            subst (λ (z : Text). IsStart z d.written) (sym (ap (λ (z : Report). z.output) t.2)) i.1,
-          );
-      ran_out = λ e.
-          let want : finish ≡ finishes.Memory = cc in
-          let out = d.ran_out want in
-          record {
-            lines = out.lines;
-            line = out.line;
-            behind = out.behind;
-            stream = out.stream;
-            each = out.each;
-            no_lf = out.no_lf;
-            as_read = out.as_read;
-            within = out.within;
-            done = λ verdict h report r.
-                let t = at_world w _ verdict r.0 report (o verdict h) r.1 r.2 in
-                t.2 ∙ ap reported (out.done t.0 t.1);
-          };
-    }
+verdict_at : (A : Type 0) (why : NoWorld) (bytes : Text) → HasVerdictAfter {A = A} (Err why) bytes → HasVerdictAt (Unopened why) (Some bytes)
+verdict_at A Memory bytes h = tt
+verdict_at A (Refused place refusal) bytes h = h
+verdict_at A OverBudget bytes h = h
+
+module _ (l : Limits) (command : Option CommandTerm) (holds : Option (Option Text)) (file : Option Text) (bytes : Text) (Says : Report → Type 0)
+    (is : IsFile holds file) (source : source_of command file ≡ Some bytes)
+    (says : (verdict : Verdict) → IsVerdict bytes verdict → (script : Text) (report : Report) → Reports l command file verdict script report
+    → Says report) where
+  -- it was written, or a first part of it
+  pub worked_text : (left old new : Option Text) (text : Text) (ending : Ending) → TellsText Says (Ok text)
+      → HasVerdictAfter {A = Text} (Ok text) bytes → WritesText old new text ending → Worked l command holds left left old new ending
+  worked_text left old new text Wrote t h w =
+      worked_still l command holds left old new text Wrote file is w (subst HasVerdict (sym source) h) (λ fact. tt)
+      (λ verdict v script report d. t report (says verdict (subst (λ o. IsVerdictOf o verdict) source v) script report d))
+  worked_text left old new text WriteFault t h w =
+      worked_still l command holds left old new w.0 WriteFault file is w.2 (subst HasVerdict (sym source) h) (λ fact. tt)
+      (λ verdict v script report d.
+      let e = t report (says verdict (subst (λ o. IsVerdictOf o verdict) source v) script report d) in
+      subst (λ (z : Report). IsStart w.0 z.output) (sym e) w.1)
+  worked_text left old new text (Unopened why) t h w = absurd w
+  worked_text left old new text Usage t h w = absurd w
+  worked_text left old new text Absent t h w = absurd w
+  worked_text left old new text FileTooLong t h w = absurd w
+  worked_text left old new text FileFault t h w = absurd w
+  worked_text left old new text (Ran finish) t h w = absurd w
+
+  -- there is none
+  pub worked_none : (A : Type 0) (left out : Option Text) (why : NoWorld) → TellsText Says (Err why)
+      → HasVerdictAfter {A = A} (Err why) bytes → Worked l command holds left left out out (Unopened why)
+  worked_none A left out why t h =
+      worked_still l command holds left out out [] (Unopened why) file is (Appends-nil out)
+      (subst (HasVerdictAt (Unopened why)) (sym source) (verdict_at A why bytes h)) (λ fact. tt)
+      (λ verdict v script report d. why_writes why Says report t
+      (says verdict (subst (λ o. IsVerdictOf o verdict) source v) script report d))
+
+-- ---- a script that was run
+abbrev TellsWhole : Limits → Text → WorldTerm → Told → Type 0
+TellsWhole l script w told = TellsScript (Tells l.line w 1) l.script script told
+
+module _ (l : Limits) (name : Text) (budget : ℕ) (holds : Option (Option Text)) (bytes : Rowed ℕ) (is : IsFile holds (Some bytes.list))
+    (within : length bytes.list ≤ l.file) where
+  -- at the world of the bytes
+  at_world : (w : SeenWorld) (TellsAt : WorldTerm → Told → Type 0) (verdict : Verdict) (report : Report) → Opens budget verdict (Ok w)
+      → ReportsFile l.file (Some bytes.list) (ReportsVerdict budget verdict (ReportsTold TellsAt)) report
+      → (told : Told) × TellsAt (world_term w) told × (report ≡ reported told)
+  at_world w TellsAt verdict report o r =
+      let d = bytes_reported l.file bytes.list (ReportsVerdict budget verdict (ReportsTold TellsAt)) report within r in
+      let same = opens_once budget verdict d.0 (world (world_term w)) d.1 o in
+      subst (λ (z : Opened). ReportsOpened (ReportsTold TellsAt) z report) same d.2
+
+  end_at : (why : NoWorld) (verdict : Verdict) (script : Text) (report : Report) → Opens budget verdict (Err why)
+      → Reports l (Some (run name budget)) (Some bytes.list) verdict script report → Writes report [] (Unopened why)
+  end_at Memory verdict script report o d = (report.output, refl)
+  end_at (Refused place refusal) verdict script report o r =
+      let d = bytes_reported l.file bytes.list (ReportsVerdict budget verdict (ReportsTold (TellsWhole l script))) report within r in
+      subst (λ (z : Opened). ReportsOpened (ReportsTold (TellsWhole l script)) z report)
+      (opens_once budget verdict d.0 (none (Unopened (Refused place refusal))) d.1 o) d.2
+  end_at OverBudget verdict script report o r =
+      let d = bytes_reported l.file bytes.list (ReportsVerdict budget verdict (ReportsTold (TellsWhole l script))) report within r in
+      subst (λ (z : Opened). ReportsOpened (ReportsTold (TellsWhole l script)) z report) (opens_once budget verdict d.0 (none (Unopened OverBudget)) d.1 o) d.2
+
+  -- the bytes have no world
+  pub worked_unopened : (left out : Option Text) (why : NoWorld) → OpensBytes budget bytes.list (Err why)
+      → HasVerdictAfter {A = Finish} (Err why) bytes.list
+      → Worked l (Some (run name budget)) holds left left out out (Unopened why)
+  worked_unopened left out why o h =
+      worked_still l (Some (run name budget)) holds left out out [] (Unopened why) (Some bytes.list) is (Appends-nil out)
+      (verdict_at Finish why bytes.list h) (λ fact. tt)
+      (λ verdict v script report d. end_at why verdict script report (o verdict v) d)
+
+  -- a script was run on the world of the bytes
+  pub worked_ran : (left_old left_new taken_old taken_new : Option Text) (finish : Finish) (w : SeenWorld)
+      → OpensBytes budget bytes.list (Ok w)
+      → Drove (Tells l.line (world_term w) 1) l.script left_old left_new taken_old taken_new finish → HasVerdict (Some bytes.list)
+      → Worked l (Some (run name budget)) holds left_old left_new taken_old taken_new (Ran finish)
+  worked_ran left_old left_new taken_old taken_new finish w o d verdict_is = record {
+    file = Some bytes.list;
+    script = d.script;
+    read = d.read;
+    earlier = d.earlier;
+    last = d.last;
+    written = d.written;
+    file_told = is;
+    script_told = d.told;
+    begins = d.begins;
+    consumed = d.consumed;
+    took = d.took;
+    verdict_is = verdict_is;
+    comes = λ verdict h report r.
+        let t = at_world w _ verdict report (o verdict h) r in
+        writes_told t.0 d.written finish report t.2 (d.comes t.0 t.1);
+    answered = λ e verdict h report r.
+        let t = at_world w _ verdict report (o verdict h) r in
+        let fault : finish ≡ finishes.ReadFault = cc in
+        t.2 ∙ ap reported (d.answered fault t.0 t.1) ∙ ap (λ (z : Finish). record { output = d.written; ending = Ran z }) (sym fault);
+    pieces = d.pieces;
+    in_time = λ verdict h report r.
+        let t = at_world w _ verdict report (o verdict h) r in
+        let i = d.in_time t.0 t.1 in (
+          ap (λ (z : Report). z.ending) t.2 ∙ ap Ran i.0,
+          subst (λ (z : Text). IsStart z d.written) (sym (ap (λ (z : Report). z.output) t.2)) i.1,
+        );
+    ran_out = λ e.
+        let want : finish ≡ finishes.Memory = cc in
+        let out = d.ran_out want in
+        record {
+          lines = out.lines;
+          line = out.line;
+          behind = out.behind;
+          stream = out.stream;
+          each = out.each;
+          no_lf = out.no_lf;
+          as_read = out.as_read;
+          within = out.within;
+          done = λ verdict h report r.
+              let t = at_world w _ verdict report (o verdict h) r in
+              t.2 ∙ ap reported (out.done t.0 t.1);
+        };
+  }
+
+-- ---- checks
+pub accepted_tells : (bytes : Text) (c : CheckedTerm) (text : Text) → IsOnlyVerdict bytes (accepted c) → text ≡ program_text c.program
+    → TellsText (ReportsCheck bytes) (Ok text)
+accepted_tells bytes c text one is = λ report d. d.2 ∙ ap checks (one.only d.0 d.1) ∙ ap writes (sym is)
+
+pub refused_tells : (bytes : Text) (why : NoWorld) → Judges bytes (Err why) → TellsText (ReportsCheck bytes) (Err why)
+refused_tells bytes (Refused place refusal) one = λ report d. d.2 ∙ ap checks (one.only d.0 d.1)
+refused_tells bytes OverBudget one = absurd one
+refused_tells bytes Memory one = tt
+
+-- the text of a program was written, or a first part of it
+pub check_written : (name : Text) (holds : Option (Option Text)) (bytes : Rowed ℕ) (slice : Text) (left old new : Option Text) (text : Text)
+    (ending : Ending) → slice ≡ bytes.list → FindsFile 1048576 holds (Ok bytes) → TellsText (ReportsCheck slice) (Ok text)
+    → HasVerdictAfter {A = Text} (Ok text) slice → WritesText old new text ending
+    → Worked limits (Some (check name)) holds left left old new ending
+check_written name holds bytes slice left old new text ending same found t h w =
+    worked_text limits (Some (check name)) holds (Some bytes.list) bytes.list (ReportsCheck bytes.list) found.0 refl
+    (λ verdict v script report d. (verdict, v, bytes_reported 1048576 bytes.list (λ r. r ≡ checks verdict) report found.1 d))
+    left old new text ending (subst (λ (z : Text). TellsText (ReportsCheck z) (Ok text)) same t)
+    (subst (λ (z : Text). HasVerdictAfter {A = Text} (Ok text) z) same h) w
+
+-- the program isn't accepted, or memory ran out
+pub check_refused : (name : Text) (holds : Option (Option Text)) (bytes : Rowed ℕ) (slice : Text) (left out : Option Text) (why : NoWorld)
+    → slice ≡ bytes.list → FindsFile 1048576 holds (Ok bytes) → TellsText (ReportsCheck slice) (Err why)
+    → HasVerdictAfter {A = Text} (Err why) slice → Worked limits (Some (check name)) holds left left out out (Unopened why)
+check_refused name holds bytes slice left out why same found t h =
+    worked_none limits (Some (check name)) holds (Some bytes.list) bytes.list (ReportsCheck bytes.list) found.0 refl
+    (λ verdict v script report d. (verdict, v, bytes_reported 1048576 bytes.list (λ r. r ≡ checks verdict) report found.1 d))
+    Text left out why (subst (λ (z : Text). TellsText (ReportsCheck z) (Err why)) same t)
+    (subst (λ (z : Text). HasVerdictAfter {A = Text} (Err why) z) same h)
+
+-- ---- soaks
+pub soak_written : (count seed : ℕ) (holds : Option (Option Text)) (left old new : Option Text) (text : Text) (ending : Ending)
+    → TellsText (ReportsInputs count seed) (Ok text) → HasVerdictAfter {A = Text} (Ok text) soak_text → WritesText old new text ending
+    → Worked limits (Some (soak count seed)) holds left left old new ending
+soak_written count seed holds left old new text ending t h w =
+    let k = known_file holds in
+    worked_text limits (Some (soak count seed)) holds k.0 soak_text (ReportsInputs count seed) k.1 refl
+    (λ verdict v script report d. (verdict, v, d)) left old new text ending t h w
+
+pub soak_refused : (count seed : ℕ) (holds : Option (Option Text)) (left out : Option Text) (why : NoWorld)
+    → TellsText (ReportsInputs count seed) (Err why) → HasVerdictAfter {A = Text} (Err why) soak_text
+    → Worked limits (Some (soak count seed)) holds left left out out (Unopened why)
+soak_refused count seed holds left out why t h =
+    let k = known_file holds in
+    worked_none limits (Some (soak count seed)) holds k.0 soak_text (ReportsInputs count seed) k.1 refl
+    (λ verdict v script report d. (verdict, v, d)) Text left out why t h
+
+-- what is reported of the inputs at a world of the generator's program
+pub soak_tells : (count seed : ℕ) (w : SeenWorld) (text : Text) → OpensBytes soak_budget soak_text (Ok w)
+    → IsSummary count seed (world_term w) text → TellsText (ReportsInputs count seed) (Ok text)
+soak_tells count seed w text o is = λ report d.
+    soak_verdict_once count seed d.0 report (writes text) d.2 (world (world_term w), o d.0 d.1, (text, is, refl))
+
+pub soak_tells_none : (count seed : ℕ) (why : NoWorld) → OpensBytes soak_budget soak_text (Err why)
+    → TellsText (ReportsInputs count seed) (Err why)
+soak_tells_none count seed Memory o = tt
+soak_tells_none count seed (Refused place refusal) o = λ report d.
+    soak_verdict_once count seed d.0 report (ends (Unopened (Refused place refusal))) d.2
+    (none (Unopened (Refused place refusal)), o d.0 d.1, refl)
+soak_tells_none count seed OverBudget o = λ report d.
+    soak_verdict_once count seed d.0 report (ends (Unopened OverBudget)) d.2 (none (Unopened OverBudget), o d.0 d.1, refl)
 
 -- ---- ends
-pub heard : (old new : Option Text) (before now : ℕ) (text : Text) (written : Written) → Wrote old new text written
+pub heard : (old new : Option Text) (before now : ℕ) (text : Text) (written : Written) → sinks.Wrote old new text written
     → (written ≡ Failed → Rose before now) → Heard old new before now text
 heard old new before now text Whole w f = record { part = text; start = ([], sym (append-nil text)); took = w; whole = inl refl }
 heard old new before now text Failed w f = record { part = w.0; start = w.1; took = w.2; whole = inr (f refl) }
@@ -261,8 +414,9 @@ is_read_fault (Unopened OverBudget) e = absurd (omega arith)
 is_read_fault (Unopened Memory) e = absurd (omega arith)
 is_read_fault ending e = absurd (omega arith)
 
-pub is_write_fault : (ending : Ending) → status_of ending ≡ 6 → ending ≡ Ran finishes.WriteFault
-is_write_fault (Ran finishes.WriteFault) e = refl
+pub is_write_fault : (ending : Ending) → status_of ending ≡ 6 → IsWriteFault ending
+is_write_fault (Ran finishes.WriteFault) e = tt
+is_write_fault WriteFault e = tt
 is_write_fault (Unopened (Refused place refusal)) e = absurd (omega arith)
 is_write_fault (Unopened OverBudget) e = absurd (omega arith)
 is_write_fault (Unopened Memory) e = absurd (omega arith)
@@ -304,6 +458,13 @@ failed_by (Ran finishes.WriteFault) status files input out s f i o = record {
   six = λ e. (f, i, o);
   other = λ a b. absurd (b s);
 }
+failed_by WriteFault status files input out s f i o = record {
+  five = λ e. absurd (omega (arith, s, e));
+  six = λ e. (f, i, o);
+  other = λ a b. absurd (b s);
+}
+failed_by Wrote status files input out s f i o =
+    none_failed 0 status files input out s (λ e. omega (arith, e)) (λ e. omega (arith, e)) f i o
 failed_by Usage status files input out s f i o =
     none_failed 2 status files input out s (λ e. omega (arith, e)) (λ e. omega (arith, e)) f i o
 failed_by Absent status files input out s f i o =

@@ -4,11 +4,11 @@ use Rattle.task_model.specs.Text.{Text}
 use Rattle.line_frame.specs.declared.finish.Finish.{Finish}
 use Rattle.line_frame.specs.declared.finish.Finish.TheVariants as finishes
 use Rattle.tophat.specs.declared.ending.Ending.{Ending}
-use Rattle.tophat.specs.declared.ending.Ending.TheVariants.{Usage, Absent, FileTooLong, FileFault, Unopened, Ran}
+use Rattle.tophat.specs.declared.ending.Ending.TheVariants.{Usage, Absent, FileTooLong, FileFault, Unopened, Ran, Wrote, WriteFault}
 use Rattle.tophat.specs.declared.no_world.NoWorld.{NoWorld}
 use Rattle.tophat.specs.declared.no_world.NoWorld.TheVariants.{Refused, OverBudget, Memory}
 use Rattle.tophat.specs.declared.refusal.Refusal.{Refusal}
-use Rattle.tophat.specs.declared.refusal.Refusal.TheVariants.{Read, NotBuilt}
+use Rattle.tophat.specs.declared.refusal.Refusal.TheVariants.{Read, Typed}
 use Rattle.task_syntax.specs.declared.stop.ReadKind.{ReadKind}
 use Rattle.task_syntax.specs.declared.stop.ReadKind.TheVariants.{TooLong, NotUtf8, Lex, Unexpected, TooNested}
 use Rattle.task_syntax.specs.declared.stop.LexKind.{LexKind}
@@ -35,6 +35,8 @@ status_of FileTooLong = 7
 status_of FileFault = 5
 status_of (Unopened why) = opening_status why
 status_of (Ran finish) = script_status finish
+status_of Wrote = 0
+status_of WriteFault = 6
 
 -- ---- texts
 abbrev pub usage : Text
@@ -63,7 +65,7 @@ read_text TooNested = codes "TooNested"
 -- why a program is refused
 abbrev pub refusal_text : Refusal → Text
 refusal_text (Read kind) = read_text kind
-refusal_text NotBuilt = codes "NotBuilt"
+refusal_text (Typed text) = text
 
 abbrev pub opening_text : Text → NoWorld → Text
 opening_text name (Refused place refusal) =
@@ -86,3 +88,5 @@ text_of name FileTooLong = about_file name (codes ": too long")
 text_of name FileFault = codes "tophat: read fault\n"
 text_of name (Unopened why) = opening_text name why
 text_of name (Ran finish) = script_text finish
+text_of name Wrote = []
+text_of name WriteFault = codes "tophat: write fault\n"

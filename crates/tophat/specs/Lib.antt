@@ -1,10 +1,10 @@
-pub mod Command
-pub mod Line
-pub mod ReadLine
+pub mod TypeFaultText
 pub mod Session
 pub mod Ending
 pub mod Verdict
+pub mod SoakReport
 pub mod Top
 pub mod Worked
+pub mod Sources
 pub mod Went
 pub mod Promise

@@ -2,10 +2,10 @@
 use Rattle.std.specs.Prelude.{ℕ, ◌≡◌, ◌⊎◌, ◌++◌, Option, Some, ⊤}
 use Rattle.outer_io.specs.Sink.{IsStart}
 use Rattle.task_model.specs.Text.{Text}
-use Rattle.tophat.specs.Command.{CommandTerm}
+use Rattle.command_words.specs.Commands.{CommandTerm}
 use Rattle.tophat.specs.Ending.{status_of}
 use Rattle.tophat.specs.Verdict.{Verdict, IsVerdictOf, HasVerdict}
-use Rattle.tophat.specs.Top.{Limits, Report, Reports}
+use Rattle.tophat.specs.Top.{Limits, Report, source_of, Reports}
 
 -- the statuses of faults and of want of memory
 abbrev pub IsCutShort : ℕ → Type 0
@@ -17,15 +17,15 @@ WritesReport report before now status =
     ((status ≡ status_of report.ending) × (now ≡ Some (before ++ report.output)))
     ⊎ (IsCutShort status × ((part : Text) × IsStart part report.output × (now ≡ Some (before ++ part))))
 
--- the file has a verdict, unless the words are outside the grammar, a read failed, or memory ran out
+-- there is a verdict on the source, unless the words are outside the grammar, a read failed, or memory ran out
 abbrev pub HasVerdictBy : ℕ → Option Text → Type 0
 HasVerdictBy status file = ((status ≡ 2) ⊎ ((status ≡ 5) ⊎ (status ≡ 8))) ⊎ HasVerdict file
 
--- Where file, script and what was taken before are told: the file has a verdict, and by every verdict of it there is a report, which was
--- written. There is no other report (`one_report`).
+-- Where file, script and what was taken before are told: there is a verdict on the command's source, and by every verdict on it there is a
+-- report, which was written. There is no other report (`one_report`).
 abbrev pub Promised : Limits → Option CommandTerm → Option (Option Text) → Option Text → Option Text → Option Text → ℕ → Type 0
 Promised l command (Some file) (Some script) (Some before) now status =
-    HasVerdictBy status file
-    × ((verdict : Verdict) → IsVerdictOf file verdict → (report : Report) × Reports l command file verdict script report
+    HasVerdictBy status (source_of command file)
+    × ((verdict : Verdict) → IsVerdictOf (source_of command file) verdict → (report : Report) × Reports l command file verdict script report
     × WritesReport report before now status)
 Promised l command holds left taken now status = ⊤

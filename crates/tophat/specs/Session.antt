@@ -1,14 +1,18 @@
 -- What is told of the lines of a script, line by line (docs/FORMATS.md, "Answers").
-use Rattle.std.specs.Prelude.{ℕ, ◌≡◌, ◌+◌, List, [], ◌∷◌, ◌++◌, Option, None, Some, codes, decimal}
+use Rattle.std.specs.Prelude.{ℕ, ◌≡◌, ◌+◌, ◌≤◌, ◌⊎◌, List, [], ◌∷◌, ◌++◌, length, codes, decimal}
 use Rattle.task_model.specs.Text.{Text}
 use Rattle.task_model.specs.Input.{EntryTerm}
 use Rattle.task_model.specs.Outcome.{Outcome, IsOutcome, taken, not_offered, over_budget}
 use Rattle.task_model.specs.State.{version_of}
-use Rattle.world_core.specs.World.{WorldTerm, IsWorldPage, with_entry}
+use Rattle.task_model.specs.declared.widget.Face.TheVariants as faces
+use Rattle.world_core.specs.World.{WorldTerm, with_entry}
+use Rattle.world_core.specs.Pages.{IsWorldPage}
 use Rattle.line_frame.specs.Told.{Told, told_after}
 use Rattle.line_frame.specs.declared.finish.Finish.{Finish}
 use Rattle.line_frame.specs.declared.finish.Finish.TheVariants.{Bad}
-use Rattle.tophat.specs.Line.{LineTerm, nothing, shows, gives, line_of}
+use Rattle.input_lines.specs.ScriptLines.{LineTerm, nothing, shows, gives}
+use Rattle.input_lines.specs.LinePlaces.{IsBadLine}
+use Rattle.input_lines.specs.ScriptLines.{IsScriptLine}
 
 -- the world after an entry with this outcome
 abbrev pub world_after : WorldTerm → EntryTerm → Outcome → WorldTerm
@@ -25,18 +29,33 @@ answer_text w e over_budget = codes "over budget\n"
 -- a line is answered by this text, and leads to this world: an input by its outcome, a page by the world's widgets
 abbrev pub Answers : WorldTerm → LineTerm → Text → WorldTerm → Type 0
 Answers w nothing text next = (text ≡ []) × (next ≡ w)
-Answers w (shows seat) text next = IsWorldPage w seat text × (next ≡ w)
+Answers w (shows seat) text next = IsWorldPage faces.Text w seat text × (next ≡ w)
 Answers w (gives e) text next =
     (o : Outcome) × IsOutcome w.checked w.budget w.state e.input o × (text ≡ answer_text w e o) × (next ≡ world_after w e o)
 
--- this is told of a line, by what is told of those behind it; a line outside the grammar ends the run
-abbrev pub TellsLine : Option LineTerm → WorldTerm → ℕ → (WorldTerm → Told → Type 0) → Told → Type 0
-TellsLine None w number TellsRest told = told ≡ record { output = []; finish = Bad number 1 }
-TellsLine (Some line) w number TellsRest told =
-    (text : Text) × (next : WorldTerm) × (rest : Told) × Answers w line text next × TellsRest next rest × (told ≡ told_after text rest)
+-- a line in the grammar, of at most so many bytes, asks for this
+abbrev pub IsLineWithin : ℕ → Text → LineTerm → Type 0
+IsLineWithin longest line asked = IsScriptLine line asked × (length line ≤ longest)
+
+-- a line in the grammar is answered, and then what is told of those behind it is told
+pub record TellsAnswer (longest : ℕ) (line : Text) (w : WorldTerm) (TellsRest : WorldTerm → Told → Type 0) (told : Told) : Type 0 where
+  pub asked : LineTerm
+  pub is : IsLineWithin longest line asked
+  pub text : Text
+  pub next : WorldTerm
+  pub rest : Told
+  pub answers : Answers w asked text next
+  pub tells : TellsRest next rest
+  pub all : told ≡ told_after text rest
+
+-- a line outside the grammar ends the run, at its first bad byte
+pub record TellsOutside (longest : ℕ) (line : Text) (number : ℕ) (told : Told) : Type 0 where
+  pub place : ℕ
+  pub bad : IsBadLine longest line place
+  pub all : told ≡ record { output = []; finish = Bad number (place + 1) }
 
 -- this is told of these lines, the first of which has this number
 abbrev pub Tells : ℕ → WorldTerm → ℕ → List Text → Finish → Told → Type 0
 Tells longest w number [] finish told = told ≡ record { output = []; finish = finish }
 Tells longest w number (line ∷ lines) finish told =
-    TellsLine (line_of longest line) w number (λ next rest. Tells longest next (number + 1) lines finish rest) told
+    TellsAnswer longest line w (λ next rest. Tells longest next (number + 1) lines finish rest) told ⊎ TellsOutside longest line number told

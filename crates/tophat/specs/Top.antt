@@ -1,21 +1,24 @@
--- What a command reports: what it writes and how it ends, by its file, the program there and the script.
+-- What a command reports: what it writes and how it ends, by its file, the verdict on what it reads, and the script.
 use Rattle.std.specs.Prelude.{ℕ, ◌≡◌, ◌<◌, ◌≤◌, ◌⊎◌, List, [], ◌∷◌, length, Option, None, Some}
 use Rattle.task_model.specs.Text.{Text}
 use Rattle.task_model.specs.Tree.{State}
 use Rattle.task_model.specs.Item.{opened}
 use Rattle.task_model.specs.Checked.{CheckedTerm}
+use Rattle.task_model.specs.Printed.{program_text}
 use Rattle.task_model.specs.State.{IsOpening}
 use Rattle.world_core.specs.World.{WorldTerm}
 use Rattle.line_frame.specs.Told.{Told}
 use Rattle.line_frame.specs.Script.{TellsScript, cut_of}
 use Rattle.line_frame.specs.declared.finish.Finish.{Finish}
 use Rattle.line_frame.specs.declared.finish.Finish.TheVariants.{ReadFault}
+use Rattle.command_words.specs.Commands.{CommandTerm, run, check, soak}
+use Rattle.input_lines.specs.Soak.{soak_text}
 use Rattle.tophat.specs.declared.ending.Ending.{Ending}
-use Rattle.tophat.specs.declared.ending.Ending.TheVariants.{Usage, Absent, FileTooLong, Unopened, Ran}
+use Rattle.tophat.specs.declared.ending.Ending.TheVariants.{Usage, Absent, FileTooLong, Unopened, Ran, Wrote}
 use Rattle.tophat.specs.declared.no_world.NoWorld.TheVariants.{Refused, OverBudget}
-use Rattle.tophat.specs.Command.{CommandTerm, run}
 use Rattle.tophat.specs.Verdict.{Verdict, accepted, refused}
 use Rattle.tophat.specs.Session.{Tells}
+use Rattle.tophat.specs.SoakReport.{IsSummary}
 
 -- the limits of a program's file, of a line and of a script in bytes
 pub record Limits : Type 0 where
@@ -35,16 +38,33 @@ pub record Report : Type 0 where
 abbrev pub ends : Ending → Report
 ends ending = record { output = []; ending = ending }
 
+-- a text is written
+abbrev pub writes : Text → Report
+writes text = record { output = text; ending = Wrote }
+
 -- what is told of a script
 abbrev pub reported : Told → Report
 reported told = record { output = told.output; ending = Ran told.finish }
 
+-- ---- commands
+-- the name of the file that a command asks for
+abbrev pub named : Option CommandTerm → Text
+named None = []
+named (Some (run name budget)) = name
+named (Some (check name)) = name
+named (Some (soak count seed)) = []
+
+-- the source of a command's program, where it asks for this file: the file, and of `soak` the text of its own
+abbrev pub source_of : Option CommandTerm → Option Text → Option Text
+source_of (Some (soak count seed)) file = Some soak_text
+source_of command file = file
+
 -- ---- openings
 -- the world at an opening
 abbrev pub world_at : CheckedTerm → ℕ → State → WorldTerm
-world_at c budget s = record { checked = c; budget = budget; history = opened c.program budget ∷ []; state = s }
+world_at c budget s = record { checked = c; budget = budget; history = opened c.program budget ∷ []; state = s; next = None }
 
--- what a file comes to: a world, or an end
+-- what a source comes to: a world, or an end
 pub data Opened : Type 0 where
   world : WorldTerm → Opened
   none : Ending → Opened
@@ -55,23 +75,47 @@ OpensVerdict budget (refused place refusal) o = o ≡ none (Unopened (Refused pl
 OpensVerdict budget (accepted c) (world w) = (s : State) × IsOpening c budget s × (w ≡ world_at c budget s)
 OpensVerdict budget (accepted c) (none ending) = ((s : State) → IsOpening c budget s → ⊥) × (ending ≡ Unopened OverBudget)
 
--- the same of a file, if it is there and within the limit
-abbrev pub OpensFile : ℕ → ℕ → Option Text → Verdict → Opened → Type 0
-OpensFile limit budget None verdict o = o ≡ none Absent
-OpensFile limit budget (Some bytes) verdict o =
-    ((length bytes ≤ limit) × OpensVerdict budget verdict o) ⊎ ((limit < length bytes) × (o ≡ none FileTooLong))
-
 -- ---- reports
--- at a world this is reported by what is told there; an end is reported
-abbrev pub ReportsOpened : (WorldTerm → Told → Type 0) → Opened → Report → Type 0
-ReportsOpened TellsAt (world w) report = (told : Told) × TellsAt w told × (report ≡ reported told)
-ReportsOpened TellsAt (none ending) report = report ≡ ends ending
+-- this is reported by a file, if it is there and within the limit
+abbrev pub ReportsFile : ℕ → Option Text → (Report → Type 0) → Report → Type 0
+ReportsFile limit None ReportsBytes report = report ≡ ends Absent
+ReportsFile limit (Some bytes) ReportsBytes report =
+    ((length bytes ≤ limit) × ReportsBytes report) ⊎ ((limit < length bytes) × (report ≡ ends FileTooLong))
+
+-- at a world this is reported by what is said there; an end is reported
+abbrev pub ReportsOpened : (WorldTerm → Report → Type 0) → Opened → Report → Type 0
+ReportsOpened ReportsAt (world w) report = ReportsAt w report
+ReportsOpened ReportsAt (none ending) report = report ≡ ends ending
+
+-- this is reported by a verdict, which comes to a world or an end
+abbrev pub ReportsVerdict : ℕ → Verdict → (WorldTerm → Report → Type 0) → Report → Type 0
+ReportsVerdict budget verdict ReportsAt report = (o : Opened) × OpensVerdict budget verdict o × ReportsOpened ReportsAt o report
+
+-- this is reported by what is told at a world
+abbrev pub ReportsTold : (WorldTerm → Told → Type 0) → WorldTerm → Report → Type 0
+ReportsTold TellsAt w report = (told : Told) × TellsAt w told × (report ≡ reported told)
+
+-- this is reported of so many inputs at a world
+abbrev pub ReportsSoak : ℕ → ℕ → WorldTerm → Report → Type 0
+ReportsSoak count seed w report =
+    (text : Text) × IsSummary count seed w text × (report ≡ writes text)
+
+-- the text of a program that is accepted, or why it is refused
+abbrev pub checks : Verdict → Report
+checks (accepted c) = writes (program_text c.program)
+checks (refused place refusal) = ends (Unopened (Refused place refusal))
+
+-- the budget of `soak`
+abbrev pub soak_budget : ℕ
+soak_budget = 10000
 
 -- this is reported of a command, by what is told at the world of its file
 abbrev pub ReportsCommand : Limits → Option CommandTerm → Option Text → Verdict → (WorldTerm → Told → Type 0) → Report → Type 0
 ReportsCommand l None file verdict TellsAt report = report ≡ ends Usage
 ReportsCommand l (Some (run name budget)) file verdict TellsAt report =
-    (o : Opened) × OpensFile l.file budget file verdict o × ReportsOpened TellsAt o report
+    ReportsFile l.file file (ReportsVerdict budget verdict (ReportsTold TellsAt)) report
+ReportsCommand l (Some (check name)) file verdict TellsAt report = ReportsFile l.file file (λ r. r ≡ checks verdict) report
+ReportsCommand l (Some (soak count seed)) file verdict TellsAt report = ReportsVerdict soak_budget verdict (ReportsSoak count seed) report
 
 -- this is reported of the whole script
 abbrev pub Reports : Limits → Option CommandTerm → Option Text → Verdict → Text → Report → Type 0

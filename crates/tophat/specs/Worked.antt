@@ -3,23 +3,21 @@ use Rattle.std.specs.Prelude.{ℕ, ◌≡◌, List, Option, None, Some, Result, 
 use Rattle.std.specs.Io.KnownBytes.{Appends, Consumes}
 use Rattle.outer_io.specs.Sink.{IsStart}
 use Rattle.task_model.specs.Text.{Text}
-use Rattle.task_model.specs.Program.{ProgramTerm}
-use Rattle.task_model.specs.Accepted.{IsPlain, typed_program}
-use Rattle.task_reader.specs.Built.{IsBuilt}
 use Rattle.world_core.specs.World.{SeenWorld, world_term}
 use Rattle.line_frame.specs.RanOut.{RanOut}
 use Rattle.line_frame.specs.Drove.{Drove, IsRead, IsTold}
 use Rattle.line_frame.specs.declared.finish.Finish.{Finish}
 use Rattle.line_frame.specs.declared.finish.Finish.TheVariants as finishes
 use Rattle.tophat.specs.declared.ending.Ending.{Ending}
-use Rattle.tophat.specs.declared.ending.Ending.TheVariants.{Usage, FileFault, Unopened, Ran}
+use Rattle.tophat.specs.declared.ending.Ending.TheVariants.{Usage, FileFault, Unopened, Ran, Wrote, WriteFault}
 use Rattle.tophat.specs.declared.no_world.NoWorld.{NoWorld}
 use Rattle.tophat.specs.declared.no_world.NoWorld.TheVariants.{Memory}
-use Rattle.tophat.specs.declared.refusal.Refusal.TheVariants.{NotBuilt}
-use Rattle.tophat.specs.Command.{CommandTerm}
-use Rattle.tophat.specs.Verdict.{Verdict, accepted, refused, IsVerdict, IsVerdictOf, HasVerdict}
+use Rattle.command_words.specs.Commands.{CommandTerm}
+use Rattle.command_words.specs.declared.stop.WordStop.{WordStop}
+use Rattle.command_words.specs.declared.stop.WordStop.TheVariants as words
+use Rattle.tophat.specs.Verdict.{Verdict, IsVerdict, IsVerdictOf, HasVerdict}
 use Rattle.tophat.specs.Session.{Tells}
-use Rattle.tophat.specs.Top.{Limits, Report, world, none, OpensVerdict, Reports, ReportsLines, ReportsRead}
+use Rattle.tophat.specs.Top.{Limits, Report, source_of, world, none, OpensVerdict, Reports, ReportsLines, ReportsRead}
 
 -- the known file is this
 abbrev pub IsFile : Option (Option Text) → Option Text → Type 0
@@ -34,9 +32,10 @@ Writes report written (Unopened Memory) = IsStart written report.output
 Writes report written (Ran finishes.ReadFault) = IsStart written report.output
 Writes report written (Ran finishes.WriteFault) = IsStart written report.output
 Writes report written (Ran finishes.Memory) = IsStart written report.output
+Writes report written WriteFault = IsStart written report.output
 Writes report written ending = report ≡ record { output = written; ending = ending }
 
--- at this end the file has a verdict, unless the words are outside the grammar, its bytes could not be had, or memory ran out
+-- at this end there is a verdict on the source, unless the words are outside the grammar, its bytes could not be had, or memory ran out
 abbrev pub HasVerdictAt : Ending → Option Text → Type 0
 HasVerdictAt Usage file = ⊤
 HasVerdictAt FileFault file = ⊤
@@ -51,11 +50,12 @@ IfRan ending fact = ⊤
 -- all that is reported of these lines, where want of memory ends them, is this text
 abbrev pub AreReported : Limits → Option CommandTerm → Option Text → Text → List Text → Type 0
 AreReported l command file written lines =
-    (verdict : Verdict) → IsVerdictOf file verdict → (report : Report) → ReportsLines l command file verdict lines finishes.Memory report
+    (verdict : Verdict) → IsVerdictOf (source_of command file) verdict → (report : Report)
+    → ReportsLines l command file verdict lines finishes.Memory report
     → report ≡ record { output = written; ending = Ran finishes.Memory }
 
--- The file and the script are those that the objects told, where they tell, and the file has a verdict. What was written is what is
--- reported by them and by the file's program, and the end is the reported one; or it is the first part of that, and the end is a fault or
+-- The file and the script are those that the objects told, where they tell, and there is a verdict on the command's source. What was written is what is
+-- reported by them and by the source's program, and the end is the reported one; or it is the first part of that, and the end is a fault or
 -- want of memory. After a fault of the input it is the whole output of the lines that end within the bytes that were read. Where lines
 -- were run, none of those that had ended before the last read is bad, and all that is reported of them was written. Memory ran out at no
 -- line that is beyond the limit.
@@ -72,20 +72,44 @@ pub record Worked (l : Limits) (command : Option CommandTerm) (holds : Option (O
   pub begins : IsStart read script
   pub consumed : Consumes left_old left_new read
   pub took : Appends taken_old taken_new written
-  pub verdict_is : HasVerdictAt ending file
-  pub comes : (verdict : Verdict) → IsVerdictOf file verdict → (report : Report) → Reports l command file verdict script report
+  pub verdict_is : HasVerdictAt ending (source_of command file)
+  pub comes : (verdict : Verdict) → IsVerdictOf (source_of command file) verdict → (report : Report) → Reports l command file verdict script report
       → Writes report written ending
-  pub answered : ending ≡ Ran finishes.ReadFault → (verdict : Verdict) → IsVerdictOf file verdict → (report : Report)
+  pub answered : ending ≡ Ran finishes.ReadFault → (verdict : Verdict) → IsVerdictOf (source_of command file) verdict → (report : Report)
       → ReportsRead l command file verdict read report → report ≡ record { output = written; ending = ending }
   pub pieces : IfRan ending (λ finish. IsRead l.script read earlier last finish)
-  pub in_time : (verdict : Verdict) → IsVerdictOf file verdict → (report : Report) → ReportsRead l command file verdict earlier report
+  pub in_time : (verdict : Verdict) → IsVerdictOf (source_of command file) verdict → (report : Report) → ReportsRead l command file verdict earlier report
       → IfRan ending (λ finish. (report.ending ≡ Ran finishes.ReadFault) × IsStart report.output written)
   pub ran_out : ending ≡ Ran finishes.Memory → RanOut (AreReported l command file written) l.script read
 
--- a fact where no line of the script was run
+-- a fact where no line of a script was run
 abbrev pub IfNotRun : Ending → Type 0 → Type 0
 IfNotRun (Ran finish) fact = ⊤
 IfNotRun ending fact = fact
+
+-- a fact where nothing was written
+abbrev pub IfSilent : Ending → Type 0 → Type 0
+IfSilent (Ran finish) fact = ⊤
+IfSilent Wrote fact = ⊤
+IfSilent WriteFault fact = ⊤
+IfSilent ending fact = fact
+
+-- how it ends where the words ask for no command
+abbrev pub word_ending : WordStop → Ending
+word_ending words.Outside = Usage
+word_ending words.Memory = Unopened Memory
+
+-- a script was run, or the words are outside the grammar
+abbrev pub IsRunEnd : Ending → Type 0
+IsRunEnd (Ran finish) = ⊤
+IsRunEnd Usage = ⊤
+IsRunEnd ending = ⊥
+
+-- a text was to be written
+abbrev pub IsTextEnd : Ending → Type 0
+IsTextEnd Wrote = ⊤
+IsTextEnd WriteFault = ⊤
+IsTextEnd ending = ⊥
 
 -- ---- openings
 -- what is read was opened to this world, or there is none for this reason, or memory ran out
@@ -97,12 +121,6 @@ Opens budget verdict (Err why) = OpensVerdict budget verdict (none (Unopened why
 -- the same of bytes, by what they are read as
 abbrev pub OpensBytes : ℕ → Text → Result SeenWorld NoWorld → Type 0
 OpensBytes budget bytes result = (verdict : Verdict) → IsVerdict bytes verdict → Opens budget verdict result
-
--- the same of a program that was read, with its places
-abbrev pub OpensProgram : ℕ → ProgramTerm → List ℕ → Result SeenWorld NoWorld → Type 0
-OpensProgram budget p places result =
-    (IsPlain p → Opens budget (accepted (typed_program p)) result)
-    × ((place : ℕ) → IsBuilt p places (Some place) → Opens budget (refused place NotBuilt) result)
 
 -- the bytes have a verdict, unless memory ran out
 abbrev pub HasVerdictAfter : {A : Type 0} → Result A NoWorld → Text → Type 0

@@ -12,7 +12,7 @@ const USAGE: &[u8] =
     b"usage: tophat run FILE [--budget N] | check FILE | soak N SEED | drill SEATS N | serve FILE [--budget N] [--seats N] [--workers N] [--port N] [--connections N]\n";
 
 /// How a command ends, by its cause.
-#[derive(Debug, Drop)]
+#[derive(Drop)]
 pub(crate) enum Ending {
     /// The words of the command line are outside their grammar.
     Usage,
@@ -26,6 +26,10 @@ pub(crate) enum Ending {
     Unopened(NoWorld),
     /// A script was run, and ended so.
     Ran(Finish),
+    /// What the command writes was written.
+    Wrote,
+    /// A write of it failed.
+    WriteFault,
 }
 
 impl Ending {
@@ -40,6 +44,8 @@ impl Ending {
             Ending::FileFault => 5,
             Ending::Unopened(why) => why.status(),
             Ending::Ran(finish) => status_of_script(finish),
+            Ending::Wrote => 0,
+            Ending::WriteFault => 6,
         }
     }
 
@@ -56,6 +62,8 @@ impl Ending {
             Ending::FileFault => write_all(err, b"tophat: read fault\n"),
             Ending::Unopened(why) => why.tell(err, name),
             Ending::Ran(finish) => tell_script(err, finish),
+            Ending::Wrote => Written::Whole,
+            Ending::WriteFault => write_all(err, b"tophat: write fault\n"),
         }
     }
 }

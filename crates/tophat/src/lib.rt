@@ -2,18 +2,17 @@
 //! `tophat` is the top call: bytes in, bytes out, and the status. `open_bytes` is the way from the bytes of a program to its world.
 #![tactic(auto)]
 
-mod check;
-mod command;
 mod ending;
 mod laws;
-mod line;
-mod line_parts;
 mod no_world;
 mod opening;
 mod refusal;
 mod runner;
 mod sentence;
+mod soak;
 mod top;
+mod type_fault;
+mod verdict;
 mod work;
 
 pub use laws::one_report;
@@ -21,3 +20,4 @@ pub use no_world::NoWorld;
 pub use opening::open_bytes;
 pub use refusal::Refusal;
 pub use top::tophat;
+pub use verdict::verdict_on;

@@ -3,13 +3,15 @@ ghost use Rattle.outer_io.specs.Causes.{Rose};
 ghost use Rattle.outer_io.specs.Sink.{Wrote};
 ghost use Rattle.tophat.specs.Ending.{opening_status, opening_text, refusal_text};
 ghost use Rattle.tophat.specs.declared.no_world.NoWorld.TheVariants as reasons;
+ghost use Rattle.tophat.specs.declared.no_world.NoWorld.TheVariants.{Memory};
 
 use crate::refusal::Refusal;
 use itoa::Buffer;
 use outer_io::{Sink, Written, write_all, write_four};
+use task_model::OutOfMemory;
 
 /// Why the bytes of a program have no world.
-#[derive(Debug, Drop)]
+#[derive(Drop)]
 pub enum NoWorld {
     /// The program is refused, at this byte of its file.
     Refused { place: u64, refusal: Refusal },
@@ -17,6 +19,14 @@ pub enum NoWorld {
     OverBudget,
     /// Memory ran out.
     Memory,
+}
+
+impl From<OutOfMemory> for NoWorld {
+    ghost from_gives = { λ _ why. why ≡ Memory };
+
+    fn from(_: OutOfMemory) -> NoWorld {
+        NoWorld::Memory
+    }
 }
 
 impl NoWorld {

@@ -5,15 +5,16 @@ ghost use Rattle.tophat.specs.Ending.{lex_text, read_text, refusal_text};
 
 use itoa::Buffer;
 use outer_io::{Sink, Written, write_all, write_two};
+use task_model::TaskText;
 use task_syntax::{LexKind, ReadKind};
 
 /// Why a program is refused.
-#[derive(Debug, Drop)]
+#[derive(Drop)]
 pub enum Refusal {
     /// No program was read.
     Read(ReadKind),
-    /// The program isn't plain, and others can't be run yet.
-    NotBuilt,
+    /// A demand on its types isn't met: the text of what is wrong.
+    Typed(TaskText),
 }
 
 impl Refusal {
@@ -25,7 +26,7 @@ impl Refusal {
     {
         match self {
             Refusal::Read(kind) => write_kind(err, kind),
-            Refusal::NotBuilt => write_all(err, b"NotBuilt"),
+            Refusal::Typed(text) => write_all(err, text.as_str().as_bytes()),
         }
     }
 }

@@ -1,17 +1,16 @@
-ghost use Rattle.std.specs.Prelude.{◌≡◌, ◌++◌, IfOk, codes, decimal};
+ghost use Rattle.std.specs.Prelude.{◌≡◌, ◌++◌, IfOk, IsNone, codes, decimal};
 ghost use Rattle.task_model.specs.Input.{entry_term};
 ghost use Rattle.task_model.specs.State.{IsSeat};
-ghost use Rattle.world_core.specs.World.{world_term, IsWorldPage};
-ghost use Rattle.tophat.specs.Line.{gives, line_term};
-ghost use Rattle.tophat.specs.ReadLine.{IsSeated};
+ghost use Rattle.world_core.specs.World.{world_term};
+ghost use Rattle.input_lines.specs.ScriptLines.{HasSeat, gives, shows, line_term};
 ghost use Rattle.tophat.specs.Session.{Answers};
 
-use crate::line::{Line, read_line};
+use input_lines::{Line, parse_line};
 use itoa::Buffer;
 use line_frame::{LineStop, Machine};
 use std::alloc::Global;
 use std::sync::ledger::Ledger;
-use task_model::{ActStop, Entry, LINE_BYTE_LIMIT, OutOfMemory, Row, Steps};
+use task_model::{ActStop, Entry, Face, LINE_BYTE_LIMIT, OutOfMemory, Row, Steps};
 use world_core::{Taken, World};
 
 /// Runs the lines of a script on a world.
@@ -19,10 +18,12 @@ use world_core::{Taken, World};
 pub(crate) struct Runner<L: Ledger> {
     world: World,
     steps: Steps<L>,
+    ghost rest: { IsNone world.next },
 }
 
 impl<L: Ledger> Runner<L> {
     pub(crate) fn new(world: World, steps: Steps<L>) -> Runner<L>
+        requires { IsNone world.next }
         ensures { result.world ≡ world }
     {
         Runner { world, steps }
@@ -30,23 +31,23 @@ impl<L: Ledger> Runner<L> {
 
     // Does what a line asks for: its answer.
     fn answer(&mut self, alloc: Global, line: Line) -> Result<Row<u8>, OutOfMemory>
-        requires { IsSeated line }
+        requires { HasSeat (line_term line) }
         ensures { IfOk result (λ text. Answers (world_term self.old.world) (line_term line) text.list (world_term self.new.world)) }
     {
         match line {
-            Line::Nothing => Ok(Row::new(alloc)),
-            Line::Shows(seat) => self.show(alloc, seat),
-            Line::Gives(entry) => self.give(alloc, entry),
+            Line::Blank => Ok(Row::new(alloc)),
+            Line::Show { seat } => self.show(alloc, seat),
+            Line::Act(entry) => self.give(alloc, entry),
         }
     }
 
     // The terminal page for a seat.
-    fn show(&self, alloc: Global, seat: u8) -> Result<Row<u8>, OutOfMemory>
+    fn show(&mut self, alloc: Global, seat: u8) -> Result<Row<u8>, OutOfMemory>
         requires { IsSeat seat }
-        ensures { IfOk result (λ text. IsWorldPage (world_term self.now.world) seat text.list) }
+        ensures { IfOk result (λ text. Answers (world_term self.old.world) (shows seat) text.list (world_term self.new.world)) }
     {
-        let page = self.world.text(alloc, seat)?;
-        row_of(alloc, page.as_str().as_bytes())
+        let page = self.world.page(alloc, Face::Text, seat, &mut self.steps)?;
+        Ok(page.into_bytes())
     }
 
     // Gives an input to the world, and answers what became of it.
@@ -79,7 +80,7 @@ impl<L: Ledger> Machine for Runner<L> {
     ghost no_lines = { λ _ _ _ _ told. told };
 
     fn run_line(&mut self, alloc: Global, line: &[u8]) -> Result<Row<u8>, LineStop> {
-        match read_line(alloc, line, LINE_BYTE_LIMIT) {
+        match parse_line(alloc, line) {
             Ok(line) => match self.answer(alloc, line) {
                 Ok(text) => Ok(text),
                 Err(OutOfMemory) => Err(LineStop::Memory),

@@ -1,12 +1,12 @@
 ghost use Rattle.std.specs.Prelude.{◌≡◌, ◌⊎◌, MatchOption};
 ghost use Rattle.outer_io.specs.Causes.{Rose};
-ghost use Rattle.tophat.specs.Command as commands;
-ghost use Rattle.tophat.specs.Top.{limits};
+ghost use Rattle.command_words.specs.Commands.{command_of};
+ghost use Rattle.tophat.specs.Top.{limits, named};
 ghost use Rattle.tophat.specs.Went.{FailedBy, Went};
 ghost use Rattle.tophat.specs.Promise.{Promised};
 
-use crate::command::{command_of, named};
-use crate::work::work;
+use crate::work::{named_file, work};
+use command_words::read_command;
 use outer_io::{Files, Sink, Source};
 use std::alloc::Global;
 use std::marker::Brand;
@@ -15,8 +15,8 @@ use task_model::TaskText;
 
 /// Does what the words of a command line ask for, without the program's own name, and answers the status.
 ///
-/// `run FILE` reads the program in FILE, opens it, and runs the script on the input (docs/FORMATS.md, "Words" and
-/// "Statuses"). A fault of `err` changes no status.
+/// `run FILE` reads the program in FILE, opens it, and runs the script on the input; `check FILE` writes the program's text again; `soak N SEED`
+/// runs inputs of its own (docs/FORMATS.md, "Words" and "Statuses"). A fault of `err` changes no status.
 pub fn tophat<F: Files, I: Source, O: Sink, E: Sink>(
     alloc: Global,
     words: &[TaskText],
@@ -25,19 +25,20 @@ pub fn tophat<F: Files, I: Source, O: Sink, E: Sink>(
     out: &mut O,
     err: &mut E,
 ) -> u8
-    // What was written to both sinks, and the status. Where no line was run, input and output are untouched.
-    ensures went { Went limits (commands.command_of words.now) (F.holds files.old (commands.named (commands.command_of words.now))) (I.left input.old) (I.left input.new)
+    // What was written to both sinks, and the status. Where no line was run the input is untouched, and where nothing was to be written the output.
+    ensures went { Went limits (command_of words.now) (F.holds files.old (named (command_of words.now))) (I.left input.old) (I.left input.new)
         (O.taken out.old) (O.taken out.new) (E.taken err.old) (E.taken err.new)
         (record { before = F.faults files.old; now = F.faults files.new }) (record { before = I.faults input.old; now = I.faults input.new })
         (record { before = O.faults out.old; now = O.faults out.new }) (record { before = E.faults err.old; now = E.faults err.new })
-        ((input.new ≡ input.old) × (out.new ≡ out.old)) result }
+        (input.new ≡ input.old) (out.new ≡ out.old) result }
 
     // Where the objects tell their bytes: the status and the output are the reported ones, or the status is 5, 6 or 8
     // and the output is the first part of that.
-    ensures told { Promised limits (commands.command_of words.now) (F.holds files.old (commands.named (commands.command_of words.now))) (I.left input.old) (O.taken out.old) (O.taken out.new) result }
+    ensures told { Promised limits (command_of words.now) (F.holds files.old (named (command_of words.now))) (I.left input.old) (O.taken out.old) (O.taken out.new) result }
 
-    // Status 2 comes where the words ask for nothing, and nothing else comes there; all is then untouched.
-    ensures usage { MatchOption (commands.command_of words.now) ((result ≡ 2) × (files.new ≡ files.old) × (input.new ≡ input.old) × (out.new ≡ out.old)) (λ _. result ≡ 2 → ⊥) }
+    // Status 2 comes where the words are outside the grammar, unless memory runs out there, and nowhere else; all is then untouched.
+    ensures usage { MatchOption (command_of words.now)
+        (((result ≡ 2) ⊎ (result ≡ 8)) × (files.new ≡ files.old) × (input.new ≡ input.old) × (out.new ≡ out.old)) (λ _. result ≡ 2 → ⊥) }
 
     // A fault is answered only where a count rose.
     ensures read_fault { result ≡ 5 → Rose (F.faults files.old) (F.faults files.new) ⊎ Rose (I.faults input.old) (I.faults input.new) }
@@ -47,8 +48,8 @@ pub fn tophat<F: Files, I: Source, O: Sink, E: Sink>(
     ensures faults { FailedBy result (record { before = F.faults files.old; now = F.faults files.new })
         (record { before = I.faults input.old; now = I.faults input.new }) (record { before = O.faults out.old; now = O.faults out.new }) }
 {
-    let asked = command_of(words);
+    let asked = read_command(alloc, words);
     let ending = work::<F, I, O, Brand>(alloc, &asked, files, input, out, Blank::new(1));
-    let _ = ending.tell(err, named(&asked));
+    let _ = ending.tell(err, named_file(&asked));
     ending.status()
 }

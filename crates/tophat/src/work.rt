@@ -1,67 +1,119 @@
-ghost use Rattle.std.specs.Prelude.{◌≡◌, ◌<◌, Some, Ok, option_map, IfErr, IfOk, IfNone, IfSome};
+ghost use Rattle.std.specs.Prelude.{◌≡◌, ◌<◌, Some, Ok, Err, Option, IfErr, IfOk, MatchResult};
 ghost use Rattle.outer_io.specs.Causes.{Rose};
 ghost use Rattle.task_model.specs.State.{IsBudget};
-ghost use Rattle.tophat.specs.Command as commands;
-ghost use Rattle.tophat.specs.Command.{command_term, HasBudget};
-ghost use Rattle.tophat.specs.Top.{limits};
-ghost use Rattle.tophat.specs.Worked.{Worked, IfNotRun, RunsBytes, HasVerdictAfter};
-ghost use Rattle.tophat.specs.Went.{file_faults_after, input_faults_after, output_faults_after};
+ghost use Rattle.command_words.specs.Commands.{CommandTerm, command_term, run, check, soak, IsAsked, IsInRange};
+ghost use Rattle.command_words.specs.declared.stop.WordStop.TheVariants as stops;
+ghost use Rattle.tophat.specs.Top.{limits, named};
+ghost use Rattle.tophat.specs.Worked.{Worked, IfNotRun, IfSilent, RunsBytes, HasVerdictAfter, IsTextEnd, IsRunEnd, word_ending};
+ghost use Rattle.tophat.specs.Sources.{FindsFile, WritesText, TellsText, ReportsCheck};
+ghost use Rattle.task_model.specs.Text.{Text};
+ghost use Rattle.tophat.specs.Went.{IsWriteFault, file_faults_after, input_faults_after, output_faults_after};
 ghost use Rattle.line_frame.specs.RunFaults.{read_faults_after_run, write_faults_after_run};
 ghost use Rattle.line_frame.specs.declared.finish.Finish.TheVariants as finishes;
 ghost use Rattle.tophat.specs.declared.ending.Ending.TheVariants as endings;
+ghost use Rattle.tophat.specs.declared.no_world.NoWorld.TheVariants as reasons;
 
-use crate::command::Command;
 use crate::ending::Ending;
 use crate::no_world::NoWorld;
 use crate::opening::open_bytes;
 use crate::runner::Runner;
+use crate::soak::soaked_text;
+use crate::verdict::verdict_on;
+use command_words::{Command, WordStop};
 use line_frame::{Finish, drive};
-use outer_io::{FileAnswer, Files, Sink, Source};
+use outer_io::{FileAnswer, Files, Sink, Source, Written, write_all};
 use std::alloc::Global;
 use std::sync::ledger::{Blank, Ledger};
-use task_model::{PROGRAM_BYTE_LIMIT, SCRIPT_BYTE_LIMIT, Steps, TaskText};
+use task_model::{PROGRAM_BYTE_LIMIT, Row, SCRIPT_BYTE_LIMIT, Steps, TaskText};
+use task_reader::print_program;
 
-/// Does what a command asks for, but for the text on the error sink. None: the words ask for nothing.
+/// Does what a command asks for, but for the text on the error sink.
 pub(crate) fn work<F: Files, I: Source, O: Sink, L: Ledger>(
     alloc: Global,
-    asked: &Option<Command<'_>>,
+    asked: &Result<Command, WordStop>,
     files: &mut F,
     input: &mut I,
     out: &mut O,
     blank: Blank,
 ) -> Ending
-    requires budget { IfSome asked.now HasBudget }
+    requires budget { IfOk asked.now (λ c. IsInRange (command_term c)) }
     requires name { blank.name ≡ L.name }
     requires parts { blank.parts ≡ L.parts }
     requires some { 0 < blank.parts }
-    ensures worked { Worked limits (option_map command_term asked.now) (F.holds files.old (commands.named (option_map command_term asked.now)))
+    ensures worked { (command : Option CommandTerm) → IsAsked command asked.now → Worked limits command (F.holds files.old (named command))
         (I.left input.old) (I.left input.new) (O.taken out.old) (O.taken out.new) result }
-    ensures usage { IfSome asked.now (λ _. result ≡ endings.Usage → ⊥) }
-    ensures no_command { IfNone asked.now ((result ≡ endings.Usage) × (files.new ≡ files.old)) }
-    ensures not_run { IfNotRun result ((input.new ≡ input.old) × (out.new ≡ out.old)) }
+    ensures usage { IfOk asked.now (λ _. result ≡ endings.Usage → ⊥) }
+    ensures outside { asked.now ≡ Err stops.Outside → result ≡ endings.Usage }
+    ensures memory { asked.now ≡ Err stops.Memory → result ≡ endings.Unopened reasons.Memory }
+    ensures no_command { IfErr asked.now (λ _. files.new ≡ files.old) }
+    ensures not_run { IfNotRun result (input.new ≡ input.old) }
+    ensures silent { IfSilent result (out.new ≡ out.old) }
     ensures file_failed { result ≡ endings.FileFault → Rose (F.faults files.old) (F.faults files.new) }
     ensures read_failed { result ≡ endings.Ran finishes.ReadFault → Rose (I.faults input.old) (I.faults input.new) }
-    ensures write_failed { result ≡ endings.Ran finishes.WriteFault → Rose (O.faults out.old) (O.faults out.new) }
+    ensures write_failed { IsWriteFault result → Rose (O.faults out.old) (O.faults out.new) }
     ensures file_count { F.faults files.new ≡ file_faults_after (F.faults files.old) result }
     ensures input_count { I.faults input.new ≡ input_faults_after (I.faults input.old) result }
     ensures output_count { O.faults out.new ≡ output_faults_after (O.faults out.old) result }
 {
     match asked {
-        Some(Command::Run { name, budget }) => run(
-            alloc,
-            name,
-            *budget,
-            files,
-            input,
-            out,
-            Steps::<L>::new(blank),
-        ),
-        None => Ending::Usage,
+        Ok(Command::Run { file, budget }) => {
+            run_file(
+                alloc,
+                file,
+                *budget,
+                files,
+                input,
+                out,
+                Steps::<L>::new(blank),
+            )
+        }
+        Ok(Command::Check { file }) => check_file(alloc, file, files, out),
+        Ok(Command::Soak { count, seed }) => {
+            soak(alloc, *count, *seed, out, Steps::<L>::new(blank))
+        }
+        Err(stop) => unasked(*stop),
+    }
+}
+
+// How it ends where the words ask for no command.
+fn unasked(stop: WordStop) -> Ending
+    ensures { result ≡ word_ending stop }
+{
+    match stop {
+        WordStop::Outside => Ending::Usage,
+        WordStop::Memory => Ending::Unopened(NoWorld::Memory),
+    }
+}
+
+/// The name of the file that a command asks for.
+pub(crate) fn named_file(asked: &Result<Command, WordStop>) -> &[u8]
+    ensures { IfOk asked.now (λ c. result.now ≡ named (Some (command_term c))) }
+{
+    match asked {
+        Ok(Command::Run { file, .. }) => file.as_str().as_bytes(),
+        Ok(Command::Check { file }) => file.as_str().as_bytes(),
+        Ok(Command::Soak { .. }) => b"",
+        Err(_) => b"",
+    }
+}
+
+// The bytes of the file of this name, or how the command ends.
+fn read_file<F: Files>(alloc: Global, name: &TaskText, files: &mut F) -> Result<Row<u8>, Ending>
+    ensures file { FindsFile 1048576 (F.holds files.old name.now) result }
+    ensures failed { result ≡ Err endings.FileFault → Rose (F.faults files.old) (F.faults files.new) }
+    ensures count { MatchResult result (λ _. F.faults files.new ≡ F.faults files.old) (λ ending. F.faults files.new ≡ file_faults_after (F.faults files.old) ending) }
+{
+    match files.read_whole(alloc, name, PROGRAM_BYTE_LIMIT as u64) {
+        FileAnswer::Bytes(bytes) => Ok(bytes),
+        FileAnswer::Absent => Err(Ending::Absent),
+        FileAnswer::TooLong => Err(Ending::FileTooLong),
+        FileAnswer::Failed => Err(Ending::FileFault),
+        FileAnswer::Memory => Err(Ending::Unopened(NoWorld::Memory)),
     }
 }
 
 // Reads a program, opens it, and runs the script on it.
-fn run<F: Files, I: Source, O: Sink, L: Ledger>(
+fn run_file<F: Files, I: Source, O: Sink, L: Ledger>(
     alloc: Global,
     name: &TaskText,
     budget: u32,
@@ -71,10 +123,11 @@ fn run<F: Files, I: Source, O: Sink, L: Ledger>(
     steps: Steps<L>,
 ) -> Ending
     requires { IsBudget budget }
-    ensures worked { Worked limits (Some (commands.run name.now budget)) (F.holds files.old name.now)
+    ensures worked { Worked limits (Some (run name.now budget)) (F.holds files.old name.now)
         (I.left input.old) (I.left input.new) (O.taken out.old) (O.taken out.new) result }
     ensures usage { result ≡ endings.Usage → ⊥ }
     ensures not_run { IfNotRun result ((input.new ≡ input.old) × (out.new ≡ out.old)) }
+    ensures no_text { IsTextEnd result → ⊥ }
     ensures file_failed { result ≡ endings.FileFault → Rose (F.faults files.old) (F.faults files.new) }
     ensures read_failed { result ≡ endings.Ran finishes.ReadFault → Rose (I.faults input.old) (I.faults input.new) }
     ensures write_failed { result ≡ endings.Ran finishes.WriteFault → Rose (O.faults out.old) (O.faults out.new) }
@@ -82,17 +135,12 @@ fn run<F: Files, I: Source, O: Sink, L: Ledger>(
     ensures input_count { I.faults input.new ≡ input_faults_after (I.faults input.old) result }
     ensures output_count { O.faults out.new ≡ output_faults_after (O.faults out.old) result }
 {
-    match files.read_whole(alloc, name, PROGRAM_BYTE_LIMIT as u64) {
-        FileAnswer::Bytes(bytes) => {
-            match run_bytes(alloc, bytes.as_slice(), budget, input, out, steps) {
-                Ok(finish) => Ending::Ran(finish),
-                Err(why) => Ending::Unopened(why),
-            }
-        }
-        FileAnswer::Absent => Ending::Absent,
-        FileAnswer::TooLong => Ending::FileTooLong,
-        FileAnswer::Failed => Ending::FileFault,
-        FileAnswer::Memory => Ending::Unopened(NoWorld::Memory),
+    match read_file(alloc, name, files) {
+        Ok(bytes) => match run_bytes(alloc, bytes.as_slice(), budget, input, out, steps) {
+            Ok(finish) => Ending::Ran(finish),
+            Err(why) => Ending::Unopened(why),
+        },
+        Err(ending) => ending,
     }
 }
 
@@ -120,5 +168,74 @@ fn run_bytes<I: Source, O: Sink, L: Ledger>(
             Ok(drive(alloc, &mut runner, input, out, SCRIPT_BYTE_LIMIT))
         }
         Err(why) => Err(why),
+    }
+}
+
+// Reads a program, and writes its text again where it is accepted.
+fn check_file<F: Files, O: Sink>(
+    alloc: Global,
+    name: &TaskText,
+    files: &mut F,
+    out: &mut O,
+) -> Ending
+    ensures worked { (left : Option Text) → Worked limits (Some (check name.now)) (F.holds files.old name.now)
+        left left (O.taken out.old) (O.taken out.new) result }
+    ensures ends { IsRunEnd result → ⊥ }
+    ensures silent { IfSilent result (out.new ≡ out.old) }
+    ensures file_failed { result ≡ endings.FileFault → Rose (F.faults files.old) (F.faults files.new) }
+    ensures write_failed { result ≡ endings.WriteFault → Rose (O.faults out.old) (O.faults out.new) }
+    ensures file_count { F.faults files.new ≡ file_faults_after (F.faults files.old) result }
+    ensures output_count { O.faults out.new ≡ output_faults_after (O.faults out.old) result }
+{
+    match read_file(alloc, name, files) {
+        Ok(bytes) => match checked_text(alloc, bytes.as_slice()) {
+            Ok(text) => write_text(out, &text),
+            Err(why) => Ending::Unopened(why),
+        },
+        Err(ending) => ending,
+    }
+}
+
+// The text of the accepted program of these bytes, or why there is none.
+fn checked_text(alloc: Global, bytes: &[u8]) -> Result<TaskText, NoWorld>
+    ensures text { TellsText (ReportsCheck bytes.now) result }
+    ensures verdict_is { HasVerdictAfter result bytes.now }
+{
+    match verdict_on(alloc, bytes) {
+        Ok(checked) => Ok(print_program(alloc, checked.program())?),
+        Err(why) => Err(why),
+    }
+}
+
+// Runs so many inputs of the generator on its program, and writes what became of them.
+fn soak<O: Sink, L: Ledger>(
+    alloc: Global,
+    count: u32,
+    seed: u64,
+    out: &mut O,
+    mut steps: Steps<L>,
+) -> Ending
+    ensures worked { (holds : Option (Option Text)) (left : Option Text) → Worked limits (Some (soak count seed)) holds
+        left left (O.taken out.old) (O.taken out.new) result }
+    ensures ends { IsRunEnd result → ⊥ }
+    ensures no_file { result ≡ endings.FileFault → ⊥ }
+    ensures silent { IfSilent result (out.new ≡ out.old) }
+    ensures write_failed { result ≡ endings.WriteFault → Rose (O.faults out.old) (O.faults out.new) }
+    ensures output_count { O.faults out.new ≡ output_faults_after (O.faults out.old) result }
+{
+    match soaked_text(alloc, count, seed, &mut steps) {
+        Ok(text) => write_text(out, &text),
+        Err(why) => Ending::Unopened(why),
+    }
+}
+
+fn write_text<O: Sink>(out: &mut O, text: &TaskText) -> Ending
+    ensures wrote { WritesText (O.taken out.old) (O.taken out.new) text.now result }
+    ensures write_failed { result ≡ endings.WriteFault → Rose (O.faults out.old) (O.faults out.new) }
+    ensures output_count { O.faults out.new ≡ output_faults_after (O.faults out.old) result }
+{
+    match write_all(out, text.as_str().as_bytes()) {
+        Written::Whole => Ending::Wrote,
+        Written::Failed => Ending::WriteFault,
     }
 }

@@ -1,109 +1,110 @@
-ghost use Rattle.std.specs.Prelude.{◌≡◌, ◌<◌};
-ghost use Rattle.task_model.specs.State.{IsBudget};
+ghost use Rattle.std.specs.Prelude.{◌<◌};
 
-use outer_io::{Got, MemFiles, MemSink, MemSource, Source};
+mod block;
+mod budgets;
+mod case;
+mod programs;
+mod refusals;
+mod worked_rows;
+
+use block::assert_blocks;
+use case::{Case, PAIR, RUN, bytes, expect, files, one, words};
+use outer_io::{Got, MemSink, MemSource, Source};
 use std::alloc::Global;
-use std::marker::Brand;
-use std::process::Abort;
-use std::sync::ledger::{Blank, Ledger};
 use std::test::Fail;
-use task_model::{OutOfMemory, Row, Steps, TaskText};
-use tophat::{NoWorld, open_bytes, tophat};
+use task_model::{OutOfMemory, Row};
+use tophat::tophat;
 
-const PAIR: &[u8] = b"task main() : (int, int) = edit 1 <&> enter int\n";
-
-// The words, the file `p.th`, the script, and the numbers of the calls on files, input, output and errors that fail.
-#[derive(Clone, Copy)]
-struct Case<'a> {
-    words: &'a [&'a str],
-    program: &'a [u8],
-    script: &'a [u8],
-    fails: [u64; 4],
+#[test]
+fn worked_commands(rt: HostRuntime) -> Result<(), Fail> {
+    Ok(assert_blocks(&rt, worked_rows::WORKED_ROWS)?)
 }
 
-const RUN: Case<'static> = Case {
-    words: &["run", "p.th"],
-    program: PAIR,
-    script: b"",
-    fails: [0, 0, 0, 0],
-};
-
-fn bytes(alloc: Global, text: &[u8]) -> Result<Row<u8>, OutOfMemory> {
-    let mut row = Row::new(alloc);
-    row.extend(text)?;
-    Ok(row)
+#[test]
+fn a_million_units(rt: HostRuntime) -> Result<(), Fail> {
+    Ok(assert_blocks(&rt, worked_rows::MILLION)?)
 }
 
-fn one<T: Drop>(alloc: Global, item: T) -> Result<Row<T>, OutOfMemory> {
-    let mut row = Row::new(alloc);
-    row.push(item)?;
-    Ok(row)
+#[test]
+fn long_texts(rt: HostRuntime) -> Result<(), Fail> {
+    Ok(assert_blocks(&rt, worked_rows::LONG_TEXTS)?)
 }
 
-fn words(alloc: Global, words: &[&str]) -> Result<Row<TaskText>, OutOfMemory> {
-    let mut row = Row::new(alloc);
-    for word in words {
-        row.push(TaskText::of(alloc, word)?)?;
+#[test]
+fn tutorial(rt: HostRuntime) -> Result<(), Fail> {
+    Ok(assert_blocks(&rt, worked_rows::TUTORIAL)?)
+}
+
+#[test]
+fn soaks(rt: HostRuntime) -> Result<(), Fail> {
+    Ok(assert_blocks(&rt, worked_rows::SOAKS)?)
+}
+
+#[test]
+fn worked_programs(rt: HostRuntime) -> Result<(), Fail> {
+    Ok(assert_blocks(&rt, programs::PROGRAMS)?)
+}
+
+#[test]
+fn worked_budgets(rt: HostRuntime) -> Result<(), Fail> {
+    Ok(assert_blocks(&rt, budgets::BUDGETS)?)
+}
+
+#[test]
+fn worked_heights(rt: HostRuntime) -> Result<(), Fail> {
+    Ok(assert_blocks(&rt, budgets::HEIGHTS)?)
+}
+
+#[test]
+fn right_words(rt: HostRuntime) -> Result<(), Fail> {
+    Ok(assert_blocks(&rt, worked_rows::WORDS)?)
+}
+
+const USAGE: &[u8] =
+    b"usage: tophat run FILE [--budget N] | check FILE | soak N SEED | drill SEATS N | serve FILE [--budget N] [--seats N] [--workers N] [--port N] [--connections N]\n";
+
+#[test]
+fn wrong_words(rt: HostRuntime) -> Result<(), Fail> {
+    for words in worked_rows::WRONG_WORDS.split('\n') {
+        expect(&rt, &Case { words, ..RUN }, 5, (2, b"", USAGE))?;
     }
-    Ok(row)
+    Ok(expect(&rt, &Case { words: "", ..RUN }, 5, (2, b"", USAGE))?)
 }
 
-fn files(alloc: Global, program: &[u8], fails: u64) -> Result<MemFiles, OutOfMemory> {
-    let names = one(alloc, TaskText::of(alloc, "p.th")?)?;
-    let contents = one(alloc, bytes(alloc, program)?)?;
-    Ok(MemFiles::new(names, contents, one(alloc, fails)?))
+#[test]
+fn refused_programs(rt: HostRuntime) -> Result<(), Fail> {
+    assert_blocks(&rt, refusals::REFUSALS)?;
+    let case = Case {
+        program: b"task \xff",
+        ..RUN
+    };
+    let error = b"tophat: p.th: byte 5: NotUtf8\n";
+    Ok(expect(&rt, &case, 5, (1, b"", error))?)
 }
 
-// Runs a case in pieces of this size: the status, and what both sinks took.
-fn run(alloc: Global, case: &Case<'_>, piece: usize) -> Result<(u8, MemSink, MemSink), OutOfMemory>
-    requires { 0 < piece }
-{
-    let words = words(alloc, case.words)?;
-    let mut files = files(alloc, case.program, case.fails[0])?;
-    let script = bytes(alloc, case.script)?;
-    let mut input = MemSource::new(script, piece, one(alloc, case.fails[1])?);
-    let mut out = MemSink::new(alloc, piece, one(alloc, case.fails[2])?);
-    let mut err = MemSink::new(alloc, piece, one(alloc, case.fails[3])?);
-    let status = tophat(
-        alloc,
-        words.as_slice(),
-        &mut files,
-        &mut input,
-        &mut out,
-        &mut err,
-    );
-    Ok((status, out, err))
-}
-
-fn expect(
-    rt: &(impl Abort + AllocGlobal),
-    case: &Case<'_>,
-    piece: usize,
-    want: (u8, &[u8], &[u8]),
-) -> Result<(), OutOfMemory>
-    requires { 0 < piece }
-{
-    let (status, out, err) = run(rt.alloc(), case, piece)?;
-    assert_eq!(rt; status, want.0);
-    assert_eq!(rt; out.taken(), want.1);
-    assert_eq!(rt; err.taken(), want.2);
+#[test]
+fn bad_lines(rt: HostRuntime) -> Result<(), Fail> {
+    let alloc = rt.alloc();
+    for row in refusals::BAD_LINES.split('\n') {
+        let (column, line) = row.split_once(' ').unwrap_or((row, ""));
+        let error = format!(in alloc; "tophat: line 1 column {column}\n")?;
+        let case = Case {
+            script: line.as_bytes(),
+            ..RUN
+        };
+        expect(&rt, &case, 7, (3, b"", error.as_str().as_bytes()))?;
+    }
     Ok(())
 }
 
 #[test]
 fn scripts(rt: HostRuntime) -> Result<(), Fail> {
-    let table: [(&[u8], u8, &[u8], &[u8]); 9] = [
+    let table: [(&[u8], u8, &[u8], &[u8]); 5] = [
         (b"", 0, b"", b""),
         (
-            b"1 .S set 4\n1 show\n",
+            b"1 .F set 7\n1 . set 1\n# as before\n1 . next\n2 show",
             0,
-            b"taken 1\nversion 1 seat 1\n. and\n.F edit int 1\n.S edit int 4\n",
-            b"",
-        ),
-        (
-            b"1 .F set 7\n1 . set 1\n2 show",
-            0,
-            b"taken 1\nnot offered\nversion 1 seat 2\n. and\n.F edit int 7\n.S enter int\n",
+            b"taken 1\nnot offered\nnot offered\nversion 1 seat 2\n. and\n.F edit int 7\n.S enter int\n",
             b"",
         ),
         (
@@ -112,93 +113,18 @@ fn scripts(rt: HostRuntime) -> Result<(), Fail> {
             b"taken 1\ntaken 2\nversion 2 seat 64\n. and\n.F edit int -9223372036854775808\n.S edit int 7\n",
             b"",
         ),
-        (b"1 . next", 3, b"", b"tophat: line 1 column 1\n"),
         (
             b"1 .F set 1\n65 show\n1 show\n",
             3,
             b"taken 1\n",
-            b"tophat: line 2 column 1\n",
+            b"tophat: line 2 column 2\n",
         ),
-        (
-            b"1 .F set 9223372036854775808\n",
-            3,
-            b"",
-            b"tophat: line 1 column 1\n",
-        ),
-        (b"1 .F  set 1\n", 3, b"", b"tophat: line 1 column 1\n"),
-        (b"1 .FX set 1\n", 3, b"", b"tophat: line 1 column 1\n"),
+        (b"1 show\rx\n1 show", 3, b"", b"tophat: line 1 column 8\n"),
     ];
     for (script, status, out, err) in table {
         for piece in [1, 7, 4096] {
             expect(&rt, &Case { script, ..RUN }, piece, (status, out, err))?;
         }
-    }
-    Ok(())
-}
-
-const USAGE: &[u8] =
-    b"usage: tophat run FILE [--budget N] | check FILE | soak N SEED | drill SEATS N | serve FILE [--budget N] [--seats N] [--workers N] [--port N] [--connections N]\n";
-
-#[test]
-fn wrong_words(rt: HostRuntime) -> Result<(), Fail> {
-    let table: [(&[&str], u8, &[u8]); 6] = [
-        (&[], 2, USAGE),
-        (&["run"], 2, USAGE),
-        (&["run", "-p"], 2, USAGE),
-        (&["run", "p.th", "q"], 2, USAGE),
-        (&["check", "p.th"], 2, USAGE),
-        (&["run", "none.th"], 7, b"tophat: none.th: no such file\n"),
-    ];
-    for (words, status, err) in table {
-        expect(&rt, &Case { words, ..RUN }, 5, (status, b"", err))?;
-    }
-    Ok(())
-}
-
-#[test]
-fn refusals(rt: HostRuntime) -> Result<(), Fail> {
-    let table: [(&[u8], &[u8]); 11] = [
-        (b"", b"tophat: p.th: byte 0: NotBuilt\n"),
-        (
-            b"task main() : int = fail int",
-            b"tophat: p.th: byte 20: NotBuilt\n",
-        ),
-        (
-            b"task main() : int = (edit -5)",
-            b"tophat: p.th: byte 26: Unexpected token 9\n",
-        ),
-        (
-            b"task main() : (int, int) = edit 1",
-            b"tophat: p.th: byte 0: NotBuilt\n",
-        ),
-        (
-            b"task main() : (int, int) = edit 1 <&> edit \"a\"",
-            b"tophat: p.th: byte 38: NotBuilt\n",
-        ),
-        (
-            b"task main() : int = edit 1 +",
-            b"tophat: p.th: byte 27: Unexpected token 9\n",
-        ),
-        (
-            b"task main() : int = edit",
-            b"tophat: p.th: byte 24: Unexpected token 8\n",
-        ),
-        (
-            b"task main() : int = edit 9223372036854775808",
-            b"tophat: p.th: byte 25: WideNumber\n",
-        ),
-        (
-            b"task main() : int = edit \"\\q\"",
-            b"tophat: p.th: byte 26: BadEscape\n",
-        ),
-        (b"task \xff", b"tophat: p.th: byte 5: NotUtf8\n"),
-        (
-            b"task _main() : int = edit 1",
-            b"tophat: p.th: byte 5: BadChar\n",
-        ),
-    ];
-    for (program, err) in table {
-        expect(&rt, &Case { program, ..RUN }, 5, (1, b"", err))?;
     }
     Ok(())
 }
@@ -230,6 +156,40 @@ fn faults(rt: HostRuntime) -> Result<(), Fail> {
         )?;
     }
     Ok(())
+}
+
+// The second read fails: what was read before is answered.
+#[test]
+fn a_read_that_fails_behind_an_input(rt: HostRuntime) -> Result<(), Fail> {
+    let case = Case {
+        program: b"task main() : int = enter int >>? x . edit (x + 1)",
+        script: b"1 . set 4\n1 show",
+        fails: [0, 2, 0, 0],
+        ..RUN
+    };
+    let error = b"tophat: read fault\n";
+    Ok(expect(&rt, &case, 10, (5, b"taken 1\n", error))?)
+}
+
+// `check` asks for the file as `run` does, and `soak` for none. Neither reads the input.
+#[test]
+fn faults_of_other_commands(rt: HostRuntime) -> Result<(), Fail> {
+    for words in ["check p.th", "soak 1 3"] {
+        let fails = [0, 1, 1, 0];
+        let case = Case {
+            words,
+            fails,
+            ..RUN
+        };
+        expect(&rt, &case, 64, (6, b"", b"tophat: write fault\n"))?;
+    }
+    let case = Case {
+        words: "check p.th",
+        fails: [1, 0, 0, 0],
+        ..RUN
+    };
+    let error = b"tophat: read fault\n";
+    Ok(expect(&rt, &case, 64, (5, b"", error))?)
 }
 
 // The text, behind so many bytes and before so many others.
@@ -298,7 +258,7 @@ fn long_files(rt: HostRuntime) -> Result<(), Fail> {
 fn long_lines(rt: HostRuntime) -> Result<(), Fail> {
     let table: [(usize, u8, &[u8], &[u8]); 2] = [
         (MOST, 0, b"taken 1\n", b""),
-        (MOST + 1, 3, b"", b"tophat: line 1 column 1\n"),
+        (MOST + 1, 3, b"", b"tophat: line 1 column 1048577\n"),
     ];
     for (length, status, out, err) in table {
         let zeros = length.saturating_sub(10);
@@ -347,38 +307,20 @@ fn stopped_at(alloc: Global, piece: usize, write: u64) -> Result<(u8, u64), OutO
     Ok((status, left(&mut input)))
 }
 
-// The input is read no further than the line whose answer can't be written, and what came with it.
+// The input is read no further than the lines whose answers can't be written, and what came with them. The answers to the lines of one piece
+// are one write.
 #[test]
 fn nothing_is_read_before_what_came_is_answered(rt: HostRuntime) -> Result<(), Fail> {
-    for (piece, write, want) in [(7, 1, 14), (7, 2, 7), (7, 3, 0), (10, 1, 11), (10, 2, 1)] {
+    for (piece, write, want) in [
+        (7, 1, 14),
+        (7, 2, 7),
+        (7, 3, 0),
+        (10, 1, 11),
+        (10, 2, 1),
+        (14, 1, 7),
+        (14, 2, 0),
+    ] {
         assert_eq!(rt; stopped_at(rt.alloc(), piece, write)?, (6, want));
     }
-    Ok(())
-}
-
-// Whether the opening of the pair is over this budget, with steps counted in a ledger.
-fn is_over_in<L: Ledger>(alloc: Global, budget: u32, blank: Blank) -> bool
-    requires budget { IsBudget budget }
-    requires name { blank.name ≡ L.name }
-    requires parts { blank.parts ≡ L.parts }
-    requires some { 0 < blank.parts }
-{
-    let mut steps = Steps::<L>::new(blank);
-    match open_bytes(alloc, PAIR, budget, &mut steps) {
-        Err(NoWorld::OverBudget) => true,
-        _ => false,
-    }
-}
-
-fn is_over(alloc: Global, budget: u32) -> bool
-    requires { IsBudget budget }
-{
-    is_over_in::<Brand>(alloc, budget, Blank::new(1))
-}
-
-#[test]
-fn an_opening_is_over_a_budget_that_is_too_small(rt: HostRuntime) -> Result<(), Fail> {
-    assert_eq!(rt; is_over(rt.alloc(), 1), true);
-    assert_eq!(rt; is_over(rt.alloc(), 10_000), false);
     Ok(())
 }

@@ -6,6 +6,7 @@ mod checked_programs;
 mod evaluated_programs;
 mod programs;
 mod work;
+mod worlds;
 
 use std::io::Read;
 use std::{env, io};
@@ -28,7 +29,7 @@ fn main(rt: HostRuntime) -> io::Result<()> {
     };
     let Some(work) = Work::named(work.as_str()) else {
         return rt.println(
-            "workbench: the first word is text, list, tokens, program, parameters, parameter, definitions, parentheses, small, deep, names, calls, sums, elements or joins",
+            "workbench: the first word is text, list, tokens, program, parameters, parameter, definitions, parentheses, small, deep, names, calls, sums, elements, joins, pages or html",
         );
     };
     let (Ok(size), Ok(times)) = (

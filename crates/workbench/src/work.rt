@@ -1,11 +1,12 @@
 use crate::checked_programs::{deep_of, names_of, small_of};
 use crate::evaluated_programs::{calls_of, elements_of, joins_of, sums_of};
 use crate::programs::{definitions_of, parameter_of, parameters_of, parentheses_of, program_of};
+use crate::worlds::{forms_of, pages_drawn};
 use eval_tests::value_of;
 use host_types::check;
 use literal_text::read_any;
 use std::alloc::{AllocError, Global};
-use task_model::{Purse, TaskText};
+use task_model::{Face, Purse, TaskText};
 use task_reader::read_program;
 use task_syntax::lex;
 
@@ -42,6 +43,10 @@ pub(crate) enum Work {
     Elements,
     /// A program that joins a text so many times doubled, which is checked and evaluated.
     Joins,
+    /// A program of so many nodes, which is opened once, and whose terminal page is drawn each time.
+    Pages,
+    /// The same with the HTML page.
+    Html,
 }
 
 impl Work {
@@ -62,6 +67,8 @@ impl Work {
             "sums" => Some(Work::Sums),
             "elements" => Some(Work::Elements),
             "joins" => Some(Work::Joins),
+            "pages" => Some(Work::Pages),
+            "html" => Some(Work::Html),
             _ => None,
         }
     }
@@ -83,11 +90,20 @@ impl Work {
             Work::Sums => sums_of(alloc, size),
             Work::Elements => elements_of(alloc, size),
             Work::Joins => joins_of(alloc, size),
+            Work::Pages | Work::Html => forms_of(alloc, size),
         }
     }
 
-    /// How often the source had its right answer, of so many times.
+    /// How often the source had its right answer, of so many times, or for pages their bytes.
     pub(crate) fn answered(self, alloc: Global, source: &str, times: usize) -> u64 {
+        match self {
+            Work::Pages => pages_drawn(alloc, source, Face::Text, times),
+            Work::Html => pages_drawn(alloc, source, Face::Html, times),
+            _ => self.times_answered(alloc, source, times),
+        }
+    }
+
+    fn times_answered(self, alloc: Global, source: &str, times: usize) -> u64 {
         let mut answered: u64 = 0;
         for _ in 0..times {
             if self.is_answered(alloc, source) {

@@ -1,4 +1,3 @@
-pub mod EvaluationLemmas
-pub mod DrawingLemmas
-pub mod ActingLemmas
-mod WorldLemmas
+pub mod WorldLemmas
+pub mod KeptLemmas
+pub mod RunLemmas

@@ -1,51 +1,33 @@
 -- A world's history grows by one entry, and what follows from that.
-use Rattle.std.proofs.Common.{◌≡◌, ℕ, suc, ◌+◌, ◌≤◌, List, [], ◌∷◌, ◌++◌, length, map, Ok, Err, refl, sym, ap, ◌∙◌, subst, arith}
-use Rattle.std.proofs.lemmas.List.{map-append, length-map}
+use Rattle.std.proofs.Common.{◌≡◌, ℕ, suc, List, [], ◌∷◌, ◌++◌, length, Option, Some, None, Result, Ok, Err, refl, sym, ap, ◌∙◌, subst, arith}
 use Rattle.task_model.specs.Left.{Left}
-use Rattle.task_model.specs.Basic.{BasicTerm, int_type}
-use Rattle.task_model.specs.Value.{ValueTerm, int_value, value_term}
-use Rattle.task_model.specs.Env.{empty_env}
-use Rattle.task_model.specs.Task.{call_task}
-use Rattle.task_model.specs.Tree.{TreeTerm, tree_term, edit_tree, enter_tree, and_tree, State, at}
 use Rattle.task_model.specs.Text.{Text}
-use Rattle.task_model.specs.Page.{page_text}
-use Rattle.task_model.specs.Widget.{WidgetTerm, AreWidgets}
-use Rattle.task_model.specs.Input.{EntryTerm, input_term, entry_term}
-use Rattle.task_model.specs.Item.{ItemTerm, opened, took, item_term, history_term}
-use Rattle.task_model.specs.Checked.{CheckedTerm, checked_term}
+use Rattle.task_model.specs.Value.{ValueTerm}
+use Rattle.task_model.specs.Env.{EnvTerm, empty_env}
+use Rattle.task_model.specs.Task.{TaskTerm, call_task}
+use Rattle.task_model.specs.Tree.{State}
+use Rattle.task_model.specs.Input.{EntryTerm}
+use Rattle.task_model.specs.Item.{ItemTerm, opened, took}
+use Rattle.task_model.specs.Checked.{CheckedTerm}
 use Rattle.task_model.specs.Judgements.{Normal}
+use Rattle.task_model.specs.Plan.{normal}
 use Rattle.task_model.specs.Spends.{Spends}
-use Rattle.task_model.specs.Outcome.{IsTaken}
-use Rattle.task_model.specs.TypeParts.{symbols_of}
+use Rattle.task_model.specs.Widget.{WidgetTerm, AreWidgets}
 use Rattle.task_model.specs.Program.{main_name}
 use Rattle.task_model.specs.Accepted.{IsAccepted, typed_program}
-use Rattle.task_model.specs.State.{IsOpening, IsReached, IsState, IsLegal, IsTerminal, IsEntry, AreEntries, version_of}
-use Rattle.task_model.specs.declared.tree.Tree.{Tree}
-use Rattle.task_model.specs.declared.input.Entry.{Entry}
-use Rattle.task_model.specs.declared.item.Item.{Item}
-use Rattle.task_model.specs.declared.item.Item.TheVariants as item_kinds
-use Rattle.task_model.specs.declared.stops.ActStop.{ActStop}
-use Rattle.task_model.specs.declared.stops.ActStop.TheVariants as act_stops
+use Rattle.task_model.specs.Fits.{Fits}
+use Rattle.task_model.specs.State.{IsOpening, IsReached, IsState, IsLegal, IsPage, HasWidgets, IsEntry, AreEntries, version_of}
+use Rattle.task_model.specs.declared.widget.Face.{Face}
+use Rattle.task_model.specs.declared.widget.Face.TheVariants as faces
 use Rattle.task_model.specs.declared.purse.Stop.{Stop}
-use Rattle.task_model.specs.declared.purse.Stop.TheVariants.{Over, Memory}
+use Rattle.task_model.specs.declared.purse.Stop.TheVariants.{Over}
 use Rattle.task_model.proofs.OutcomeLemmas.{lead_to_more}
-use Rattle.task_model.proofs.OfferLemmas.{widgets_exist}
-use Rattle.task_model.specs.PlainTree.{PlainTree, IsSmallTree}
-use Rattle.world_core.specs.InnerTree.{tree_nodes}
-use Rattle.world_core.specs.World.{SeenWorld, WorldTerm, world_term, IsStanding, with_entry, Replies, IsWorldPage}
-use Rattle.world_core.specs.Acting.{Acts}
-use Rattle.world_core.specs.Inside.{IsKept}
-
--- ---- small trees
-plain_nodes : (t : TreeTerm) (b : BasicTerm) → PlainTree t b → tree_nodes t ≡ symbols_of b
-plain_nodes (edit_tree int_type (int_value i)) b h = ap symbols_of (sym h)
-plain_nodes (enter_tree int_type) b h = ap symbols_of (sym h)
-plain_nodes (and_tree t u) b h = let x = plain_nodes t h.0 h.3 in let y = plain_nodes u h.1 h.4 in let e : suc (tree_nodes t + tree_nodes u)
-    ≡ suc (symbols_of h.0 + symbols_of h.1) = omega arith in e ∙ ap symbols_of (sym h.2)
-plain_nodes t b h = absurd h
-
-pub few_nodes : (t : TreeTerm) → IsSmallTree t → tree_nodes t ≤ 64
-few_nodes t s = let e = plain_nodes t s.type s.plain in let l = s.small in omega arith
+use Rattle.typing_laws.specs.Supposed.{main_type}
+use Rattle.typing_laws.specs.Well.{MayAsk}
+use Rattle.typing_laws.proofs.HistoryLemmas.{main_fits, reached_kept}
+use Rattle.html_pages.specs.Fragments.{face_text}
+use Rattle.world_core.specs.Pages.{IsWorldPage}
+use Rattle.world_core.specs.World.{WorldTerm, NextTerm, NextStands, MayFollow, IsStanding, with_item, LeadsOn}
 
 -- ---- histories
 pub entries_more : (items : List ItemTerm) (e : EntryTerm) → AreEntries items → IsEntry e → AreEntries (items ++ took e ∷ [])
@@ -62,24 +44,66 @@ pub standing_version : (w : WorldTerm) → IsStanding w → length w.history ≡
 standing_version w s = ap length s.begins ∙ ap suc (sym (version_length s.entries s.valid)) ∙ ap (λ h. suc (version_of h)) (sym s.begins)
 
 -- ---- one entry more
-pub standing_more : (w : WorldTerm) (e : EntryTerm) (t : State) → IsStanding w → IsEntry e
-    → IsTaken w.checked w.budget w.state e.input t → IsStanding (with_entry w e t)
-standing_more w e t s entry d = record {
+pub standing_more : (w : WorldTerm) (n : NextTerm) → IsStanding w → NextStands w n → IsStanding (with_item w n)
+standing_more w n s d = record {
   accepted = s.accepted;
   budget = s.budget;
-  entries = s.entries ++ took e ∷ [];
-  begins = ap (λ h. h ++ took e ∷ []) s.begins;
-  valid = entries_more s.entries e s.valid entry;
-  reached = (s.reached.0, s.reached.1, lead_to_more w.checked w.budget s.entries s.reached.0 w.state t (took e) s.reached.2 (t, d, refl));
+  entries = s.entries ++ took d.entry ∷ [];
+  begins = ap (λ h. h ++ n.item ∷ []) s.begins ∙ ap (λ i. opened w.checked.program w.budget ∷ (s.entries ++ i ∷ [])) d.is;
+  valid = entries_more s.entries d.entry s.valid d.valid;
+  reached = (
+    s.reached.0,
+    s.reached.1,
+    lead_to_more w.checked w.budget s.entries s.reached.0 w.state n.state (took d.entry) s.reached.2
+        (n.state, d.taken, refl),
+  );
+  follows = tt;
+}
+
+-- what is prepared may be given up, and something else prepared
+pub standing_next : (w : WorldTerm) (o : Option NextTerm) → IsStanding w → MayFollow (record w { next = o }) o → IsStanding (record w { next = o })
+standing_next w o s d = record {
+  accepted = s.accepted;
+  budget = s.budget;
+  entries = s.entries;
+  begins = s.begins;
+  valid = s.valid;
+  reached = s.reached;
+  follows = d;
 }
 
 -- ---- the opening
-pub opening_never : {X : Type 0} (view : X → State) (c : CheckedTerm) (budget : ℕ) (old new : Left) (stop : Stop) → old.units ≡ budget
-    → old.height ≡ 1000 → stop ≡ Over
-    → Spends (Normal c (call_task main_name []) empty_env []) view old new (Err stop) → (s : State) → IsOpening c budget s → ⊥
-opening_never view c budget old new Over bu bh e p s o = let w = o.3 in let wu = w.units in let wh = w.height in
-    p s o.0 o.1 o.2 (omega arith) (omega arith)
-opening_never view c budget old new Memory bu bh e p s o = absurd (cc)
+-- `main()` may be evaluated over the empty store
+pub opening_may : (c : CheckedTerm) (t : TaskTerm) (env : EnvTerm) (σ : List ValueTerm) → IsAccepted c → t ≡ call_task main_name []
+    → env ≡ empty_env → σ ≡ [] → MayAsk c (normal t env σ)
+opening_may c t env σ accepted a b d = rw (a, b, d) (record {
+  typing = record { places = []; type = main_type c.program };
+  supposed = main_fits c accepted;
+})
+
+module _ {X : Type 0} (view : X → State) (c : CheckedTerm) (budget : ℕ) (t : TaskTerm) (env : EnvTerm) (σ : List ValueTerm) (old new : Left)
+    (task : t ≡ call_task main_name []) (empty : env ≡ empty_env) (none : σ ≡ []) (units : old.units ≡ budget)
+    (height : old.height ≡ 1000) where
+  abbrev spent : Result X Stop → Type 0
+  spent r = Spends (Normal c t env σ) view old new r
+
+  opening_spent : (r : Result X Stop) → spent r → Spends (Normal c (call_task main_name []) empty_env []) view old new r
+  opening_spent r a = rw (task, empty, none) at a
+
+  pub opening_is : (x : X) → spent (Ok x) → IsOpening c budget (view x)
+  opening_is x a =
+      let q = opening_spent (Ok x) a in
+      let le = q.3 in
+      let paid = q.4 in
+      (q.0, q.1, q.2, record { units = omega (arith, units, paid); height = omega (arith, height, le) })
+
+  pub opening_never : (stop : Stop) → stop ≡ Over → spent (Err stop) → (s : State) → IsOpening c budget s → ⊥
+  opening_never stop is spends s o =
+      let a = subst (λ z. spent (Err z)) is spends in
+      let w = o.3 in
+      let wu = w.units in
+      let wh = w.height in
+      opening_spent (Err Over) a s o.0 o.1 o.2 (omega (arith, units, wu)) (omega (arith, height, wh))
 
 -- ---- what a standing world shows
 -- the types of an accepted program are those that it gives
@@ -98,82 +122,34 @@ standing_state w s = subst (λ h. IsState h w.state) (sym s.begins) (standing_ty
 pub standing_legal : (w : WorldTerm) → IsStanding w → IsLegal w.history
 standing_legal w s = subst IsLegal (sym s.begins) (s.budget, s.valid, (w.state, standing_typed w s))
 
-pub standing_terminal : (w : WorldTerm) (seat : ℕ) (text : Text) → IsStanding w → IsWorldPage w seat text → IsTerminal w.history seat text
-standing_terminal w seat text s p =
-    let widgets = subst (λ c. AreWidgets c w.budget w.state.tree w.state.store p.0) (typed_alone w.checked s.accepted) p.1 in
-    subst (λ h. IsTerminal h seat text) (sym s.begins)
-    (p.0, (w.state, (standing_typed w s).0, (standing_typed w s).1, widgets), p.2 ∙ ap (λ h. page_text (version_of h) seat p.0) s.begins)
+pub standing_fits : (w : WorldTerm) → IsStanding w → Fits w.checked w.state
+standing_fits w s =
+    let k = reached_kept w.checked s.accepted w.budget s.entries w.state s.reached in (k.0, main_type w.checked.program, k.1)
 
--- a text that is the page of any widgets of the tree is the world's page
-pub page_of : (w : WorldTerm) (seat version : ℕ) (text : Text) → version ≡ version_of w.history
-    → ((c : CheckedTerm) (budget : ℕ) (σ : List ValueTerm) (ws : List WidgetTerm) → AreWidgets c budget w.state.tree σ ws
-    → text ≡ page_text version seat ws) → IsWorldPage w seat text
-page_of w seat version text e h =
-    let ws = widgets_exist w.checked w.budget w.state.tree w.state.store in
-    (ws.0, ws.1, h w.checked w.budget w.state.store ws.0 ws.1 ∙ ap (λ v. page_text v seat ws.0) e)
+leads_on : (w : WorldTerm) (o : Option NextTerm) → IsStanding w → MayFollow w o → LeadsOn w o
+leads_on w None s d = tt
+leads_on w (Some n) s d =
+    let more = standing_more w n s d in (standing_legal (with_item w n) more, standing_state (with_item w n) more)
 
--- ---- what becomes of a world
-abbrev pub world_with : SeenWorld → List Item → Tree → SeenWorld
-world_with w history tree = record { checked = w.checked; budget = w.budget; history = history; tree = tree; store = w.store }
+pub standing_leads : (w : WorldTerm) → IsStanding w → LeadsOn w w.next
+standing_leads w s = leads_on w w.next s s.follows
 
-module _ (w : SeenWorld) (history : List Item) (tree : Tree) (e : Entry) where
-  same_world : history ≡ w.history → tree_term tree ≡ tree_term w.tree → world_term (world_with w history tree) ≡ world_term w
-  same_world p q =
-      ap (λ h. record {
-        checked = checked_term w.checked;
-        budget = w.budget;
-        history = history_term h;
-        state = at (tree_term tree) (map value_term w.store);
-      }) p
-      ∙ ap (λ t. record {
-        checked = checked_term w.checked;
-        budget = w.budget;
-        history = history_term w.history;
-        state = at t (map value_term w.store);
-      }) q
+-- a page of either face
+faced : (face : Face) (h : List ItemTerm) (seat : ℕ) (text : Text) (ws : List WidgetTerm) → HasWidgets h ws
+    → text ≡ face_text face (version_of h) seat ws → IsPage face h seat text
+faced faces.Text h seat text ws shown told = (ws, shown, told)
+faced faces.Html h seat text ws shown told = (ws, shown, told)
 
-  grown_world : history ≡ w.history ++ item_kinds.Took e ∷ [] → world_term (world_with w history tree)
-      ≡ with_entry (world_term w) (entry_term e) (at (tree_term tree) (map value_term w.store))
-  grown_world p =
-      ap (λ h. record {
-        checked = checked_term w.checked;
-        budget = w.budget;
-        history = h;
-        state = at (tree_term tree) (map value_term w.store);
-      })
-      (ap history_term p ∙ map-append item_term w.history (item_kinds.Took e ∷ []))
+-- a page of a standing world is the page of its history
+page_is : (face : Face) (w : WorldTerm) (seat : ℕ) (text : Text) (s : IsStanding w) → IsWorldPage face w seat text
+    → IsPage face (opened w.checked.program w.budget ∷ s.entries) seat text
+page_is face w seat text s p =
+    let typed = standing_typed w s in
+    let same = typed_alone w.checked s.accepted in
+    let shown = subst (λ c. AreWidgets c w.budget w.state.tree w.state.store p.0) same p.1 in
+    let told = p.2 ∙ ap (λ h. face_text face (version_of h) seat p.0) s.begins in
+    faced face (opened w.checked.program w.budget ∷ s.entries) seat text p.0 (w.state, typed.0, typed.1, shown) told
 
-  pub refuses : (s : ActStop) → history ≡ w.history → Acts (tree_term w.tree) w.budget (input_term e.input) (tree_term tree) (Err s)
-      → Replies (world_term w) (entry_term e) (world_term (world_with w history tree)) (Err s)
-  refuses act_stops.NotOffered p a = (a.0 (checked_term w.checked) (map value_term w.store), same_world p a.1)
-  refuses act_stops.Over p a = (a.0 (checked_term w.checked) (map value_term w.store), same_world p a.1)
-  refuses act_stops.Memory p a = same_world p a
-
-  module _ (k : IsKept w) (entry : IsEntry (entry_term e)) (p : history ≡ w.history ++ item_kinds.Took e ∷ [])
-      (a : Acts (tree_term w.tree) w.budget (input_term e.input) (tree_term tree) (Ok tt)) where
-    taken_here : IsTaken (checked_term w.checked) w.budget (world_term w).state (input_term e.input)
-        (at (tree_term tree) (map value_term w.store))
-    taken_here = a (checked_term w.checked) (map value_term w.store)
-
-    grown_standing : IsStanding (world_term (world_with w history tree))
-    grown_standing = subst IsStanding (sym (grown_world p))
-        (standing_more (world_term w) (entry_term e) (at (tree_term tree) (map value_term w.store)) k.standing entry taken_here)
-
-    pub keeps : ((b : BasicTerm) → PlainTree (tree_term w.tree) b → PlainTree (tree_term tree) b) → IsKept (world_with w history tree)
-    keeps plain = record {
-      standing = grown_standing;
-      tree = record {
-        type = k.tree.type;
-        plain = plain k.tree.type k.tree.plain;
-        small = k.tree.small;
-      };
-      store = k.store;
-    }
-
-    -- the answer of an input that was taken
-    pub takes : (version : ℕ) → suc version ≡ length history
-        → Replies (world_term w) (entry_term e) (world_term (world_with w history tree)) (Ok (record { version = version }))
-    takes version same =
-        let grown = standing_version (world_term (world_with w history tree)) grown_standing in
-        let long = length-map history item_term in
-        (at (tree_term tree) (map value_term w.store), taken_here, grown_world p, omega arith)
+pub standing_page : (face : Face) (w : WorldTerm) (seat : ℕ) (text : Text) → IsStanding w → IsWorldPage face w seat text
+    → IsPage face w.history seat text
+standing_page face w seat text s p = subst (λ h. IsPage face h seat text) (sym s.begins) (page_is face w seat text s p)

@@ -1,5 +1,5 @@
-pub mod InnerTree
+pub mod TreeNodes
 pub mod World
-pub mod Drawing
-pub mod Acting
 pub mod Inside
+pub mod Replying
+pub mod Pages

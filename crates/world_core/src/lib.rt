@@ -1,15 +1,15 @@
-//! A world: the history of the inputs that were taken, kept as a list of items, and the state that it leads to.
-//! Each input is judged at that state; its page is the interface of that state.
+//! A world: a program that was opened, the history of the inputs that it took, and the state that they lead to. An event has two parts,
+//! so that what is prepared can be written down before it counts.
 #![tactic(auto)]
 
-mod acting;
 mod answers;
-mod drawing;
-mod editing;
-mod evaluation;
-mod settling;
+mod counted;
+mod leading;
+mod opening;
+mod page;
+mod prepared;
+mod running;
 mod world;
 
-pub use answers::{OpenStop, Taken};
-pub use task_model::ActStop;
+pub use answers::{OpenStop, Reply, RunStop, Taken};
 pub use world::World;

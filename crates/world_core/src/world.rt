@@ -1,36 +1,40 @@
-ghost use Rattle.std.specs.Prelude.{◌≡◌, [], ◌∷◌, IfOk, IfErr, slice_get};
+ghost use Rattle.std.specs.Prelude.{◌≡◌, [], ◌∷◌, IfErr, IfOk, IsSome, None, slice_get};
 ghost use Rattle.std.specs.Option.{option_map};
-ghost use Rattle.task_model.specs.Tree.{tree_term, State, at};
+ghost use Rattle.task_model.specs.Tree.{tree_term, State};
 ghost use Rattle.task_model.specs.Input.{input_term};
 ghost use Rattle.task_model.specs.Item.{opened, history_term};
 ghost use Rattle.task_model.specs.Checked.{checked_term};
-ghost use Rattle.task_model.specs.Accepted.{IsPlainChecked};
-ghost use Rattle.task_model.specs.State.{IsOpening, IsState, IsLegal, IsTerminal, IsSeat, IsBudget, version_of};
-ghost use Rattle.task_model.specs.PlainTree.{IsSmallTree};
-ghost use Rattle.world_core.specs.InnerTree.{tree_nodes};
-ghost use Rattle.world_core.specs.World.{SeenWorld, world_term, IsStanding, Replies, IsWorldPage};
+ghost use Rattle.task_model.specs.State.{IsOpening, IsState, IsLegal, IsPage, IsSeat, IsBudget, version_of};
+ghost use Rattle.world_core.specs.Pages.{IsWorldPage};
+ghost use Rattle.world_core.specs.TreeNodes.{tree_nodes};
+ghost use Rattle.world_core.specs.World.{world_term, IsStanding, LeadsOn, Prepares, Commits, Replies, at_rest};
 
-use crate::acting::act;
 use crate::answers::{OpenStop, Taken};
-use crate::drawing::draw_page;
-use crate::editing::count_nodes;
-use crate::settling::open_tree;
+use crate::counted::CountedTree;
+use crate::leading::lead;
+use crate::opening::{opened_history, opened_tree};
+use crate::page::draw_page;
+use crate::prepared::Prepared;
+use html_pages::Page;
+use shared_store::Store;
 use std::alloc::Global;
 use std::marker::Model;
 use std::sync::ledger::Ledger;
+use task_engine::Engine;
 use task_model::{
-    ActStop, Checked, Entry, Input, Item, OutOfMemory, Purse, Row, Steps, Stop, TaskText, Tree,
-    Value, copy_program,
+    ActStop, Checked, Entry, Face, Input, Item, OutOfMemory, Row, Steps, Tree, Value,
 };
 
-/// A program that was opened: the history of what was taken, and the state that it leads to (docs/RULES.md, "Histories").
+/// A program that was opened: the history of what was taken, the state that it leads to, and what is prepared to follow
+/// (docs/RULES.md, "Histories").
 #[derive(Drop)]
 pub struct World {
-    checked: Checked,
+    engine: Engine,
     budget: u32,
     history: Row<Item>,
-    tree: Tree,
-    store: Row<Value>,
+    tree: CountedTree,
+    store: Store<Value>,
+    next: Option<Prepared>,
 }
 
 impl Model for World {
@@ -41,66 +45,132 @@ impl Model for World {
     ghost use Rattle.task_model.specs.contracts.tree.Tree as trees;
     ghost use Rattle.task_model.specs.contracts.value.Value as values;
     ghost use Rattle.world_core.specs.World.{SeenWorld};
-    ghost use Rattle.world_core.specs.Inside.{IsKept};
+    ghost use Rattle.world_core.specs.Inside.{IsKept, seen_world};
 
     ghost Value = { SeenWorld };
 
     ghost coded = { Prim.hlevel (codes, basics.the_row.coded, programs.the_row.coded, items.the_row.coded, trees.the_row.coded, values.the_row.coded) };
 
-    ghost view = { λ w. record { checked = w.checked; budget = w.budget; history = w.history.list; tree = w.tree; store = w.store.list } };
+    ghost view = { λ w. seen_world w.engine w.budget w.history.list w.tree w.store w.next };
 
-    ghost invariant = { λ w. IsKept (record { checked = w.checked; budget = w.budget; history = w.history.list; tree = w.tree; store = w.store.list }) };
+    ghost invariant = { λ w. IsKept w.engine w.budget w.history w.tree w.store w.next };
 }
 
 impl World {
-    /// Opens a program: `main()` is evaluated and settled within the budget, 1 to 1,000,000 units. The history is that one item.
+    /// Opens a program: `main()` is evaluated and settled within the budget, 1 to 1,000,000 units. The history is that one item, and
+    /// nothing is prepared.
     pub fn open<L: Ledger>(
         alloc: Global,
         c: Checked,
         budget: u32,
         _steps: &mut Steps<L>,
     ) -> Result<World, OpenStop>
-        requires budget { IsBudget budget }
-        requires plain { IsPlainChecked (checked_term c) }
+        requires { IsBudget budget }
         ensures program { IfOk result (λ w. checked_term w.checked ≡ checked_term c) }
         ensures budget { IfOk result (λ w. w.budget ≡ budget) }
         ensures history { IfOk result (λ w. history_term w.history ≡ opened (checked_term c).program budget ∷ []) }
         ensures state { IfOk result (λ w. IsOpening (checked_term c) budget (world_term w).state) }
+        ensures rest { IfOk result (λ w. w.next ≡ None) }
         ensures over { IfErr result (λ stop. stop ≡ OpenStop.Over → (s : State) → IsOpening (checked_term c) budget s → ⊥) }
     {
+        // Its program is accepted.
+        let _accepted = c.program();
         let history = opened_history(alloc, &c, budget)?;
-        let tree = opened_tree(alloc, &c, budget)?;
+        let engine = Engine::new(alloc, c)?;
+        let mut store = Store::new(alloc);
+        let tree = opened_tree(&engine, budget, &mut store)?;
         Ok(World {
-            checked: c,
+            engine,
             budget,
             history,
             tree,
-            store: Row::new(alloc),
+            store,
+            next: None,
         })
     }
 
-    /// Takes an input of a seat, 1 to 64, if the tree offers it and the budget holds. A refusal changes nothing.
+    /// Prepares an input of a seat, 1 to 64, where nothing is prepared: the entry, and the state that it leads to, if the tree offers
+    /// it and the budget holds. All that can be refused is refused here. A refusal changes nothing.
+    pub fn prepare<L: Ledger>(
+        &mut self,
+        _alloc: Global,
+        seat: u8,
+        input: Input,
+        _steps: &mut Steps<L>,
+    ) -> Result<(), ActStop>
+        requires seat { IsSeat seat }
+        requires rest { self.old.next ≡ None }
+        ensures { Prepares (world_term self.old) (record { seat = seat; input = input_term input }) (world_term self.new) result }
+    {
+        self.history.reserve(1)?;
+        let tree = lead(
+            &self.engine,
+            self.tree.tree(),
+            &mut self.store,
+            &input,
+            self.budget,
+        )?;
+        let item = Item::Took(Entry { seat, input });
+        self.next = Some(Prepared { item, tree });
+        Ok(())
+    }
+
+    /// What is prepared. The history with it is legal, and leads to the prepared state.
+    pub fn next_item(&self) -> Option<&Item>
+        ensures item { option_map (λ i. i.now) result ≡ option_map (λ n. n.item) self.now.next }
+        ensures leads { LeadsOn (world_term self.now) (world_term self.now).next }
+    {
+        match &self.next {
+            Some(prepared) => Some(&prepared.item),
+            None => None,
+        }
+    }
+
+    /// What is prepared is taken. It takes no memory.
+    pub fn commit(&mut self) -> Taken
+        requires { IsSome self.old.next }
+        ensures { Commits (world_term self.old) (world_term self.new) result }
+    {
+        match self.next.take() {
+            None => unreachable!(),
+            Some(Prepared { item, tree }) => {
+                self.store.keep();
+                self.tree = tree;
+                match self.history.push(item) {
+                    Ok(()) => {}
+                    Err(_) => unreachable!(),
+                }
+                let version = self.history.as_slice().len() as u64 - 1;
+                Taken { version }
+            }
+        }
+    }
+
+    /// What is prepared is given up, if anything is. It takes no memory.
+    pub fn abandon(&mut self)
+        ensures { world_term self.new ≡ at_rest (world_term self.old) }
+    {
+        if self.next.take().is_some() {
+            self.store.drop_layer();
+        }
+    }
+
+    /// Takes an input of a seat, 1 to 64, where nothing is prepared, if the tree offers it and the budget holds. A refusal changes
+    /// nothing.
     pub fn handle<L: Ledger>(
         &mut self,
         alloc: Global,
         seat: u8,
         input: Input,
-        _steps: &mut Steps<L>,
+        steps: &mut Steps<L>,
     ) -> Result<Taken, ActStop>
-        requires { IsSeat seat }
-        ensures { Replies (world_term self.old) (record { seat = seat; input = input_term input }) (world_term self.new) result }
+        requires seat { IsSeat seat }
+        requires rest { self.old.next ≡ None }
+        ensures replies { Replies (world_term self.old) (record { seat = seat; input = input_term input }) (world_term self.new) result }
+        ensures rest { self.new.next ≡ None }
     {
-        match self.history.reserve(1) {
-            Ok(()) => {}
-            Err(OutOfMemory) => return Err(ActStop::Memory),
-        }
-        act(alloc, &mut self.tree, self.budget, &input)?;
-        match self.history.push(Item::Took(Entry { seat, input })) {
-            Ok(()) => {}
-            Err(OutOfMemory) => unreachable!(),
-        }
-        let version = self.history.as_slice().len() as u64 - 1;
-        Ok(Taken { version })
+        self.prepare(alloc, seat, input, steps)?;
+        Ok(self.commit())
     }
 
     /// The opening, and what was taken since, oldest first.
@@ -120,15 +190,37 @@ impl World {
         self.history.as_slice().len() as u64 - 1
     }
 
+    /// The program, with the types of its nodes.
+    pub fn checked(&self) -> &Checked
+        ensures { result.now ≡ self.now.checked }
+    {
+        self.engine.checked()
+    }
+
+    /// The budget of each event.
+    pub fn budget(&self) -> u32
+        ensures { result ≡ self.now.budget }
+    {
+        self.budget
+    }
+
+    /// The tree of the present state.
+    pub fn tree(&self) -> &Tree
+        ensures { result.now ≡ self.now.tree }
+    {
+        self.tree.tree()
+    }
+
     /// The number of the tree's nodes.
     pub fn nodes(&self) -> u64
         ensures { result ≡ tree_nodes (tree_term self.now.tree) }
     {
-        count_nodes(&self.tree)
+        self.tree.nodes()
     }
 
-    /// What the store holds at a place.
+    /// What the store holds at a place, where nothing is prepared.
     pub fn at(&self, place: u64) -> Option<&Value>
+        requires rest { self.now.next ≡ None }
         ensures { option_map (λ v. v.now) result ≡ slice_get self.now.store place }
     {
         match usize::try_from(place) {
@@ -137,46 +229,33 @@ impl World {
         }
     }
 
-    /// The terminal page for a seat, 1 to 64 (docs/FORMATS.md, "Pages").
-    pub fn text(&self, alloc: Global, seat: u8) -> Result<TaskText, OutOfMemory>
-        requires { IsSeat seat }
-        ensures page { IfOk result (λ text. IsWorldPage (world_term self.now) seat text) }
-        ensures terminal { IfOk result (λ text. IsTerminal (history_term self.now.history) seat text) }
+    /// The page of the present state for a seat, 1 to 64, in one of the faces, where nothing is prepared (docs/FORMATS.md, "Pages" and
+    /// "HTML pages"). It counts the tests of offers and the drawings; the world stays.
+    pub fn page<L: Ledger>(
+        &mut self,
+        alloc: Global,
+        face: Face,
+        seat: u8,
+        steps: &mut Steps<L>,
+    ) -> Result<Page, OutOfMemory>
+        requires seat { IsSeat seat }
+        requires rest { self.old.next ≡ None }
+        ensures world { self.new ≡ self.old }
+        ensures version { IfOk result (λ page. page.version ≡ version_of (history_term self.old.history)) }
+        ensures page { IfOk result (λ page. IsWorldPage face (world_term self.old) seat page.text) }
+        ensures legal { IfOk result (λ page. IsPage face (history_term self.old.history) seat page.text) }
     {
-        draw_page(alloc, self.version(), seat, &self.tree)
-    }
-}
-
-// The history at the opening.
-fn opened_history(alloc: Global, c: &Checked, budget: u32) -> Result<Row<Item>, OpenStop>
-    ensures ok { IfOk result (λ row. history_term row.list ≡ opened (checked_term c.now).program budget ∷ []) }
-    ensures err { IfErr result (λ stop. stop ≡ OpenStop.Memory) }
-{
-    match opening_item(alloc, c, budget) {
-        Ok(row) => Ok(row),
-        Err(OutOfMemory) => Err(OpenStop::Memory),
-    }
-}
-
-fn opening_item(alloc: Global, c: &Checked, budget: u32) -> Result<Row<Item>, OutOfMemory>
-    ensures { IfOk result (λ row. history_term row.list ≡ opened (checked_term c.now).program budget ∷ []) }
-{
-    let program = copy_program(alloc, c.program())?;
-    let mut history = Row::new(alloc);
-    history.push(Item::Opened { program, budget })?;
-    Ok(history)
-}
-
-// The tree at the opening.
-fn opened_tree(alloc: Global, c: &Checked, budget: u32) -> Result<Tree, OpenStop>
-    requires { IsPlainChecked (checked_term c.now) }
-    ensures ok { IfOk result (λ t. IsSmallTree (tree_term t) × IsOpening (checked_term c.now) budget (at (tree_term t) [])) }
-    ensures over { IfErr result (λ stop. stop ≡ OpenStop.Over → (s : State) → IsOpening (checked_term c.now) budget s → ⊥) }
-{
-    let _ = c.program();
-    match open_tree(alloc, c, &mut Purse::new(budget)) {
-        Ok(tree) => Ok(tree),
-        Err(Stop::Over) => Err(OpenStop::Over),
-        Err(Stop::Memory) => Err(OpenStop::Memory),
+        let version = self.version();
+        draw_page(
+            alloc,
+            &self.engine,
+            self.tree.tree(),
+            &mut self.store,
+            self.budget,
+            face,
+            version,
+            seat,
+            steps,
+        )
     }
 }

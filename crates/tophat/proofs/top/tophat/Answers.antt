@@ -1,43 +1,43 @@
-use Rattle.std.proofs.Common.{◌≡◌, ◌∙◌, sym, ap, subst, inl, inr}
+use Rattle.std.proofs.Common.{◌≡◌, ◌∙◌, sym, subst, inl, inr}
 use Rattle.outer_io.specs.Sink.{Wrote}
-use Rattle.tophat.specs.Command.{command_term, command_of, named}
-use Rattle.tophat.specs.Ending.{text_of}
+use Rattle.command_words.specs.Commands.{command_of}
 use Rattle.tophat.specs.Top.{limits}
-use Rattle.tophat.specs.Worked.{Worked}
-use Rattle.tophat.proofs.PromiseLemmas.{promised, usage_is}
+use Rattle.tophat.proofs.PromiseLemmas.{promised, usage_is, named_text}
 use Rattle.tophat.proofs.WorkLemmas.{heard, is_read_fault, is_write_fault, failed_by}
 use Rattle.tophat.proofs.top.tophat.Goals as goal
 
 pub returns-clause-went : goal.returns-clause-went
 returns-clause-went g c =
-    let same = c.command_of-asked.ensures.command in
+    let command = command_of c.args.words.now in
+    let gives = c.read_command-asked.ensures.asked in
     let ending = c.work-ending.result in
+    let worked = c.work-ending.ensures in
     record {
       ending = ending;
       status_is = c.status.ensures;
-      worked = subst (λ asked. Worked limits asked (g.F.Files.holds c.args.files.now (named asked)) (g.I.Source.left c.args.input.now)
-          (g.I.Source.left c.work-ending.new.input)
-          (g.O.Sink.taken c.args.out.now) (g.O.Sink.taken c.work-ending.new.out) ending) same c.work-ending.ensures.worked;
+      worked = worked.worked command gives;
       heard = heard _ _ _ _ _ c.tell.result
-          (subst (λ name. Wrote (g.E.Sink.taken c.args.err.now) (g.E.Sink.taken c.tell.new.err) (text_of name ending) c.tell.result)
-          (c.named.ensures ∙ ap named same) c.tell.ensures.text) c.tell.ensures.failed;
-      file_fault = c.work-ending.ensures.file_failed;
-      read_fault = c.work-ending.ensures.read_failed;
-      write_fault = c.work-ending.ensures.write_failed;
-      file_count = c.work-ending.ensures.file_count;
-      input_count = c.work-ending.ensures.input_count;
-      output_count = c.work-ending.ensures.output_count;
-      not_run = c.work-ending.ensures.not_run;
+          (subst (λ text. Wrote (g.E.Sink.taken c.args.err.now) (g.E.Sink.taken c.tell.new.err) text c.tell.result)
+          (named_text c.read_command-asked.result command ending c.named_file.result.now gives c.named_file.ensures worked.outside
+          worked.memory) c.tell.ensures.text) c.tell.ensures.failed;
+      file_fault = worked.file_failed;
+      read_fault = worked.read_failed;
+      write_fault = worked.write_failed;
+      file_count = worked.file_count;
+      input_count = worked.input_count;
+      output_count = worked.output_count;
+      not_run = worked.not_run;
+      silent = worked.silent;
     }
 
 pub returns-clause-told : goal.returns-clause-told
-returns-clause-told g c = promised limits _ _ _ _ _ _ _ _ _ _ _ _ _ _ (returns-clause-went g c)
+returns-clause-told g c = promised limits _ _ _ _ _ _ _ _ _ _ _ _ _ _ _ (returns-clause-went g c)
 
 pub returns-clause-usage : goal.returns-clause-usage
 returns-clause-usage g c =
-    usage_is command_term c.command_of-asked.result (command_of c.args.words.now) c.work-ending.result _ _ _ _
-    c.command_of-asked.ensures.command c.status.ensures c.work-ending.ensures.usage
-    c.work-ending.ensures.no_command c.work-ending.ensures.not_run
+    let worked = c.work-ending.ensures in
+    usage_is c.read_command-asked.result (command_of c.args.words.now) c.work-ending.result _ _ _ _ c.read_command-asked.ensures.asked
+    c.status.ensures worked.usage worked.outside worked.memory worked.no_command worked.not_run worked.silent
 
 pub returns-clause-read_fault : goal.returns-clause-read_fault
 returns-clause-read_fault g c = λ e.

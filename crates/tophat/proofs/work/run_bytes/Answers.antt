@@ -4,7 +4,7 @@ use Rattle.line_frame.specs.declared.finish.Finish.{Finish}
 use Rattle.world_core.specs.World.{SeenWorld, world_term}
 use Rattle.tophat.specs.Session.{Tells}
 use Rattle.tophat.specs.Top.{limits}
-use Rattle.tophat.proofs.OpeningLemmas.{readable_err}
+use Rattle.tophat.proofs.OpeningLemmas.{same_verdict_after}
 use Rattle.tophat.proofs.work.run_bytes.Goals as goal
 
 pub returns-in-Ok-clause-ran : goal.returns-in-Ok-clause-ran
@@ -17,4 +17,4 @@ returns-in-Ok-clause-ran g c = (
 )
 
 pub returns-in-Err-clause-verdict_is : goal.returns-in-Err-clause-verdict_is
-returns-in-Err-clause-verdict_is g c = readable_err SeenWorld Finish c.args.bytes.now c.in-Err.why c.in-Err.ensures.verdict_is
+returns-in-Err-clause-verdict_is g c = same_verdict_after SeenWorld Finish c.args.bytes.now c.in-Err.why c.in-Err.ensures.verdict_is

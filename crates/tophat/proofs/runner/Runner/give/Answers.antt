@@ -3,7 +3,7 @@ use Rattle.std.proofs.lemmas.Result.{IfOk-weaker}
 use Rattle.task_model.specs.Text.{Text}
 use Rattle.task_model.specs.Input.{entry_term}
 use Rattle.world_core.specs.World.{world_term, Replies}
-use Rattle.tophat.specs.Line.{gives}
+use Rattle.input_lines.specs.ScriptLines.{gives}
 use Rattle.tophat.specs.Session.{Answers}
 use Rattle.tophat.proofs.SessionLemmas.{taken_answers, refused_answers, over_answers}
 use Rattle.tophat.proofs.runner.Runner.give.Goals as goal
@@ -14,7 +14,7 @@ returns-in-Ok g c =
     let e = entry_term c.args.entry in
     let new = world_term c.handle.new.self in
     IfOk-weaker c.taken_text.result _ (λ text. Answers w (gives e) text.list new)
-    (λ text is. subst (λ (z : Text). Answers w (gives e) z new) (sym is) (taken_answers w e new c.in-Ok.taken c.in-Ok.ensures))
+    (λ text is. subst (λ (z : Text). Answers w (gives e) z new) (sym is) (taken_answers w e new c.in-Ok.taken c.in-Ok.ensures.replies))
     c.taken_text.ensures
 
 pub returns-in-Err-NotOffered : goal.returns-in-Err-NotOffered
@@ -24,7 +24,7 @@ returns-in-Err-NotOffered g c =
     let new = world_term c.handle.new.self in
     IfOk-weaker c.row_of.result _ (λ text. Answers w (gives e) text.list new)
     (λ text is. subst (λ (z : Text). Answers w (gives e) z new) (sym is)
-    (refused_answers w e new (subst (λ stop. Replies w e new (Err stop)) c.in-Err-NotOffered.field-0-is c.in-Err-NotOffered.ensures)))
+    (refused_answers w e new (subst (λ stop. Replies w e new (Err stop)) c.in-Err-NotOffered.field-0-is c.in-Err-NotOffered.ensures.replies)))
     c.row_of.ensures
 
 pub returns-in-Err-Over : goal.returns-in-Err-Over
@@ -34,5 +34,5 @@ returns-in-Err-Over g c =
     let new = world_term c.handle.new.self in
     IfOk-weaker c.row_of-in-Err-Over.result _ (λ text. Answers w (gives e) text.list new)
     (λ text is. subst (λ (z : Text). Answers w (gives e) z new) (sym is)
-    (over_answers w e new (subst (λ stop. Replies w e new (Err stop)) c.in-Err-Over.field-0-is c.in-Err-Over.ensures)))
+    (over_answers w e new (subst (λ stop. Replies w e new (Err stop)) c.in-Err-Over.field-0-is c.in-Err-Over.ensures.replies)))
     c.row_of-in-Err-Over.ensures

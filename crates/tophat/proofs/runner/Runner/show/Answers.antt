@@ -1,12 +1,13 @@
-use Rattle.std.proofs.Common.{◌∙◌, sym, subst}
-use Rattle.std.proofs.lemmas.Result.{IfOk-weaker}
+use Rattle.std.proofs.Common.{sym, subst, ap}
 use Rattle.task_model.specs.Text.{Text}
-use Rattle.world_core.specs.World.{world_term, IsWorldPage}
+use Rattle.task_model.specs.declared.widget.Face.TheVariants as faces
+use Rattle.world_core.specs.World.{world_term}
+use Rattle.world_core.specs.Pages.{IsWorldPage}
 use Rattle.tophat.proofs.runner.Runner.show.Goals as goal
 
 pub returns : goal.returns
-returns g c =
-    let w = world_term c.args.self.now.world in
-    IfOk-weaker c.row_of.result _ (λ text. IsWorldPage w c.args.seat text.list)
-    (λ text e. subst (λ (z : Text). IsWorldPage w c.args.seat z) (sym (e ∙ c.as_bytes.ensures.value ∙ c.as_str.ensures))
-    c.in_ok-page.ensures.page) c.row_of.ensures
+returns g c = (
+  subst (λ (z : Text). IsWorldPage faces.Text (world_term c.args.self.now.world) c.args.seat z) (sym c.into_bytes.ensures)
+      c.in_ok-page.ensures.page,
+  ap world_term c.in_ok-page.ensures.world,
+)

@@ -1,5 +1,5 @@
 use Rattle.world_core.specs.World.{world_term}
-use Rattle.tophat.specs.Line.{line_term}
+use Rattle.input_lines.specs.ScriptLines.{line_term}
 use Rattle.tophat.proofs.SessionLemmas.{answered_first, outside_stop}
 use Rattle.tophat.proofs.runner.RunnerMachine.run_line.Goals as goal
 
@@ -7,7 +7,7 @@ pub returns-in-Ok-answer-clause-ok : goal.returns-in-Ok-answer-clause-ok
 returns-in-Ok-answer-clause-ok g c = λ whole cut.
     answered_first 1048576 (world_term c.args.self.now.world) (world_term c.answer.new.self.world) c.args.line.now whole
     c.in-Ok-answer.text.list (line_term c.in-Ok.line)
-    c.in-Ok.ensures.reads cut c.in-Ok-answer.ensures
+    c.in-Ok.ensures.found cut c.in-Ok-answer.ensures
 
 pub returns-in-Err-clause-bad : goal.returns-in-Err-clause-bad
-returns-in-Err-clause-bad g c = outside_stop 1048576 (world_term c.args.self.now.world) c.args.line.now c.in-Err.stop c.in-Err.ensures.reads
+returns-in-Err-clause-bad g c = outside_stop 1048576 (world_term c.args.self.now.world) c.args.line.now c.in-Err.stop c.in-Err.ensures.bad

@@ -1,55 +1,32 @@
-use Rattle.std.proofs.Common.{◌≡◌, ◌+◌, [], ◌∷◌, ◌++◌, length, ap, ◌∙◌, arith}
-use Rattle.std.proofs.lemmas.List.{length-append}
-use Rattle.task_model.specs.declared.item.Item.TheVariants.{Took}
+use Rattle.std.proofs.Common.{Ok, Err}
+use Rattle.task_model.specs.Input.{input_term}
 use Rattle.task_model.proofs.RanLemmas.{stopped}
-use Rattle.world_core.proofs.WorldLemmas.{refuses, keeps, takes}
+use Rattle.world_core.specs.World.{world_term}
+use Rattle.world_core.proofs.RunLemmas.{prepared_some, replies_taken, replies_refused, rest_kept}
 use Rattle.world_core.proofs.world.World.handle.Goals as goal
 
-pub returns-in_err-act : goal.returns-in_err-act
-returns-in_err-act g c =
-    rw (← c.self.view_is, stopped _ c.in_err-act.field-0.0 c.from_residual.ensures.1)
-    (refuses (record {
-      checked = c.self.inside.checked;
-      budget = c.self.inside.budget;
-      history = c.self.inside.history.list;
-      tree = c.self.inside.tree;
-      store = c.self.inside.store.list;
-    }) c.reserve.new.self.list c.act.new.tree (record {
-      seat = c.args.seat;
-      input = c.args.input;
-    }) c.in_err-act.field-0.0 c.reserve.ensures.list c.in_err-act.ensures.acts)
+pub commit-requires : goal.commit-requires
+commit-requires g c =
+    prepared_some (world_term c.args.self.now) (record { seat = c.args.seat; input = input_term c.args.input }) c.prepare.new.self
+    c.in_ok-prepare.ensures
 
-pub invariant_of-self-2 : goal.invariant_of-self-2
-invariant_of-self-2 g c =
-    keeps (record {
-      checked = c.self.inside.checked;
-      budget = c.self.inside.budget;
-      history = c.self.inside.history.list;
-      tree = c.self.inside.tree;
-      store = c.self.inside.store.list;
-    }) c.push.new.self.list c.act.new.tree (record {
-      seat = c.args.seat;
-      input = c.args.input;
-    }) c.self.invariant (c.requires, c.in_ok-act.ensures.held)
-    (c.in-Ok-push.ensures.ok ∙ ap (λ l. l ++ Took (record { seat = c.args.seat; input = c.args.input }) ∷ []) c.reserve.ensures.list)
-    c.in_ok-act.ensures.acts c.in_ok-act.ensures.plain
+pub returns-in_err-prepare-clause-replies : goal.returns-in_err-prepare-clause-replies
+returns-in_err-prepare-clause-replies g c =
+    rw (stopped _ c.in_err-prepare.field-0.0 c.from_residual.ensures.1)
+    (replies_refused (world_term c.args.self.now) (world_term c.prepare.new.self)
+    (record { seat = c.args.seat; input = input_term c.args.input }) c.in_err-prepare.field-0.0 c.in_err-prepare.ensures)
 
-pub returns : goal.returns
-returns g c =
-    let item = Took (record { seat = c.args.seat; input = c.args.input }) in
-    let read = ap length c.as_slice.ensures in
-    let long : length c.push.new.self.list ≡ length c.reserve.new.self.list + 1 = ap length c.in-Ok-push.ensures.ok
-    ∙ length-append c.reserve.new.self.list (item ∷ []) in
-    rw (← c.self.view_is)
-    (takes (record {
-      checked = c.self.inside.checked;
-      budget = c.self.inside.budget;
-      history = c.self.inside.history.list;
-      tree = c.self.inside.tree;
-      store = c.self.inside.store.list;
-    }) c.push.new.self.list c.act.new.tree (record {
-      seat = c.args.seat;
-      input = c.args.input;
-    }) c.self.invariant (c.requires, c.in_ok-act.ensures.held)
-    (c.in-Ok-push.ensures.ok ∙ ap (λ l. l ++ Took (record { seat = c.args.seat; input = c.args.input }) ∷ []) c.reserve.ensures.list)
-    c.in_ok-act.ensures.acts _ (omega arith))
+pub returns-clause-replies : goal.returns-clause-replies
+returns-clause-replies g c =
+    replies_taken (world_term c.args.self.now) (world_term c.prepare.new.self) _ _ _ c.in_ok-prepare.ensures c.commit.ensures
+
+pub returns-in_err-prepare-clause-rest : goal.returns-in_err-prepare-clause-rest
+returns-in_err-prepare-clause-rest g c =
+    rest_kept c.args.self.now c.prepare.new.self (record { seat = c.args.seat; input = input_term c.args.input }) (Err c.in_err-prepare.field-0.0)
+    (replies_refused (world_term c.args.self.now) (world_term c.prepare.new.self)
+    (record { seat = c.args.seat; input = input_term c.args.input }) c.in_err-prepare.field-0.0 c.in_err-prepare.ensures) c.requires.rest
+
+pub returns-clause-rest : goal.returns-clause-rest
+returns-clause-rest g c =
+    rest_kept c.args.self.now c.commit.new.self (record { seat = c.args.seat; input = input_term c.args.input }) (Ok c.commit.result)
+    (replies_taken (world_term c.args.self.now) (world_term c.prepare.new.self) _ _ _ c.in_ok-prepare.ensures c.commit.ensures) c.requires.rest

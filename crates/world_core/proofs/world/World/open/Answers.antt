@@ -1,6 +1,19 @@
+use Rattle.std.proofs.Common.{◌≡◌, map, subst}
+use Rattle.task_model.specs.Value.{value_term}
+use Rattle.task_model.specs.Tree.{tree_term, State, at}
+use Rattle.task_model.specs.Checked.{SeenChecked, checked_term}
+use Rattle.task_model.specs.State.{IsOpening}
 use Rattle.task_model.proofs.RanLemmas.{stopped}
+use Rattle.world_core.specs.declared.answers.OpenStop.TheVariants.{Over}
 use Rattle.world_core.proofs.world.World.open.Goals as goal
 
 pub returns-in_err-tree-clause-over : goal.returns-in_err-tree-clause-over
-returns-in_err-tree-clause-over g c = rw (stopped _ c.in_err-tree.field-0.0 c.from_residual-in_err-tree.ensures.1)
-    c.in_err-tree.ensures.over
+returns-in_err-tree-clause-over g c =
+    rw (stopped _ c.in_err-tree.field-0.0 c.from_residual-in_err-tree.ensures.1)
+    (subst (λ (k : SeenChecked). c.in_err-tree.field-0.0 ≡ Over → (s : State) → IsOpening (checked_term k) c.args.budget s → ⊥)
+    c.in_ok-engine.ensures c.in_err-tree.ensures.over)
+
+pub returns-clause-state : goal.returns-clause-state
+returns-clause-state g c =
+    subst (λ (k : SeenChecked). IsOpening (checked_term k) c.args.budget
+    (at (tree_term c.in_ok-tree.tree) (map value_term c.opened_tree.new.store.list))) c.in_ok-engine.ensures c.in_ok-tree.ensures.ok

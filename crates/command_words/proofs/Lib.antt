@@ -1,0 +1,14 @@
+pub mod ClapWords
+pub mod Rules
+pub mod Turns
+pub mod Names
+pub mod AfterWords
+pub mod ClapReads
+pub mod ClapCommand
+pub mod Made
+pub mod GrammarLemmas
+pub mod Found
+pub mod Strict
+pub mod Given
+pub mod Ranges
+pub mod NumberLemmas

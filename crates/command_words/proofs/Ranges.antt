@@ -1,0 +1,99 @@
+-- The numbers of a command are within their ranges.
+use Rattle.std.proofs.Common.{◌≡◌, ℕ, ◌≤◌, Bool, true, false, cond, List, [], ◌∷◌, Option, Some, None, codes, refl, subst, arith}
+use Rattle.std.specs.Prelude.{◌&&◌, nat_le, IfOk, Result, Ok, Err}
+use Rattle.std.specs.Str.{bytes_eq}
+use Rattle.std.specs.Str.Parse.{digits_value}
+use Rattle.std.proofs.lemmas.Bool.{and_parts}
+use Rattle.std.proofs.lemmas.Bool.Decides.{nat_tests}
+use Rattle.task_model.specs.Text.{Text}
+use Rattle.command_words.specs.WordReading.{Use, read}
+use Rattle.command_words.specs.WordNumbers.{is_number, number_at, number_in, number_or}
+use Rattle.command_words.specs.Commands.{CommandTerm, IsAsked, IsInRange, Values, budget_in, check_in, check_with, command_of, command_term, file_place, looked_up, run_in, run_options, run_with, soak_in, soak_places, soak_with, usual_budget}
+use Rattle.command_words.specs.declared.command.Command.{Command}
+use Rattle.command_words.specs.declared.stop.WordStop.{WordStop}
+
+-- the number is between the two
+abbrev pub IsBetween : ℕ → ℕ → Option ℕ → Type 0
+IsBetween low high None = Unit {0}
+IsBetween low high (Some n) = (low ≤ n) × (n ≤ high)
+
+le_true : (a b : ℕ) → nat_le a b ≡ true → a ≤ b
+le_true a b e = grind (arith, nat_tests)
+
+in_between : (low high : ℕ) (t : Text) → IsBetween low high (number_in low high t)
+in_between low high t = go (is_number t) (nat_le low (digits_value 10 t)) (nat_le (digits_value 10 t) high)
+    (le_true low (digits_value 10 t)) (le_true (digits_value 10 t) high)
+  where
+    go : (a b c : Bool) → (b ≡ true → low ≤ digits_value 10 t) → (c ≡ true → digits_value 10 t ≤ high)
+        → IsBetween low high (cond (a && (b && c)) (Some (digits_value 10 t)) None)
+    go true true true l h = (l refl, h refl)
+    go true true false l h = tt
+    go true false c l h = tt
+    go false b c l h = tt
+
+at_between : (low high : ℕ) (o : Option Text) → IsBetween low high (number_at low high o)
+at_between low high None = tt
+at_between low high (Some t) = in_between low high t
+
+or_between : (usual low high : ℕ) (o : Option Text) → low ≤ usual → usual ≤ high → IsBetween low high (number_or usual low high o)
+or_between usual low high None l h = (l, h)
+or_between usual low high (Some t) l h = in_between low high t
+
+-- a command that is asked for is in range
+abbrev pub AreInRange : Option CommandTerm → Type 0
+AreInRange None = Unit {0}
+AreInRange (Some command) = IsInRange command
+
+run_range : (file : Option Text) (budget : Option ℕ) → IsBetween 1 1000000 budget → AreInRange (run_with file budget)
+run_range None budget h = tt
+run_range (Some file) None h = tt
+run_range (Some file) (Some budget) h = h
+
+check_range : (file : Option Text) → AreInRange (check_with file)
+check_range None = tt
+check_range (Some file) = tt
+
+soak_range : (count seed : Option ℕ) → IsBetween 1 100000 count → AreInRange (soak_with count seed)
+soak_range None seed h = tt
+soak_range (Some count) None h = tt
+soak_range (Some count) (Some seed) h = h
+
+looked : (meaning : Values → Option CommandTerm) (o : Option (List Use)) → ((v : Values) → AreInRange (meaning v))
+    → AreInRange (looked_up meaning o)
+looked meaning None h = tt
+looked meaning (Some uses) h = h _
+
+run_found : (o : Option (List Use)) → AreInRange (looked_up run_in o)
+run_found o = looked run_in o (λ v. run_range (v (codes "FILE")) (budget_in v)
+    (or_between usual_budget 1 1000000 (v (codes "budget")) (omega arith) (omega arith)))
+
+check_found : (o : Option (List Use)) → AreInRange (looked_up check_in o)
+check_found o = looked check_in o (λ v. check_range (v (codes "FILE")))
+
+soak_found : (o : Option (List Use)) → AreInRange (looked_up soak_in o)
+soak_found o = looked soak_in o (λ v. soak_range (number_at 1 100000 (v (codes "N")))
+    (number_at 0 18446744073709551615 (v (codes "SEED"))) (at_between 1 100000 (v (codes "N"))))
+
+in_range : (words : List Text) → AreInRange (command_of words)
+in_range [] = tt
+in_range (name ∷ words) = go (bytes_eq name (codes "run")) (bytes_eq name (codes "check")) (bytes_eq name (codes "soak"))
+  where
+    ran : Option CommandTerm
+    ran = looked_up run_in (read words file_place run_options None)
+
+    checked : Option CommandTerm
+    checked = looked_up check_in (read words file_place [] None)
+
+    soaked : Option CommandTerm
+    soaked = looked_up soak_in (read words soak_places [] None)
+
+    go : (a b c : Bool) → AreInRange (cond a ran (cond b checked (cond c soaked None)))
+    go true b c = run_found (read words file_place run_options None)
+    go false true c = check_found (read words file_place [] None)
+    go false false true = soak_found (read words soak_places [] None)
+    go false false false = tt
+
+pub asked_in_range : (words : List Text) (r : Result Command WordStop) → IsAsked (command_of words) r
+    → IfOk r (λ command. IsInRange (command_term command))
+asked_in_range words (Ok command) asked = subst AreInRange asked (in_range words)
+asked_in_range words (Err stop) asked = tt

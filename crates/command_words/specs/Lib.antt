@@ -1,0 +1,6 @@
+pub mod WordReading
+pub mod ClapReading
+pub mod CommandTables
+pub mod WordNumbers
+pub mod Commands
+pub mod WordGrammar

@@ -1,0 +1,12 @@
+use task_model::TaskText;
+
+/// What the words of a command line ask for.
+#[derive(Drop)]
+pub enum Command {
+    /// The script on the standard input is run on the program in this file, within this budget of units.
+    Run { file: TaskText, budget: u32 },
+    /// The program in this file is checked, and written.
+    Check { file: TaskText },
+    /// So many inputs are generated from this seed, and run.
+    Soak { count: u32, seed: u64 },
+}

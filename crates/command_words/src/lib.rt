@@ -1,0 +1,18 @@
+//! The words of the command line (docs/FORMATS.md, "Words"): which command they ask for, and with which values.
+//! A command is a table of places and options; `clap` reads the words, and the clauses say what is read without it.
+#![tactic(auto)]
+
+mod command;
+mod laws;
+mod matches;
+mod numbers;
+mod reading;
+mod stop;
+#[cfg(test)]
+mod tests;
+mod top;
+
+pub use command::Command;
+pub use laws::words_follow_the_grammar;
+pub use stop::WordStop;
+pub use top::read_command;

@@ -1,0 +1,130 @@
+ghost use Rattle.std.specs.Prelude.{◌≡◌, ◌≤◌, [], None, IfOk, codes};
+ghost use Rattle.std.specs.List.{All};
+ghost use Rattle.std.specs.Str.{IsUtf8};
+ghost use Rattle.clap.specs.Matches.{first_value, found_of};
+ghost use Rattle.clap.specs.Walk.{texts};
+ghost use Rattle.command_words.specs.Commands.{IsAsked, check_in, file_place, looked_up, run_in, run_options, soak_in, soak_places};
+ghost use Rattle.command_words.specs.WordNumbers.{number_at, number_or};
+ghost use Rattle.command_words.specs.WordReading.{read};
+ghost use Rattle.command_words.specs.CommandTables.{IsReadAs};
+
+use crate::command::Command;
+use crate::matches::matches;
+use crate::numbers::number;
+use crate::stop::WordStop;
+use clap::ArgMatches;
+use std::alloc::Global;
+use task_model::{BUDGET_LIMIT, DEFAULT_BUDGET, TaskText};
+
+/// `run FILE [--budget N]`.
+pub(crate) fn run(alloc: Global, words: &[&str]) -> Result<Command, WordStop>
+    requires { All (λ w. IsUtf8 w.now) words.now }
+    ensures { IsAsked (looked_up run_in (read (texts words.now) file_place run_options None)) result }
+{
+    match matches(alloc, &["FILE"], &["budget"], words) {
+        Ok(found) => run_found(alloc, &found),
+        Err(stop) => Err(stop),
+    }
+}
+
+/// `check FILE`.
+pub(crate) fn check(alloc: Global, words: &[&str]) -> Result<Command, WordStop>
+    requires { All (λ w. IsUtf8 w.now) words.now }
+    ensures { IsAsked (looked_up check_in (read (texts words.now) file_place [] None)) result }
+{
+    match matches(alloc, &["FILE"], &[], words) {
+        Ok(found) => check_found(alloc, &found),
+        Err(stop) => Err(stop),
+    }
+}
+
+/// `soak N SEED`.
+pub(crate) fn soak(alloc: Global, words: &[&str]) -> Result<Command, WordStop>
+    requires { All (λ w. IsUtf8 w.now) words.now }
+    ensures { IsAsked (looked_up soak_in (read (texts words.now) soak_places [] None)) result }
+{
+    match matches(alloc, &["N", "SEED"], &[], words) {
+        Ok(found) => soak_found(&found),
+        Err(stop) => Err(stop),
+    }
+}
+
+// The most inputs of a soak.
+const INPUT_LIMIT: u64 = 100_000;
+
+fn run_found(alloc: Global, found: &ArgMatches<'_>) -> Result<Command, WordStop>
+    ensures { IsAsked (run_in (first_value (found_of found.now))) result }
+{
+    let file = text_found(alloc, found, "FILE")?;
+    let budget = option_found(
+        found,
+        "budget",
+        DEFAULT_BUDGET as u64,
+        1,
+        BUDGET_LIMIT as u64,
+    )?;
+    Ok(Command::Run {
+        file,
+        budget: budget as u32,
+    })
+}
+
+fn check_found(alloc: Global, found: &ArgMatches<'_>) -> Result<Command, WordStop>
+    ensures { IsAsked (check_in (first_value (found_of found.now))) result }
+{
+    let file = text_found(alloc, found, "FILE")?;
+    Ok(Command::Check { file })
+}
+
+fn soak_found(found: &ArgMatches<'_>) -> Result<Command, WordStop>
+    ensures { IsAsked (soak_in (first_value (found_of found.now))) result }
+{
+    let count = number_found(found, "N", 1, INPUT_LIMIT)?;
+    let seed = number_found(found, "SEED", 0, u64::MAX)?;
+    Ok(Command::Soak {
+        count: count as u32,
+        seed,
+    })
+}
+
+// The text at a place.
+fn text_found(alloc: Global, found: &ArgMatches<'_>, place: &str) -> Result<TaskText, WordStop>
+    ensures { IsReadAs (first_value (found_of found.now) place.now) result }
+{
+    match found.get_str(place) {
+        Some(text) => match TaskText::of(alloc, text) {
+            Ok(text) => Ok(text),
+            Err(_) => Err(WordStop::Memory),
+        },
+        None => Err(WordStop::Outside),
+    }
+}
+
+// The number at a place.
+fn number_found(found: &ArgMatches<'_>, place: &str, low: u64, high: u64) -> Result<u64, WordStop>
+    ensures given { IsReadAs (number_at low high (first_value (found_of found.now) place.now)) result }
+    ensures capped { IfOk result (λ n. n ≤ high) }
+{
+    match found.get_str(place) {
+        Some(text) => number(text, low, high).ok_or(WordStop::Outside),
+        None => Err(WordStop::Outside),
+    }
+}
+
+// The number of an option, or what is usual.
+fn option_found(
+    found: &ArgMatches<'_>,
+    option: &str,
+    usual: u64,
+    low: u64,
+    high: u64,
+) -> Result<u64, WordStop>
+    requires { usual ≤ high }
+    ensures given { IsReadAs (number_or usual low high (first_value (found_of found.now) option.now)) result }
+    ensures capped { IfOk result (λ n. n ≤ high) }
+{
+    match found.get_str(option) {
+        Some(text) => number(text, low, high).ok_or(WordStop::Outside),
+        None => Ok(usual),
+    }
+}

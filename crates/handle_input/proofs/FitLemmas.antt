@@ -1,0 +1,102 @@
+-- What fits where an input goes on.
+use Rattle.std.proofs.Common.{◌≡◌, ℕ, suc, ◌<◌, List, [], ◌∷◌, ◌++◌, length, map, Option, Some, None, Ok, refl, ap, subst, arith}
+use Rattle.std.proofs.lemmas.List.{length-map}
+use Rattle.std.proofs.lemmas.Option.{slice_get_within}
+use Rattle.task_model.specs.Left.{Left}
+use Rattle.task_model.specs.Basic.{BasicTerm}
+use Rattle.task_model.specs.Value.{ValueTerm, value_term}
+use Rattle.task_model.specs.Env.{plain_slot}
+use Rattle.task_model.specs.Tree.{LaterTerm, TreeTerm, share_tree, then_tree, next_tree, and_tree, or_tree, xor_tree, State, at}
+use Rattle.task_model.specs.Input.{InputTerm}
+use Rattle.task_model.specs.Checked.{CheckedTerm}
+use Rattle.task_model.specs.Rules.{value_of}
+use Rattle.task_model.specs.Handling.{unless_failing, handles, settled, interacts}
+use Rattle.task_model.specs.Calls.{RunsPlan}
+use Rattle.task_model.specs.Accepted.{IsAccepted}
+use Rattle.task_model.specs.Fits.{StoreHas, Fits}
+use Rattle.task_model.specs.declared.value.Value.{Value}
+use Rattle.typing_laws.specs.Supposed.{Supposed, Assured}
+use Rattle.typing_laws.specs.Well.{Well}
+use Rattle.typing_laws.proofs.GoodLemmas.{good_any}
+use Rattle.typing_laws.proofs.ValueLemmas.{good_branch}
+use Rattle.typing_laws.proofs.TreeLemmas.{value_typed, good_trial, good_side}
+use Rattle.typing_laws.proofs.ProgramLemmas.{facts_of}
+use Rattle.typing_laws.proofs.HandlingLemmas.{interacts_good}
+use Rattle.typing_laws.proofs.CallLemmas.{well_after}
+use Rattle.task_engine.specs.Fitting.{ContFits, SideFits}
+
+-- ---- parts of a tree that fits
+module _ {c : CheckedTerm} {σ : List ValueTerm} where
+  pub fits_is : {t u : TreeTerm} → t ≡ u → Fits c (at t σ) → Fits c (at u σ)
+  fits_is e f = subst (λ z. Fits c (at z σ)) e f
+
+  pub fits_then : {t : TreeTerm} {k : LaterTerm} → Fits c (at (then_tree t k) σ) → Fits c (at t σ)
+  fits_then f = (f.0, f.2.tree.0, record { store = f.2.store; tree = f.2.tree.1 })
+
+  pub fits_next : {t : TreeTerm} {k : LaterTerm} → Fits c (at (next_tree t k) σ) → Fits c (at t σ)
+  fits_next f = (f.0, f.2.tree.0, record { store = f.2.store; tree = f.2.tree.1 })
+
+  pub fits_and_first : {t u : TreeTerm} → Fits c (at (and_tree t u) σ) → Fits c (at t σ)
+  fits_and_first f = (f.0, f.2.tree.0, record { store = f.2.store; tree = f.2.tree.3 })
+
+  pub fits_and_second : {t u : TreeTerm} → Fits c (at (and_tree t u) σ) → Fits c (at u σ)
+  fits_and_second f = (f.0, f.2.tree.1, record { store = f.2.store; tree = f.2.tree.4 })
+
+  pub fits_or_first : {t u : TreeTerm} → Fits c (at (or_tree t u) σ) → Fits c (at t σ)
+  fits_or_first f = (f.0, f.1, record { store = f.2.store; tree = f.2.tree.0 })
+
+  pub fits_or_second : {t u : TreeTerm} → Fits c (at (or_tree t u) σ) → Fits c (at u σ)
+  fits_or_second f = (f.0, f.1, record { store = f.2.store; tree = f.2.tree.1 })
+
+  pub step_fits : {t : TreeTerm} {k : LaterTerm} {v : ValueTerm} → Fits c (at (next_tree t k) σ) → value_of t σ ≡ Some v → ContFits c k v σ
+  step_fits {t = t} {v = v} f e = record {
+    places = f.0;
+    takes = f.2.tree.0;
+    gives = f.1;
+    cont = f.2.tree.2;
+    value = value_typed c f.0 (at t σ) f.2.tree.0 v (record { store = f.2.store; tree = f.2.tree.1 }) e;
+    store = f.2.store;
+  }
+
+  pub left_fits : {j k : LaterTerm} → Fits c (at (xor_tree j k) σ) → SideFits c j σ
+  left_fits f = record { places = f.0; gives = f.1; side = f.2.tree.0; store = f.2.store }
+
+  pub right_fits : {j k : LaterTerm} → Fits c (at (xor_tree j k) σ) → SideFits c k σ
+  right_fits f = record { places = f.0; gives = f.1; side = f.2.tree.1; store = f.2.store }
+
+types_long : (σ : List ValueTerm) (Σ : List BasicTerm) → StoreHas σ Σ → length σ ≡ length Σ
+types_long [] [] h = refl
+types_long (v ∷ σ) (b ∷ Σ) h = ap suc (types_long σ Σ h.1)
+types_long [] (b ∷ Σ) h = absurd h
+types_long (v ∷ σ) [] h = absurd h
+
+-- the place of a shared editor is one of the store
+pub share_within : {c : CheckedTerm} {b : BasicTerm} {n : ℕ} (values : List Value) → Fits c (at (share_tree b n) (map value_term values))
+    → n < length values
+share_within {n = n} values f =
+    let within = slice_get_within f.0 n f.1 f.2.tree.1 in
+    let long = types_long (map value_term values) f.0 f.2.store in
+    let same = length-map values value_term in
+    omega (arith, within, long, same)
+
+-- ---- plans that go well
+pub step_well : {c : CheckedTerm} {k : LaterTerm} {v : ValueTerm} {σ : List ValueTerm} → IsAccepted c → ContFits c k v σ
+    → Well c (unless_failing c k.body (k.slots ++ plain_slot v ∷ []) σ)
+step_well {c = c} {k = k} {v = v} {σ = σ} accepted f = record {
+  good = good_trial c (facts_of c accepted) f.places k v σ f.takes f.gives _ (λ x. Unit {0}) f.cont f.value f.store
+      (λ s no kept. good_branch c no _ _ (λ x. Unit {0}) tt tt);
+}
+
+pub side_well : {c : CheckedTerm} {k : LaterTerm} {σ : List ValueTerm} → IsAccepted c → SideFits c k σ
+    → Well c (unless_failing c k.body k.slots σ)
+side_well {c = c} {k = k} {σ = σ} accepted f = record {
+  good = good_side c (facts_of c accepted) f.places k σ f.gives _ (λ x. Unit {0}) f.side f.store
+      (λ s no kept. good_branch c no _ _ (λ x. Unit {0}) tt tt);
+}
+
+-- what an input led to may settle
+pub settling_well : {c : CheckedTerm} {s : State} (i : InputTerm) {X : Type 0} {view : X → Option State} {old new : Left} {x : X}
+    → IsAccepted c → Fits c s → RunsPlan c (handles c s i) view old new (Ok x) → Well c (settled (view x))
+settling_well {c = c} {s = s} i accepted f a =
+    well_after (handles c s i) settled accepted
+    (record { good = good_any (Supposed c) (Assured c) (interacts c s i) _ (interacts_good c (facts_of c accepted) f.0 f.1 s i f.2) }) a

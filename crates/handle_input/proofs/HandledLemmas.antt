@@ -1,0 +1,122 @@
+-- How the plan of an input comes together.
+use Rattle.std.proofs.Common.{◌≡◌, ◌≤◌, ◌-◌, ℕ, Bool, true, false, List, [], ◌∷◌, length, take, drop, Option, Some, None, Result, Ok, Err, cond, refl, sym, ap, ◌∙◌, arith}
+use Rattle.std.specs.Option.{option_map}
+use Rattle.std.specs.Prelude.{slice_set, get_or, IfSome}
+use Rattle.task_model.specs.Left.{Left}
+use Rattle.task_model.specs.Basic.{BasicTerm}
+use Rattle.task_model.specs.Value.{ValueTerm, value_has}
+use Rattle.task_model.specs.Tree.{LaterTerm, TreeTerm, edit_tree, share_tree, and_tree, or_tree, xor_tree, tree_term, State, at}
+use Rattle.task_model.specs.Input.{ActTerm, set_act, next_act, left_act, right_act}
+use Rattle.task_model.specs.Handling.{if_typed, at_editor, rebuilt, rebuilds, stopped, handled}
+use Rattle.task_model.specs.Checked.{CheckedTerm}
+use Rattle.task_model.specs.Plan.{Judgement, Derived, Plan, give, Derives}
+use Rattle.task_model.specs.Rules.{rule_of}
+use Rattle.task_model.specs.Spends.{Spends}
+use Rattle.task_model.specs.Calls.{RunsJudgement, RunsPlan}
+use Rattle.task_model.specs.declared.purse.Stop.{Stop}
+use Rattle.task_model.specs.declared.purse.Stop.TheVariants.{Over, Memory}
+use Rattle.task_model.specs.declared.tree.Tree as tree
+use Rattle.task_model.specs.declared.input.Turn.{Turn}
+use Rattle.task_model.specs.declared.input.Turn.TheVariants as turns
+use Rattle.task_model.proofs.PlanLemmas.{under_at, low_derives}
+use Rattle.task_model.proofs.RanLemmas.{ran_give}
+use Rattle.host_eval.proofs.ListLemmas.{in_front}
+use Rattle.host_eval.proofs.RunLemmas.{ran_is}
+use Rattle.handle_input.specs.Editing.{typed_value, value_put, edited_tree, edited_state, picked_side}
+
+-- what a call within a plan is told by a call that is no part of one
+pub asked_spent : (c : CheckedTerm) (q : Judgement) {X : Type 0} (view : X → Derived q) (old new : Left) (r : Result X Stop)
+    → Spends (Derives (rule_of c) q) view old new r → RunsJudgement c q view old new r
+asked_spent c q view old new (Ok x) a = record {
+  runs = (a.0, a.1, (low_derives (rule_of c) old.height q).by (view x) a.0 a.1 a.2 a.3, a.4, a.5);
+}
+asked_spent c q view old new (Err Over) a = record {
+  runs = λ v n h d le. a v n h (old.height, d) le ((under_at (rule_of c) old.height q).by v n h d);
+}
+asked_spent c q view old new (Err Memory) a = record { runs = tt }
+
+-- ---- editors
+option_map-at : (σ : List ValueTerm) (o : Option tree.Tree) → option_map (λ u. at (tree_term u) σ) o
+    ≡ option_map (λ u. at u σ) (option_map tree_term o)
+option_map-at σ None = refl
+option_map-at σ (Some u) = refl
+
+-- a tree that is made over a store, or none
+pub ran_made_option : {c : CheckedTerm} (x : Option TreeTerm) (σ : List ValueTerm) {old : Left} {o : Option tree.Tree}
+    → option_map tree_term o ≡ x
+    → RunsPlan c (give (option_map (λ u. at u σ) x)) (option_map (λ u. at (tree_term u) σ)) old old (Ok o)
+ran_made_option x σ {o = o} e = ran_give (option_map-at σ o ∙ ap (option_map (λ u. at u σ)) e)
+
+typed_tree : (b : BasicTerm) (v : ValueTerm) (t : Bool) (σ : List ValueTerm) → if_typed t (at (edit_tree b v) σ)
+    ≡ give (option_map (λ u. at u σ) (edited_tree b (cond t (Some v) None)))
+typed_tree b v true σ = refl
+typed_tree b v false σ = refl
+
+pub editor_is : (b : BasicTerm) (σ : List ValueTerm) (path : List Turn) (act : ActTerm) → at_editor b path act (λ w. at (edit_tree b w) σ)
+    ≡ give (option_map (λ u. at u σ) (edited_tree b (value_put b path act)))
+editor_is b σ [] (set_act v) = typed_tree b v (value_has v b) σ
+editor_is b σ path act = refl
+
+typed_state : (b : BasicTerm) (n : ℕ) (σ : List ValueTerm) (v : ValueTerm) (t : Bool)
+    → if_typed t (at (share_tree b n) (slice_set σ n v)) ≡ give (edited_state b n σ (cond t (Some v) None))
+typed_state b n σ v true = refl
+typed_state b n σ v false = refl
+
+pub place_is : (b : BasicTerm) (n : ℕ) (σ : List ValueTerm) (path : List Turn) (act : ActTerm)
+    → at_editor b path act (λ w. at (share_tree b n) (slice_set σ n w)) ≡ give (edited_state b n σ (value_put b path act))
+place_is b n σ [] (set_act v) = typed_state b n σ v (value_has v b)
+place_is b n σ path act = refl
+
+-- ---- wholes
+rebuilt_is : (f : TreeTerm → TreeTerm) (σ : List ValueTerm) (led : Option tree.Tree) → rebuilt f (option_map (λ u. at (tree_term u) σ) led)
+    ≡ option_map (λ u. at u σ) (option_map (λ t. f (tree_term t)) led)
+rebuilt_is f σ None = refl
+rebuilt_is f σ (Some t) = refl
+
+-- a part that an input led to, in its whole
+pub ran_rebuilt : {c : CheckedTerm} (f : TreeTerm → TreeTerm) (σ : List ValueTerm) (led : Option tree.Tree) {old : Left}
+    {o : Option tree.Tree}
+    → option_map tree_term o ≡ option_map (λ t. f (tree_term t)) led
+    → RunsPlan c (give (rebuilt f (option_map (λ u. at (tree_term u) σ) led))) (option_map (λ u. at (tree_term u) σ)) old old (Ok o)
+ran_rebuilt f σ led e = ran_is (ap give (rebuilt_is f σ led)) (ran_made_option _ σ e)
+
+-- ---- the parts of a node that has two
+abbrev pub tail_of : {X : Type 0} → List X → List X
+tail_of xs = take (length xs - 1) (drop 1 xs)
+
+-- a path by its first turn
+turned : (path : List Turn) (turn x : Turn) → 1 ≤ length path → get_or path 0 turn ≡ x → path ≡ x ∷ tail_of path
+turned [] turn x le e = absurd (omega arith)
+turned (y ∷ ys) turn x le e = in_front (y ∷ ys) x le (sym e)
+
+module _ (c : CheckedTerm) (t u : TreeTerm) (σ : List ValueTerm) (path : List Turn) (turn : Turn) (act : ActTerm)
+    (le : 1 ≤ length path) where
+  pub and_first : get_or path 0 turn ≡ turns.First → handled c (and_tree t u) σ path act ≡ rebuilds (handled c t σ (tail_of path) act)
+      (λ t'. and_tree t' u)
+  and_first e = ap (λ p. handled c (and_tree t u) σ p act) (turned path turn turns.First le e)
+
+  pub and_second : get_or path 0 turn ≡ turns.Second → handled c (and_tree t u) σ path act ≡ rebuilds (handled c u σ (tail_of path) act)
+      (λ u'. and_tree t u')
+  and_second e = ap (λ p. handled c (and_tree t u) σ p act) (turned path turn turns.Second le e)
+
+  pub or_first : get_or path 0 turn ≡ turns.First → handled c (or_tree t u) σ path act ≡ rebuilds (handled c t σ (tail_of path) act)
+      (λ t'. or_tree t' u)
+  or_first e = ap (λ p. handled c (or_tree t u) σ p act) (turned path turn turns.First le e)
+
+  pub or_second : get_or path 0 turn ≡ turns.Second → handled c (or_tree t u) σ path act ≡ rebuilds (handled c u σ (tail_of path) act)
+      (λ u'. or_tree t u')
+  or_second e = ap (λ p. handled c (or_tree t u) σ p act) (turned path turn turns.Second le e)
+
+-- ---- what is held
+module _ (P : Type 0) where
+  -- what holds where an input led to a part holds where it led to the whole
+  pub held_rebuilt : (f : tree.Tree → TreeTerm) (led o : Option tree.Tree) → option_map tree_term o ≡ option_map f led
+      → IfSome led (λ t. P) → IfSome o (λ t. P)
+  held_rebuilt f led None e h = tt
+  held_rebuilt f None (Some t) e h = absurd cc
+  held_rebuilt f (Some u) (Some t) e h = h
+
+-- where a Next act stops at a value, the left part has it
+pub stopped_value : (path : List Turn) (act : ActTerm) (o : Option ValueTerm) (v : ValueTerm) → stopped path act o ≡ Some v → o ≡ Some v
+stopped_value [] next_act o v e = e
+stopped_value path act o v e = absurd cc

@@ -1,0 +1,28 @@
+use Rattle.std.proofs.Common.{◌∙◌, map, arith}
+use Rattle.task_model.specs.Value.{value_term}
+use Rattle.task_model.specs.Tree.{tree_term, at}
+use Rattle.task_model.specs.Input.{input_term}
+use Rattle.task_model.specs.Checked.{checked_term}
+use Rattle.handle_input.proofs.EndLemmas.{outcome_ended, held_ended}
+use Rattle.handle_input.proofs.inputs.interact.Goals as goal
+
+pub interacted-answer-requires-clause-fits : goal.interacted-answer-requires-clause-fits
+interacted-answer-requires-clause-fits c = rw c.in_ok-begin.ensures.list c.requires.fits
+
+pub ended-requires : goal.ended-requires
+ended-requires c = rw (c.interacted-answer.ensures.layers, c.in_ok-begin.ensures.ok) (omega arith)
+
+pub returns-clause-layers : goal.returns-clause-layers
+returns-clause-layers c = c.ended.ensures.layers _ _ (c.interacted-answer.ensures.layers ∙ c.in_ok-begin.ensures.ok)
+
+pub returns-clause-refused : goal.returns-clause-refused
+returns-clause-refused c = c.ended.ensures.undone _ _ (c.interacted-answer.ensures.layers ∙ c.in_ok-begin.ensures.ok)
+
+pub returns-clause-held : goal.returns-clause-held
+returns-clause-held c = held_ended _ _ _ c.ended.ensures.answer c.interacted-answer.ensures.held
+
+pub returns-clause-outcome : goal.returns-clause-outcome
+returns-clause-outcome c =
+    outcome_ended (checked_term c.args.engine.now) c.args.budget (at (tree_term c.args.t.now) (map value_term c.args.store.now.list))
+    (input_term c.args.input.now) _ _ c.new.ensures.units c.new.ensures.height _ _ _ _ c.ended.ensures.answer c.ended.ensures.kept
+    (rw c.in_ok-begin.ensures.list at c.interacted-answer.ensures.ran)

@@ -1,0 +1,27 @@
+use Rattle.std.proofs.Common.{map, Ok, Err, refl}
+use Rattle.task_model.specs.Value.{value_term}
+use Rattle.task_model.specs.Tree.{tree_term, at}
+use Rattle.task_model.specs.declared.tree.Tree.{Tree}
+use Rattle.task_model.specs.Checked.{checked_term}
+use Rattle.task_model.specs.Plan.{settles}
+use Rattle.task_model.proofs.RanLemmas.{stopped, ran_give, ran_ask, ran_ask_stops}
+use Rattle.typing_laws.proofs.CallLemmas.{well_ask}
+use Rattle.handle_input.proofs.HandledLemmas.{asked_spent}
+use Rattle.handle_input.proofs.inputs.settled.Goals as goal
+
+pub settle-requires : goal.settle-requires
+settle-requires c = record { may = well_ask c.requires }
+
+pub returns-in_err-u-clause-ran : goal.returns-in_err-u-clause-ran
+returns-in_err-u-clause-ran c =
+    let asked = asked_spent (checked_term c.args.engine.now) (settles (at (tree_term c.args.t) (map value_term c.args.store.now.list)))
+    (λ (u : Tree). at (tree_term u) (map value_term c.settle.new.store.list)) c.args.purse.now c.settle.new.purse (Err c.in_err-u.field-0.0)
+    c.in_err-u.ensures.spends in
+    rw (stopped _ c.in_err-u.field-0.0 c.from_residual.ensures.1) (ran_ask_stops _ asked)
+
+pub returns-clause-ran : goal.returns-clause-ran
+returns-clause-ran c =
+    let asked = asked_spent (checked_term c.args.engine.now) (settles (at (tree_term c.args.t) (map value_term c.args.store.now.list)))
+    (λ (u : Tree). at (tree_term u) (map value_term c.settle.new.store.list)) c.args.purse.now c.settle.new.purse (Ok c.in_ok-u.u)
+    c.in_ok-u.ensures.spends in
+    ran_ask _ asked (ran_give refl)

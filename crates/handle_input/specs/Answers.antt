@@ -1,0 +1,26 @@
+-- What calls that take an input answer.
+use Rattle.std.specs.Prelude.{ℕ, List, Option, None, Some, Result, Ok, Err}
+use Rattle.task_model.specs.Value.{ValueTerm}
+use Rattle.task_model.specs.Tree.{tree_term, State, at}
+use Rattle.task_model.specs.Input.{InputTerm}
+use Rattle.task_model.specs.Checked.{CheckedTerm}
+use Rattle.task_model.specs.Outcome.{IsOutcome, taken, not_offered, over_budget}
+use Rattle.task_model.specs.declared.purse.Stop.{Stop}
+use Rattle.task_model.specs.declared.purse.Stop.TheVariants as stops
+use Rattle.task_model.specs.declared.stops.ActStop.{ActStop}
+use Rattle.task_model.specs.declared.stops.ActStop.TheVariants as acts
+use Rattle.task_model.specs.declared.tree.Tree.{Tree}
+
+-- the answer of the plan that handles an input: it answers none where the input isn't offered
+abbrev pub plan_answer : Result Tree ActStop → Result (Option Tree) Stop
+plan_answer (Ok t) = Ok (Some t)
+plan_answer (Err acts.NotOffered) = Ok None
+plan_answer (Err acts.Over) = Err stops.Over
+plan_answer (Err acts.Memory) = Err stops.Memory
+
+-- An answer tells the outcome of an input: the tree that it leads to stands over these values. Want of memory tells nothing.
+abbrev pub TellsOutcome : CheckedTerm → ℕ → State → InputTerm → List ValueTerm → Result Tree ActStop → Type 0
+TellsOutcome c budget s i σ (Ok t) = IsOutcome c budget s i (taken (at (tree_term t) σ))
+TellsOutcome c budget s i σ (Err acts.NotOffered) = IsOutcome c budget s i not_offered
+TellsOutcome c budget s i σ (Err acts.Over) = IsOutcome c budget s i over_budget
+TellsOutcome c budget s i σ (Err acts.Memory) = Unit {0}

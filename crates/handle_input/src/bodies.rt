@@ -1,0 +1,89 @@
+ghost use Rattle.std.specs.Prelude.{◌≡◌, ◌++◌, ◌∷◌, [], map, IsSome, None, OnOk, Some};
+ghost use Rattle.std.specs.Option.{option_map};
+ghost use Rattle.task_model.specs.Value.{value_term};
+ghost use Rattle.task_model.specs.Env.{plain_slot};
+ghost use Rattle.task_model.specs.Task.{body_term, task_term};
+ghost use Rattle.task_model.specs.Tree.{cont_term, delay_term, tree_term, at};
+ghost use Rattle.task_model.specs.Accepted.{IsAccepted};
+ghost use Rattle.task_model.specs.Checked.{checked_term};
+ghost use Rattle.task_model.specs.Plan.{fails, normal, ask, give};
+ghost use Rattle.task_model.specs.Rules.{branch};
+ghost use Rattle.task_model.specs.Handling as model;
+ghost use Rattle.task_model.specs.Calls.{RunsPlan};
+ghost use Rattle.typing_laws.specs.Well.{Well};
+ghost use Rattle.host_eval.specs.NamesTerm.{names_term};
+ghost use Rattle.task_engine.specs.Fitting.{ContFits, SideFits};
+
+use host_eval::Names;
+use shared_store::Store;
+use task_engine::{Engine, failing, normalise};
+use task_model::{Body, Cont, Delay, Purse, Slot, Stop, Task, TaskText, Tree, Value};
+
+/// A user step goes on with its cont at the value of its left, unless that is failing.
+pub(crate) fn stepped(
+    engine: &Engine,
+    k: &Cont,
+    v: Value,
+    store: &mut Store<Value>,
+    purse: &mut Purse,
+) -> Result<Option<Tree>, Stop>
+    requires accepted { IsAccepted (checked_term engine.now) }
+    requires fits { ContFits (checked_term engine.now) (cont_term k.now) (value_term v) (map value_term store.old.list) }
+    ensures height { OnOk result (purse.new.height ≡ purse.old.height) }
+    ensures layers { store.new.layers ≡ store.old.layers }
+    ensures ran { RunsPlan (checked_term engine.now) (model.unless_failing (checked_term engine.now) (cont_term k.now).body ((cont_term k.now).slots ++ plain_slot (value_term v) ∷ []) (map value_term store.old.list)) (option_map (λ u. at (tree_term u) (map value_term store.new.list))) purse.old purse.new result }
+{
+    let own = engine.body(k.body);
+    let slot = Slot::Plain(v);
+    let outer = Names::of_scope(&own.scope, k.slots.as_slice(), engine.body_first(k.body));
+    let names = outer.with(name_of(own), &slot);
+    unless_failing(engine, &own.task, &names, store, purse)
+}
+
+/// A side of a choice, unless it is failing.
+pub(crate) fn side_taken(
+    engine: &Engine,
+    k: &Delay,
+    store: &mut Store<Value>,
+    purse: &mut Purse,
+) -> Result<Option<Tree>, Stop>
+    requires accepted { IsAccepted (checked_term engine.now) }
+    requires fits { SideFits (checked_term engine.now) (delay_term k.now) (map value_term store.old.list) }
+    ensures height { OnOk result (purse.new.height ≡ purse.old.height) }
+    ensures layers { store.new.layers ≡ store.old.layers }
+    ensures ran { RunsPlan (checked_term engine.now) (model.unless_failing (checked_term engine.now) (delay_term k.now).body (delay_term k.now).slots (map value_term store.old.list)) (option_map (λ u. at (tree_term u) (map value_term store.new.list))) purse.old purse.new result }
+{
+    let own = engine.body(k.body);
+    let names = Names::of_scope(&own.scope, k.slots.as_slice(), engine.body_first(k.body));
+    unless_failing(engine, &own.task, &names, store, purse)
+}
+
+// A task, normalised, unless what it leads to is failing.
+fn unless_failing(
+    engine: &Engine,
+    t: &Task,
+    names: &Names,
+    store: &mut Store<Value>,
+    purse: &mut Purse,
+) -> Result<Option<Tree>, Stop>
+    requires accepted { IsAccepted (checked_term engine.now) }
+    requires well { Well (checked_term engine.now) (ask (normal (task_term t.now) (names_term names.now) (map value_term store.old.list)) (λ s. ask (fails s) (λ no. branch no (give None) (give (Some s))))) }
+    ensures height { OnOk result (purse.new.height ≡ purse.old.height) }
+    ensures layers { store.new.layers ≡ store.old.layers }
+    ensures ran { RunsPlan (checked_term engine.now) (ask (normal (task_term t.now) (names_term names.now) (map value_term store.old.list)) (λ s. ask (fails s) (λ no. branch no (give None) (give (Some s))))) (option_map (λ u. at (tree_term u) (map value_term store.new.list))) purse.old purse.new result }
+{
+    let u = normalise(engine, t, names, store, purse)?;
+    let no = failing(engine, &u, store, purse)?;
+    if no { Ok(None) } else { Ok(Some(u)) }
+}
+
+// The name that a step's body binds.
+fn name_of(own: &Body) -> &TaskText
+    requires { IsSome (body_term own.now).binder }
+    ensures { (body_term own.now).binder ≡ Some result.now }
+{
+    match &own.binder {
+        Some(name) => name,
+        None => unreachable!(),
+    }
+}

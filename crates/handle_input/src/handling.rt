@@ -1,0 +1,165 @@
+ghost use Rattle.std.specs.Prelude.{◌≡◌, List, map, IfOk, IfSome, OnOk};
+ghost use Rattle.std.specs.Option.{option_map};
+ghost use Rattle.std.specs.Arc.{arc_value};
+ghost use Rattle.task_model.specs.Value.{ValueTerm, value_term};
+ghost use Rattle.task_model.specs.Rules.{value_of};
+ghost use Rattle.task_model.specs.Tree as trees;
+ghost use Rattle.task_model.specs.Tree.{cont_term, delay_term, tree_term, at};
+ghost use Rattle.task_model.specs.Input.{act_term};
+ghost use Rattle.task_model.specs.Handling as model;
+ghost use Rattle.task_model.specs.Held.{IsHeldAct};
+ghost use Rattle.task_model.specs.Accepted.{IsAccepted};
+ghost use Rattle.task_model.specs.Checked.{CheckedTerm, checked_term};
+ghost use Rattle.task_model.specs.Fits.{Fits};
+ghost use Rattle.task_model.specs.Calls.{RunsPlan};
+ghost use Rattle.task_engine.specs.Fitting.{SideFits};
+ghost use Rattle.handle_input.specs.Editing.{picked_side};
+
+use crate::bodies::{side_taken, stepped};
+use crate::editing::{edited, edited_place};
+use crate::rebuilding::{and_first, and_second, in_next, in_then, or_first, or_second};
+use shared_store::Store;
+use std::sync::Arc;
+use task_engine::Engine;
+use task_model::{Act, Cont, Delay, OutOfMemory, Purse, Stop, Tree, Turn, Value};
+use task_tree::value;
+
+/// Handles an act at the place that a path leads to: the tree that it leads to, or none where it is lacking. What doesn't lie on
+/// the path is shared with the tree that was.
+#[cycle(handled)]
+#[tactic(auto, using(crate::proofs::FitLemmas::fits_and_first, crate::proofs::FitLemmas::fits_and_second, crate::proofs::FitLemmas::fits_or_first, crate::proofs::FitLemmas::fits_or_second))]
+pub(crate) fn handled(
+    engine: &Engine,
+    t: &Tree,
+    store: &mut Store<Value>,
+    path: &[Turn],
+    act: &Act,
+    purse: &mut Purse,
+) -> Result<Option<Tree>, Stop>
+    requires accepted { IsAccepted (checked_term engine.now) }
+    requires fits { Fits (checked_term engine.now) (at (tree_term t.now) (map value_term store.old.list)) }
+    ensures held { IfOk result (λ o. IfSome o (λ t. IsHeldAct (act_term act.now))) }
+    ensures height { OnOk result (purse.new.height ≡ purse.old.height) }
+    ensures layers { store.new.layers ≡ store.old.layers }
+    ensures ran { RunsPlan (checked_term engine.now) (model.handled (checked_term engine.now) (tree_term t.now) (map value_term store.old.list) path.now (act_term act.now)) (option_map (λ u. at (tree_term u) (map value_term store.new.list))) purse.old purse.new result }
+{
+    match t {
+        Tree::Edit(b, _) => Ok(edited(b, path, act)?),
+        Tree::Enter(b) => Ok(edited(b, path, act)?),
+        Tree::Share(b, place) => Ok(edited_place(b, *place, store, path, act)?),
+        Tree::Then(left, k) => {
+            let led = handled(engine, left, store, path, act, purse)?;
+            Ok(in_then(engine.alloc(), led, k)?)
+        }
+        Tree::Next(left, k) => at_next(engine, left, k, store, path, act, purse),
+        Tree::Fail => Ok(None),
+        Tree::And(a, b) => match path {
+            [] => Ok(None),
+            [turn, rest @ ..] => match turn {
+                Turn::First => {
+                    let led = handled(engine, a, store, rest, act, purse)?;
+                    Ok(and_first(engine.alloc(), led, b)?)
+                }
+                Turn::Second => {
+                    let led = handled(engine, b, store, rest, act, purse)?;
+                    Ok(and_second(engine.alloc(), a, led)?)
+                }
+            },
+        },
+        Tree::Or(a, b) => match path {
+            [] => Ok(None),
+            [turn, rest @ ..] => match turn {
+                Turn::First => {
+                    let led = handled(engine, a, store, rest, act, purse)?;
+                    Ok(or_first(engine.alloc(), led, b)?)
+                }
+                Turn::Second => {
+                    let led = handled(engine, b, store, rest, act, purse)?;
+                    Ok(or_second(engine.alloc(), a, led)?)
+                }
+            },
+        },
+        Tree::Xor(j, k) => at_xor(engine, j, k, store, path, act, purse),
+    }
+}
+
+// At a user step: where a Next act stops at a value, the step goes on.
+#[cycle(handled)]
+fn at_next(
+    engine: &Engine,
+    left: &Arc<Tree>,
+    k: &Cont,
+    store: &mut Store<Value>,
+    path: &[Turn],
+    act: &Act,
+    purse: &mut Purse,
+) -> Result<Option<Tree>, Stop>
+    requires accepted { IsAccepted (checked_term engine.now) }
+    requires fits { Fits (checked_term engine.now) (at (trees.next_tree (tree_term (arc_value left.now)) (cont_term k.now)) (map value_term store.old.list)) }
+    ensures held { IfOk result (λ o. IfSome o (λ t. IsHeldAct (act_term act.now))) }
+    ensures height { OnOk result (purse.new.height ≡ purse.old.height) }
+    ensures layers { store.new.layers ≡ store.old.layers }
+    ensures ran { RunsPlan (checked_term engine.now) (model.handled (checked_term engine.now) (trees.next_tree (tree_term (arc_value left.now)) (cont_term k.now)) (map value_term store.old.list) path.now (act_term act.now)) (option_map (λ u. at (tree_term u) (map value_term store.new.list))) purse.old purse.new result }
+{
+    let stopped = stopped(engine, left, store, path, act)?;
+    match stopped {
+        Some(v) => stepped(engine, k, v, store, purse),
+        None => {
+            let led = handled(engine, left, store, path, act, purse)?;
+            Ok(in_next(engine.alloc(), led, k)?)
+        }
+    }
+}
+
+// The value at which a Next act stops at a user step: its path is used up there.
+fn stopped(
+    engine: &Engine,
+    left: &Tree,
+    store: &Store<Value>,
+    path: &[Turn],
+    act: &Act,
+) -> Result<Option<Value>, OutOfMemory>
+    ensures held { IfOk result (λ o. IfSome o (λ v. IsHeldAct (act_term act.now))) }
+    ensures value { IfOk result (λ v. option_map value_term v ≡ model.stopped path.now (act_term act.now) (value_of (tree_term left.now) (map value_term store.now.list))) }
+{
+    match (path, act) {
+        ([], Act::Next) => value(engine.alloc(), left, store),
+        _ => Ok(None),
+    }
+}
+
+// At an external choice.
+fn at_xor(
+    engine: &Engine,
+    left: &Delay,
+    right: &Delay,
+    store: &mut Store<Value>,
+    path: &[Turn],
+    act: &Act,
+    purse: &mut Purse,
+) -> Result<Option<Tree>, Stop>
+    requires accepted { IsAccepted (checked_term engine.now) }
+    requires fits { Fits (checked_term engine.now) (at (trees.xor_tree (delay_term left.now) (delay_term right.now)) (map value_term store.old.list)) }
+    ensures held { IfOk result (λ o. IfSome o (λ t. IsHeldAct (act_term act.now))) }
+    ensures height { OnOk result (purse.new.height ≡ purse.old.height) }
+    ensures layers { store.new.layers ≡ store.old.layers }
+    ensures ran { RunsPlan (checked_term engine.now) (model.handled (checked_term engine.now) (trees.xor_tree (delay_term left.now) (delay_term right.now)) (map value_term store.old.list) path.now (act_term act.now)) (option_map (λ u. at (tree_term u) (map value_term store.new.list))) purse.old purse.new result }
+{
+    match side(left, right, path, act) {
+        Some(picked) => side_taken(engine, picked, store, purse),
+        None => Ok(None),
+    }
+}
+
+// The side of a choice that an input picks.
+fn side<'t>(left: &'t Delay, right: &'t Delay, path: &[Turn], act: &Act) -> Option<&'t Delay>
+    ensures held { IfSome result (λ k. IsHeldAct (act_term act.now)) }
+    ensures fits { (c : CheckedTerm) (σ : List ValueTerm) → SideFits c (delay_term left.now) σ → SideFits c (delay_term right.now) σ → IfSome result (λ k. SideFits c (delay_term k.now) σ) }
+    ensures plan { (c : CheckedTerm) (σ : List ValueTerm) → model.handled c (trees.xor_tree (delay_term left.now) (delay_term right.now)) σ path.now (act_term act.now) ≡ picked_side c σ (option_map (λ k. delay_term k.now) result) }
+{
+    match (path, act) {
+        ([], Act::Left) => Some(left),
+        ([], Act::Right) => Some(right),
+        _ => None,
+    }
+}

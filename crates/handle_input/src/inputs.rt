@@ -1,0 +1,101 @@
+ghost use Rattle.std.specs.Prelude.{◌≡◌, map, IfOk, IfSome, OnErr, OnOk, Some};
+ghost use Rattle.std.specs.Option.{option_map};
+ghost use Rattle.task_model.specs.Value.{value_term};
+ghost use Rattle.task_model.specs.Tree.{tree_term, at};
+ghost use Rattle.task_model.specs.Input.{input_term};
+ghost use Rattle.task_model.specs.Handling as model;
+ghost use Rattle.task_model.specs.Held.{IsHeldAct};
+ghost use Rattle.task_model.specs.Accepted.{IsAccepted};
+ghost use Rattle.task_model.specs.Checked.{checked_term};
+ghost use Rattle.task_model.specs.Fits.{Fits};
+ghost use Rattle.task_model.specs.Spends.{Spends};
+ghost use Rattle.task_model.specs.Calls.{RunsPlan};
+ghost use Rattle.typing_laws.specs.Well.{Well};
+ghost use Rattle.handle_input.specs.Answers.{plan_answer, TellsOutcome};
+
+use crate::ending::ended;
+use crate::handling::handled;
+use shared_store::Store;
+use task_engine::{Engine, settle};
+use task_model::{ActStop, Input, Purse, Stop, Tree, Value};
+
+/// Handles an input: the tree that it leads to, over the values that it leaves in the store. `NotOffered` comes where the input is
+/// lacking, and `Over` where neither shows within the purse. A refusal leaves the values as they were.
+pub fn handle(
+    engine: &Engine,
+    t: &Tree,
+    store: &mut Store<Value>,
+    input: &Input,
+    purse: &mut Purse,
+) -> Result<Tree, ActStop>
+    requires fits { Fits (checked_term engine.now) (at (tree_term t.now) (map value_term store.old.list)) }
+    ensures layers { store.new.layers ≡ store.old.layers }
+    ensures refused { OnErr result (store.new.list ≡ store.old.list) }
+    ensures held { OnOk result (IsHeldAct (input_term input.now).act) }
+    ensures handles { Spends (model.Handled (checked_term engine.now) (at (tree_term t.now) (map value_term store.old.list)) (input_term input.now)) (option_map (λ u. at (tree_term u) (map value_term store.new.list))) purse.old purse.new (plan_answer result) }
+{
+    // The program of an engine is accepted.
+    let _accepted = engine.checked().program();
+    store.begin()?;
+    let turns = input.path.turns.as_slice();
+    let answer = handled(engine, t, store, turns, &input.act, purse);
+    ended(answer, store)
+}
+
+/// Handles an input and settles the state that it leads to, with a purse of so many units and the full height. `Ok` has the tree,
+/// over the values that the store has then. A refusal leaves the values as they were.
+pub fn interact(
+    engine: &Engine,
+    t: &Tree,
+    store: &mut Store<Value>,
+    input: &Input,
+    budget: u32,
+) -> Result<Tree, ActStop>
+    requires fits { Fits (checked_term engine.now) (at (tree_term t.now) (map value_term store.old.list)) }
+    ensures layers { store.new.layers ≡ store.old.layers }
+    ensures refused { OnErr result (store.new.list ≡ store.old.list) }
+    ensures held { OnOk result (IsHeldAct (input_term input.now).act) }
+    ensures outcome { TellsOutcome (checked_term engine.now) budget (at (tree_term t.now) (map value_term store.old.list)) (input_term input.now) (map value_term store.new.list) result }
+{
+    // The program of an engine is accepted.
+    let _accepted = engine.checked().program();
+    store.begin()?;
+    let answer = interacted(engine, t, store, input, &mut Purse::new(budget));
+    ended(answer, store)
+}
+
+// An input is handled, and the state that it leads to settles.
+fn interacted(
+    engine: &Engine,
+    t: &Tree,
+    store: &mut Store<Value>,
+    input: &Input,
+    purse: &mut Purse,
+) -> Result<Option<Tree>, Stop>
+    requires accepted { IsAccepted (checked_term engine.now) }
+    requires fits { Fits (checked_term engine.now) (at (tree_term t.now) (map value_term store.old.list)) }
+    ensures held { IfOk result (λ o. IfSome o (λ t. IsHeldAct (input_term input.now).act)) }
+    ensures layers { store.new.layers ≡ store.old.layers }
+    ensures ran { RunsPlan (checked_term engine.now) (model.interacts (checked_term engine.now) (at (tree_term t.now) (map value_term store.old.list)) (input_term input.now)) (option_map (λ u. at (tree_term u) (map value_term store.new.list))) purse.old purse.new result }
+{
+    let turns = input.path.turns.as_slice();
+    let led = handled(engine, t, store, turns, &input.act, purse)?;
+    match led {
+        None => Ok(None),
+        Some(u) => settled(engine, u, store, purse),
+    }
+}
+
+fn settled(
+    engine: &Engine,
+    t: Tree,
+    store: &mut Store<Value>,
+    purse: &mut Purse,
+) -> Result<Option<Tree>, Stop>
+    requires { Well (checked_term engine.now) (model.settled (Some (at (tree_term t) (map value_term store.old.list)))) }
+    ensures layers { store.new.layers ≡ store.old.layers }
+    ensures ran { RunsPlan (checked_term engine.now) (model.settled (Some (at (tree_term t) (map value_term store.old.list)))) (option_map (λ u. at (tree_term u) (map value_term store.new.list))) purse.old purse.new result }
+{
+    let u = settle(engine, t, store, purse)?;
+    Ok(Some(u))
+}

@@ -1,0 +1,11 @@
+//! What becomes of an input: a tree handles it and settles, or it is refused and nothing changes.
+#![tactic(auto)]
+
+mod bodies;
+mod editing;
+mod ending;
+mod handling;
+mod inputs;
+mod rebuilding;
+
+pub use inputs::{handle, interact};

@@ -1,0 +1,4 @@
+pub mod Escapes
+pub mod Inert
+pub mod Framed
+pub mod Pieces

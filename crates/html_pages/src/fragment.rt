@@ -1,0 +1,65 @@
+ghost use Rattle.std.specs.Prelude.{◌≡◌, ◌+◌, IfOk};
+ghost use Rattle.task_model.specs.Widget.{widget_term};
+ghost use Rattle.html_pages.specs.Fragments.{fragment_of};
+
+use crate::node::draw_texts;
+use crate::texts::Texts;
+use std::alloc::Global;
+use std::marker::Model;
+use std::sync::Arc;
+use std::sync::ledger::Ledger;
+use task_model::{Face, OutOfMemory, Steps, Widget, share, shared};
+
+/// What is drawn of one widget, in one block of memory that its copies share. Contracts see its two texts.
+#[derive(Drop)]
+pub struct Fragment {
+    texts: Arc<Texts>,
+}
+
+impl Model for Fragment {
+    ghost use Rattle.std.specs.Arc.{arc_value};
+    ghost use Rattle.html_pages.specs.Fragments.{FragmentTerm};
+
+    ghost Value = { FragmentTerm };
+
+    ghost view = { λ f. arc_value f.texts };
+}
+
+impl Fragment {
+    ghost use Rattle.html_pages.specs.Fragments.{fragment_text};
+
+    /// The same fragment, in the same memory. It takes none.
+    pub fn copy(&self) -> Result<Fragment, OutOfMemory>
+        ensures { IfOk result (λ copy. copy ≡ self.now) }
+    {
+        Ok(Fragment {
+            texts: share(&self.texts)?,
+        })
+    }
+
+    /// Its text for a face: a line with its LF, or HTML.
+    pub fn text(&self, face: Face) -> &str
+        ensures { result.now ≡ fragment_text face self.now }
+    {
+        match face {
+            Face::Text => self.texts.line.as_str(),
+            Face::Html => self.texts.html.as_str(),
+        }
+    }
+}
+
+/// The fragment of a widget. It counts one step.
+pub fn draw_node<L: Ledger>(
+    alloc: Global,
+    w: &Widget,
+    steps: &mut Steps<L>,
+) -> Result<Fragment, OutOfMemory>
+    ensures fragment { IfOk result (λ f. f ≡ fragment_of (widget_term w.now)) }
+    ensures steps { steps.new ≡ steps.old + 1 }
+{
+    steps.tick();
+    let texts = draw_texts(alloc, w)?;
+    Ok(Fragment {
+        texts: shared(alloc, texts)?,
+    })
+}

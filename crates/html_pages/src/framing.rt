@@ -1,0 +1,100 @@
+ghost use Rattle.std.specs.Prelude.{◌≡◌, ◌++◌, List, codes, decimal, map, IfOk, OnOk, string_bytes};
+ghost use Rattle.task_model.specs.Widget.{WidgetTerm};
+ghost use Rattle.task_model.specs.Html as model;
+ghost use Rattle.html_pages.specs.Fragments.{face_text, fragment_of, fragments_text, page_end, page_start};
+
+use crate::fragment::Fragment;
+use crate::fragments::Fragments;
+use crate::page::Page;
+use itoa::Buffer;
+use std::alloc::Global;
+use task_model::{Face, OutOfMemory};
+use terminal_view::push;
+
+// Room for the bytes of a page besides its fragments.
+const FRAME_ROOM: usize = 256;
+
+/// The page of these fragments in one of the faces. Its memory is taken once.
+pub fn frame(
+    alloc: Global,
+    face: Face,
+    version: u64,
+    seat: u8,
+    list: &Fragments,
+) -> Result<Page, OutOfMemory>
+    ensures version { IfOk result (λ page. page.version ≡ version) }
+    // Whatever widgets these are the fragments of, it is the page of those.
+    ensures text { (ws : List WidgetTerm) → list.now ≡ map fragment_of ws → IfOk result (λ page. page.text ≡ face_text face version seat ws) }
+{
+    let fragments = list.as_slice();
+    let mut text = String::with_capacity(alloc, room(face, fragments))?;
+    push_start(&mut text, face, version, seat)?;
+    push_fragments(&mut text, face, fragments)?;
+    push(&mut text, end(face))?;
+    Ok(Page { version, text })
+}
+
+// As many bytes as a page of these fragments has, or more.
+fn room(face: Face, list: &[Fragment]) -> usize {
+    let mut room = FRAME_ROOM;
+    for fragment in list {
+        room = room.saturating_add(fragment.text(face).len());
+    }
+    room
+}
+
+fn push_start(text: &mut String, face: Face, version: u64, seat: u8) -> Result<(), OutOfMemory>
+    ensures { OnOk result (string_bytes text.new ≡ string_bytes text.old ++ page_start face version seat) }
+{
+    match face {
+        Face::Text => terminal_view::push_head(text, version, seat),
+        Face::Html => push_html_start(text, version, seat),
+    }
+}
+
+fn push_html_start(text: &mut String, version: u64, seat: u8) -> Result<(), OutOfMemory>
+    ensures { OnOk result (string_bytes text.new ≡ string_bytes text.old ++ page_start Face.Html version seat) }
+{
+    push(
+        text,
+        "<!DOCTYPE html>\n<html lang=\"en\"><head><meta charset=\"utf-8\"><title>tophat</title></head><body>\n",
+    )?;
+    push_version(text, version, seat)
+}
+
+fn push_version(text: &mut String, version: u64, seat: u8) -> Result<(), OutOfMemory>
+    ensures { OnOk result (string_bytes text.new ≡ string_bytes text.old ++ model.paragraph (codes "version " ++ decimal version ++ codes " seat " ++ decimal seat)) }
+{
+    push(text, "<p>")?;
+    push_numbers(text, version, seat)?;
+    push(text, "</p>\n")
+}
+
+fn push_numbers(text: &mut String, version: u64, seat: u8) -> Result<(), OutOfMemory>
+    ensures { OnOk result (string_bytes text.new ≡ string_bytes text.old ++ (codes "version " ++ decimal version ++ codes " seat " ++ decimal seat)) }
+{
+    let mut number = Buffer::new();
+    push(text, "version ")?;
+    push(text, number.format(version))?;
+    push(text, " seat ")?;
+    push(text, number.format(seat))
+}
+
+fn push_fragments(text: &mut String, face: Face, list: &[Fragment]) -> Result<(), OutOfMemory>
+    ensures { OnOk result (string_bytes text.new ≡ string_bytes text.old ++ fragments_text face list.now) }
+{
+    for fragment in list {
+        push(text, fragment.text(face))?;
+    }
+    Ok(())
+}
+
+// What a page ends with.
+fn end(face: Face) -> &'static str
+    ensures { result.now ≡ page_end face }
+{
+    match face {
+        Face::Text => "",
+        Face::Html => "</body></html>\n",
+    }
+}

@@ -1,0 +1,19 @@
+//! The HTML face of an interface (docs/FORMATS.md, "HTML pages"): fragments, each drawn once for both faces, and pages that are framed of them.
+#![tactic(auto)]
+
+mod escaping;
+mod forms;
+mod fragment;
+mod fragments;
+mod framing;
+mod laws;
+mod node;
+mod page;
+mod texts;
+
+pub use escaping::escape;
+pub use fragment::{Fragment, draw_node};
+pub use fragments::Fragments;
+pub use framing::frame;
+pub use laws::nothing_escapes;
+pub use page::Page;

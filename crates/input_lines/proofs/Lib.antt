@@ -1,0 +1,13 @@
+pub mod Images
+pub mod EndLemmas
+pub mod SeatLemmas
+pub mod PathLemmas
+pub mod ReturnLemmas
+pub mod LiteralEndLemmas
+pub mod ActLemmas
+pub mod CommandLemmas
+pub mod WholeLineLemmas
+pub mod EntryLemmas
+pub mod SoakLemmas
+pub mod LawLemmas
+pub mod Decisions

@@ -1,0 +1,5 @@
+pub mod ScriptLines
+pub mod LinePlaces
+pub mod LineReading
+pub mod EntryText
+pub mod Soak

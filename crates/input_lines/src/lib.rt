@@ -1,0 +1,20 @@
+//! Lines of scripts (docs/FORMATS.md, "Script lines"): reading that is exact at the first bad byte, and printing.
+//! And the program of a soak with its inputs.
+#![tactic(auto)]
+
+mod acts;
+mod ends;
+mod laws;
+mod line;
+mod parse;
+mod paths;
+mod print;
+mod reading;
+mod seats;
+mod soak;
+
+pub use laws::{one_line, printed_entry};
+pub use line::Line;
+pub use parse::parse_line;
+pub use print::print_entry;
+pub use soak::{soak_entry, soak_program};

@@ -1,0 +1,35 @@
+ghost use Rattle.std.specs.Prelude.{◌≡◌, ◌∷◌, ◌++◌, [], MatchOption};
+ghost use Rattle.exact_reading.specs.Reading.{Right, seen, Always};
+ghost use Rattle.task_model.specs.Page.{turns_text};
+ghost use Rattle.input_lines.specs.LineReading.{PathLetters, NoLetter};
+
+use exact_reading::{ParseStop, expect, strip};
+use std::alloc::Global;
+use task_model::{Path, Row, Turn};
+
+/// A path: a dot, and a letter for each turn.
+pub(crate) fn path(alloc: Global, bytes: &[u8]) -> Result<(Path, &[u8]), ParseStop>
+    ensures { Right PathLetters Always NoLetter bytes.now (seen (λ r. (r.0.turns.list, r.1.now)) result) }
+{
+    let mut turns = Vec::new(alloc);
+    let mut rest = expect(bytes, b'.')?;
+    while let Some((turn, after)) = turn(rest) {
+        turns.push(turn)?;
+        rest = after;
+    }
+    let turns = Row::of_vec(turns);
+    Ok((Path { turns }, rest))
+}
+
+/// A turn, and what stands behind its letter, if one comes next.
+fn turn(bytes: &[u8]) -> Option<(Turn, &[u8])>
+    ensures { MatchOption result (NoLetter bytes.now) (λ r. bytes.now ≡ turns_text (r.0 ∷ []) ++ r.1.now) }
+{
+    if let Some(rest) = strip(bytes, b'F') {
+        return Some((Turn::First, rest));
+    }
+    if let Some(rest) = strip(bytes, b'S') {
+        return Some((Turn::Second, rest));
+    }
+    None
+}

@@ -1,0 +1,2 @@
+pub mod ElsewhereLemmas
+pub mod WalkLemmas

@@ -1,0 +1,44 @@
+-- How the offers of a tree mark its widgets (docs/RULES.md, "Offers", "Interfaces").
+use Rattle.std.specs.Prelude.{◌≡◌, List, [], ◌∷◌, ◌++◌, map, drop, Option, None, Some}
+use Rattle.task_model.specs.Value.{ValueTerm}
+use Rattle.task_model.specs.Offer.{OfferKindTerm, next_offer, left_offer, right_offer, OfferTerm, offered}
+use Rattle.task_model.specs.declared.input.Turn.{Turn}
+use Rattle.task_model.specs.declared.widget.Sign.{Sign}
+use Rattle.task_model.specs.declared.widget.Sign.TheVariants as signs
+use Rattle.task_model.specs.declared.offer.Answer.{Answer}
+use Rattle.task_model.specs.declared.offer.Answer.TheVariants as answers
+use Rattle.tree_trail.specs.Below.{offer_below}
+use Rattle.interface.specs.declared.marks.Tested.{Tested}
+use Rattle.interface.specs.declared.marks.Tested.TheVariants as tested
+
+-- what is offered where a test says so
+abbrev pub tested_kind : Tested → OfferKindTerm
+tested_kind tested.Next = next_offer
+tested_kind tested.Left = left_offer
+tested_kind tested.Right = right_offer
+
+-- the sign that an offer's answer shows
+abbrev pub answered_sign : Answer → Sign
+answered_sign answers.Yes = signs.Yes
+answered_sign answers.Over = signs.Over
+
+-- the offers behind the one that a sign other than No stands for
+abbrev pub behind_mark : {A : Type 0} → Sign → List A → List A
+behind_mark signs.No os = os
+behind_mark signs.Yes os = drop 1 os
+behind_mark signs.Over os = drop 1 os
+
+-- the first of these offers isn't one of this kind at this path
+abbrev pub BeginsElsewhere : OfferKindTerm → List Turn → List OfferTerm → Type 0
+BeginsElsewhere k p [] = Unit {0}
+BeginsElsewhere k p (o ∷ os) = o.path ≡ p → o.kind ≡ k → ⊥
+
+-- Where offers begin with what some sign offers of a kind at a path, and those behind it begin elsewhere, it is this sign.
+abbrev pub MarksFirst : OfferKindTerm → List Turn → List OfferTerm → Sign → Type 0
+MarksFirst k p os s =
+    (z : Sign) (rest : List OfferTerm) → os ≡ map (offer_below p) (offered k z) ++ rest → BeginsElsewhere k p rest → s ≡ z
+
+-- the sign of a user step whose left part has this value
+abbrev pub MarksStep : Option ValueTerm → List Turn → List OfferTerm → Sign → Type 0
+MarksStep None p os s = s ≡ signs.No
+MarksStep (Some v) p os s = MarksFirst next_offer p os s

@@ -1,0 +1,58 @@
+//! Lines at the limits: of their bytes, of levels, of elements and of texts.
+
+use crate::lines::{Want, assert_line};
+use std::alloc::Global;
+use std::process::Abort;
+use std::test::Fail;
+use task_model::OutOfMemory;
+
+// A front, and then a byte so many times.
+fn filled(alloc: Global, front: &[u8], byte: u8, times: usize) -> Result<Vec<u8>, OutOfMemory> {
+    let mut bytes = Vec::new(alloc);
+    bytes.extend_from_slice(front)?;
+    for _ in 0..times {
+        bytes.push(byte)?;
+    }
+    Ok(bytes)
+}
+
+#[test]
+fn comments_of_the_longest_line(rt: HostRuntime) -> Result<(), Fail> {
+    let mut line = filled(rt.alloc(), b"#", b'a', 1_048_575)?;
+    assert_line(&rt, line.as_slice(), &Want::Blank)?;
+    line.push(b'\r')?;
+    assert_line(&rt, line.as_slice(), &Want::Bad(1_048_577))?;
+    line.push(b'a')?;
+    assert_line(&rt, line.as_slice(), &Want::Bad(1_048_577))?;
+    Ok(())
+}
+
+#[test]
+fn literals_of_the_longest_line(rt: HostRuntime) -> Result<(), Fail> {
+    let mut line = filled(rt.alloc(), b"1 . set 4", b' ', 1_048_566)?;
+    line.push(b'\r')?;
+    assert_line(&rt, line.as_slice(), &Want::Act("1 . set 4\n"))?;
+    line.push(b'\r')?;
+    assert_line(&rt, line.as_slice(), &Want::Bad(1_048_577))?;
+    let spaces = filled(rt.alloc(), b"1 . set 4", b' ', 1_048_568)?;
+    assert_line(&rt, spaces.as_slice(), &Want::Bad(1_048_577))?;
+    let early = filled(rt.alloc(), b"1 . set 4x", b' ', 1_048_568)?;
+    assert_line(&rt, early.as_slice(), &Want::Bad(10))?;
+    Ok(())
+}
+
+#[test]
+fn levels_elements_and_texts(rt: HostRuntime) -> Result<(), Fail> {
+    let deep = filled(rt.alloc(), b"1 . set ", b'[', 65)?;
+    assert_line(&rt, deep.as_slice(), &Want::Bad(73))?;
+    let mut list = filled(rt.alloc(), b"1 . set [1", b' ', 0)?;
+    for _ in 0..1_024 {
+        list.extend_from_slice(b",1")?;
+    }
+    assert_line(&rt, list.as_slice(), &Want::Bad(10 + 2 * 1_023 + 1))?;
+    let text = filled(rt.alloc(), b"1 . set \"", b'a', 65_537)?;
+    assert_line(&rt, text.as_slice(), &Want::Bad(9 + 65_536 + 1))?;
+    let path = filled(rt.alloc(), b"1 .", b'F', 1_000)?;
+    assert_line(&rt, path.as_slice(), &Want::Bad(1_004))?;
+    Ok(())
+}

@@ -1,0 +1,7 @@
+pub mod Decided
+mod Words
+mod Ints
+mod Texts
+mod Values
+pub mod OneLiteral
+mod TypeNames

@@ -1,0 +1,2 @@
+pub mod TestsIn
+pub mod OffersFollow

@@ -1,0 +1,8 @@
+//! The offers of a tree: what an input may be for, at each of its nodes, by tests within the budget.
+#![tactic(auto)]
+
+mod found;
+mod offering;
+mod signs;
+
+pub use offering::offers;

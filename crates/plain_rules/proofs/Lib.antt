@@ -1,2 +1,0 @@
-pub mod HandlingLemmas
-pub mod OutcomeLemmas

@@ -1,3 +1,0 @@
-pub mod Handled
-pub mod TestSigns
-pub mod Outcomes

@@ -1,3 +1,0 @@
-pub mod TermLemmas
-pub mod TaskLemmas
-pub mod EngineLemmas

@@ -1,5 +1,0 @@
-use Rattle.task_model.proofs.RanLemmas.{spends_asked}
-use Rattle.plain_tasks.proofs.engine.failing.Goals as goal
-
-pub returns : goal.returns
-returns c = spends_asked c.fails_at.ensures.asked

@@ -1,5 +1,0 @@
-use Rattle.std.proofs.Common.{length}
-use Rattle.plain_tasks.proofs.nodes.+counts_from.Given as goal
-
-abbrev pub decreases-counts_from : goal.decreases-counts_from
-decreases-counts_from l = length l.bodies.now

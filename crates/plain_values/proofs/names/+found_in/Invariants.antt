@@ -1,5 +1,0 @@
-use Rattle.std.proofs.Common.{length}
-use Rattle.plain_values.proofs.names.+found_in.Given as goal
-
-abbrev pub decreases-found_in : goal.decreases-found_in
-decreases-found_in l = length l.names.now

@@ -1,3 +1,0 @@
-pub mod GivenRules
-pub mod Known
-pub mod Opened

@@ -1,0 +1,10 @@
+//! The terminal face of an interface (docs/FORMATS.md, "Pages"): the line of a widget, and the page of widgets.
+#![tactic(auto)]
+
+mod line;
+mod page;
+mod writing;
+
+pub use line::{draw_line, push_empty_editor, push_line, push_valued_editor};
+pub use page::{draw_terminal, push_head};
+pub use writing::{push, push_path};

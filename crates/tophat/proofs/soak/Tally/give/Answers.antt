@@ -1,0 +1,6 @@
+use Rattle.std.proofs.Common.{refl}
+use Rattle.task_model.specs.Outcome.{taken}
+use Rattle.tophat.proofs.soak.Tally.give.Goals as goal
+
+pub returns-in-Ok-clause-given : goal.returns-in-Ok-clause-given
+returns-in-Ok-clause-given g c = let r = c.in-Ok.ensures.replies in (taken r.0, r.1, r.2, refl)

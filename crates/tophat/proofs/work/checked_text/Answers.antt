@@ -1,0 +1,15 @@
+use Rattle.task_model.specs.Checked.{checked_term}
+use Rattle.task_model.specs.Text.{Text}
+use Rattle.tophat.specs.Verdict.{accepted}
+use Rattle.tophat.proofs.OpeningLemmas.{verdict_refused}
+use Rattle.tophat.proofs.WorkLemmas.{refused_tells}
+use Rattle.tophat.proofs.work.checked_text.Goals as goal
+
+pub returns-in-Err-clause-text : goal.returns-in-Err-clause-text
+returns-in-Err-clause-text c = refused_tells c.args.bytes.now c.in-Err.why c.in-Err.ensures
+
+pub returns-in_ok-print_program-in-Ok-clause-verdict_is : goal.returns-in_ok-print_program-in-Ok-clause-verdict_is
+returns-in_ok-print_program-in-Ok-clause-verdict_is c = (accepted (checked_term c.in-Ok.checked), c.in-Ok.ensures.is)
+
+pub returns-in-Err-clause-verdict_is : goal.returns-in-Err-clause-verdict_is
+returns-in-Err-clause-verdict_is c = verdict_refused Text c.args.bytes.now c.in-Err.why c.in-Err.ensures

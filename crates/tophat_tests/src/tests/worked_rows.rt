@@ -1,0 +1,428 @@
+//! Programs with their scripts, and what the whole command writes.
+
+/// Commands of every kind, in blocks as `Block` (block.rt) has them.
+pub(crate) const WORKED_ROWS: &str = r#"task main() : int = enter int >>? x . edit (x + 1)
+= 0
+> 1 . set 4
+taken 1
+> 1 . next
+taken 2
+> 1 show
+version 2 seat 1
+. edit int 5
+
+task main() : int = enter int >>? x . edit (x + 1)
+= 0
+
+task main() : int = enter int >>? x . if x > 3 then edit x else fail int
+= 0
+> 1 . set 2
+taken 1
+> 1 . next
+not offered
+> 1 show
+version 1 seat 1
+. step
+. edit int 2
+
+task main() : int = enter int >>= x . if x > 3 then edit x else fail int
+= 0
+> 1 . set 2
+taken 1
+> 1 show
+version 1 seat 1
+. then
+. edit int 2
+> 1 . set 5
+taken 2
+> 1 show
+version 2 seat 1
+. edit int 5
+
+task main() : (int, int) = new r = 7 in (enter int >>? x . (r := x ; if x > 0 then edit x else fail int)) <&> share r
+= 0
+> 1 .F set 0
+taken 1
+> 1 .F next
+not offered
+> 1 show
+version 1 seat 1
+. and
+.F step
+.F edit int 0
+.S share int 7
+
+task main() : (int, int) = new r = 1 in share r <&> share r
+= 0
+> 1 .F set 9
+taken 1
+> 2 show
+version 1 seat 2
+. and
+.F share int 9
+.S share int 9
+
+task main() : int = edit 1 <?> fail int
+= 0
+> 1 show
+version 0 seat 1
+. pick left
+> 1 . right
+not offered
+> 1 . left
+taken 1
+> 1 show
+version 1 seat 1
+. edit int 1
+
+task main() : int = enter int <|> enter int
+= 0
+> 1 .S set 3
+taken 1
+> 1 .S set 4
+not offered
+> 1 . set 4
+taken 2
+> 1 show
+version 2 seat 1
+. edit int 4
+
+task main() : int = (enter int >>? x . edit x) >>? y . edit (y * 2)
+= 0
+> 1 . set 3
+taken 1
+> 1 . next
+taken 2
+> 1 . next
+taken 3
+> 1 show
+version 3 seat 1
+. edit int 6
+
+$ run p.th --budget 4
+task loop() : int = edit 1 >>= x . loop()
+task main() : int = loop()
+= 0
+
+$ run p.th --budget 3
+task loop() : int = edit 1 >>= x . loop()
+task main() : int = loop()
+= 4 tophat: opening over budget
+
+task a() : int = edit 1 >>= x . b()
+task b() : int = edit 2 >>= x . a()
+task main() : int = a()
+= 4 tophat: opening over budget
+
+task t() : int = t()
+task main() : int = t()
+= 1 tophat: p.th: byte 17: Unguarded
+
+task main() : int = edit (9223372036854775807 + 1)
+= 0
+> 1 show
+version 0 seat 1
+. edit int 9223372036854775807
+
+task main() : int = enter int
+= 3 tophat: line 2 column 10
+> 1 . set true
+not offered
+> 1 . set 4x
+
+task main() : text = edit "<b>&\""
+= 0
+> 1 show
+version 0 seat 1
+. edit text "<b>&\""
+
+task main() : (int, int) = edit 1 <&> enter int
+= 0
+> 1 .S set 4
+taken 1
+> 1 show
+version 1 seat 1
+. and
+.F edit int 1
+.S edit int 4
+
+$ check p.th
+task main() : int = enter int >>? x . edit (x + 1)
+= 0
+task main ( ) : int = enter int >>? x . edit ( x + 1 )
+
+$ check p.th
+# a message board
+task post(log : ref [text]) : [text] = enter text >>? m . (log := m :: !log ; post(log))
+task main() : ([text], [text]) = new log = nil text in post(log) <&> share log
+= 0
+task post ( log : ref [ text ] ) : [ text ] = enter text >>? m . log := m :: ! log ; post ( log )
+task main ( ) : ( [ text ] , [ text ] ) = new log = nil text in post ( log ) <&> share log
+
+task post(log : ref [text]) : [text] = enter text >>? m . (log := m :: !log ; post(log))
+task main() : ([text], [text]) = new log = nil text in post(log) <&> share log
+= 0
+> 1 .F set "hello"
+taken 1
+> 1 .F next
+taken 2
+> 2 .F set "hi"
+taken 3
+> 2 .F next
+taken 4
+> 1 show
+version 4 seat 1
+. and
+.F step
+.F enter text
+.S share [text] ["hi", "hello"]
+
+task main() : int = main() <?> main()
+= 0
+> 1 show
+version 0 seat 1
+. pick left? right?
+> 1 . left
+over budget
+
+$ run none.th
+= 7 tophat: none.th: no such file
+
+$ check none.th
+= 7 tophat: none.th: no such file
+
+$ run -
+= 7 tophat: -: no such file
+
+$ run -- -p
+= 7 tophat: -p: no such file
+
+task main() : int = edit (1 + true)
+= 1 tophat: p.th: byte 30: Mismatch want int got bool
+
+$ check p.th
+task main() : int = edit (1 + true)
+= 1 tophat: p.th: byte 30: Mismatch want int got bool
+
+task main() : (int, [text]) = enter (int, [text])
+= 0
+> 1 . set ( 1,["a", "b"] )
+taken 1
+> 1 show
+version 1 seat 1
+. edit (int, [text]) (1, ["a", "b"])
+
+$ run p.th
+= 1 tophat: p.th: byte 0: NoMain
+"#;
+
+/// A program that goes on for ever.
+pub(crate) const MILLION: &str = r#"$ run p.th --budget 1000000
+task a() : int = edit 1 >>= x . b()
+task b() : int = edit 2 >>= x . a()
+task main() : int = a()
+= 4 tophat: opening over budget
+"#;
+
+/// Texts that are joined and cut.
+pub(crate) const LONG_TEXTS: &str =
+    r#"task main() : (int, int) = let all = "{40001 a}" ++ "{20000 é}" in edit (len all, len (all ++ "bb"))
+= 0
+> 1 show
+version 0 seat 1
+. edit (int, int) (52768, 52769)
+"#;
+
+/// Generated inputs.
+pub(crate) const SOAKS: &str = r#"$ soak 1 3
+= 0
+soak inputs 1 taken 1 refused 0 over 0 nodes 95 a 0 b 4
+
+$ soak 01 00003
+= 0
+soak inputs 1 taken 1 refused 0 over 0 nodes 95 a 0 b 4
+
+$ soak 2 3
+= 0
+soak inputs 2 taken 1 refused 1 over 0 nodes 95 a 0 b 4
+
+$ soak -- 1 0
+= 0
+soak inputs 1 taken 0 refused 1 over 0 nodes 95 a 0 b 0
+
+$ soak 1 18446744073709551615
+= 0
+soak inputs 1 taken 1 refused 0 over 0 nodes 95 a 9 b 0
+
+$ soak 1000 42
+= 0
+soak inputs 1000 taken 678 refused 322 over 0 nodes 95 a 395 b 177
+"#;
+
+/// Words that `run` may have, on one program.
+pub(crate) const WORDS: &str = r#"$ run --budget=4 p.th
+task loop() : int = edit 1 >>= x . loop()
+task main() : int = loop()
+= 0
+
+$ run --budget 3 p.th
+task loop() : int = edit 1 >>= x . loop()
+task main() : int = loop()
+= 4 tophat: opening over budget
+
+$ run p.th --budget=00000000000000000003
+task loop() : int = edit 1 >>= x . loop()
+task main() : int = loop()
+= 4 tophat: opening over budget
+
+$ run --budget=3 -- p.th
+task loop() : int = edit 1 >>= x . loop()
+task main() : int = loop()
+= 4 tophat: opening over budget
+
+$ run -- p.th
+task loop() : int = edit 1 >>= x . loop()
+task main() : int = loop()
+= 0
+
+$ check -- p.th
+task main() : int = edit 5
+= 0
+task main ( ) : int = edit 5
+"#;
+
+/// Words outside the grammar, a row a line.
+pub(crate) const WRONG_WORDS: &str = "run
+run -p
+run p.th q
+run p.th --budget
+run p.th --budget 0
+run p.th --budget 1000001
+run p.th --budget 000000000000000000004
+run p.th --budget -4
+run p.th --budget=
+run p.th --budget=four
+run p.th --budget 4 --budget 4
+run p.th --budget 4 --budget=4
+run -- p.th --budget=4
+run p.th -- q
+run p.th --seats 2
+run --budget 4
+run -b 4 p.th
+run --help
+run p.th --help
+run --version
+--help
+--version
+help
+--
+p.th
+Run p.th
+check
+check p.th q
+check p.th --budget 4
+check --help
+soak
+soak 1
+soak 0 3
+soak 100001 3
+soak 1 18446744073709551616
+soak 000000000000000000001 3
+soak 1 3 4
+soak one 3
+soak 1 -3
+soak +1 3
+drill 2 100
+serve p.th";
+
+/// The programs of the tutorial (docs/LANGUAGE.md).
+pub(crate) const TUTORIAL: &str = r#"# a number to start with, and one to be filled in
+task main() : (int, int) =
+  edit 1 <&> enter int
+= 0
+> 1 show
+version 0 seat 1
+. and
+.F edit int 1
+.S enter int
+> 2 .S set -4
+taken 1
+> 1 . set 3
+not offered
+> 1 show
+version 1 seat 1
+. and
+.F edit int 1
+.S edit int -4
+
+task main() : int =
+  (enter int <&> enter int) >>? p . edit (fst p + snd p)
+= 0
+> 1 .F set 2
+taken 1
+> 1 . next
+not offered
+> 2 .S set 40
+taken 2
+> 1 . next
+taken 3
+> 1 show
+version 3 seat 1
+. edit int 42
+
+fun fits(n : int) : bool = 0 < n && n <= 10
+task main() : int =
+  enter int >>= n . if fits(n) then edit n else fail int
+= 0
+> 1 . set 70
+taken 1
+> 1 show
+version 1 seat 1
+. then
+. edit int 70
+> 1 . set 7
+taken 2
+> 1 show
+version 2 seat 1
+. edit int 7
+
+task yes_no() : bool = edit true <?> edit false
+task main() : text =
+  yes_no() >>? answer . if answer then edit "yes" else edit "no"
+= 0
+> 1 show
+version 0 seat 1
+. step
+. pick left right
+> 1 . left
+taken 1
+> 1 show
+version 1 seat 1
+. step next
+. edit bool true
+> 2 . next
+taken 2
+> 1 show
+version 2 seat 1
+. edit text "yes"
+
+task write(notes : ref [text]) : [text] =
+  enter text >>? line . (notes := line :: !notes ; write(notes))
+task main() : ([text], [text]) =
+  new notes = nil text in write(notes) <&> share notes
+= 0
+> 1 .F set "milk"
+taken 1
+> 1 .F next
+taken 2
+> 2 .F set "bread"
+taken 3
+> 2 .F next
+taken 4
+> 3 show
+version 4 seat 3
+. and
+.F step
+.F enter text
+.S share [text] ["bread", "milk"]
+"#;

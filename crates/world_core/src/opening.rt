@@ -1,0 +1,80 @@
+ghost use Rattle.std.specs.Prelude.{◌≡◌, [], ◌∷◌, map, IfOk, IfErr};
+ghost use Rattle.task_model.specs.Value.{value_term};
+ghost use Rattle.task_model.specs.Task.{task_term, call_task};
+ghost use Rattle.task_model.specs.Tree.{tree_term, State, at};
+ghost use Rattle.task_model.specs.Item.{opened, history_term};
+ghost use Rattle.task_model.specs.Checked.{checked_term};
+ghost use Rattle.task_model.specs.Program.{main_name};
+ghost use Rattle.task_model.specs.State.{IsOpening};
+
+use crate::answers::OpenStop;
+use crate::counted::CountedTree;
+use host_eval::Names;
+use shared_store::Store;
+use std::alloc::Global;
+use task_engine::{Engine, normalise};
+use task_model::{
+    Checked, Item, OutOfMemory, Purse, Row, Stop, Task, TaskText, Tree, Value, copy_program,
+};
+
+/// The history at the opening.
+pub(crate) fn opened_history(
+    alloc: Global,
+    c: &Checked,
+    budget: u32,
+) -> Result<Row<Item>, OutOfMemory>
+    ensures { IfOk result (λ row. history_term row.list ≡ opened (checked_term c.now).program budget ∷ []) }
+{
+    let program = copy_program(alloc, c.program())?;
+    let mut history = Row::new(alloc);
+    history.push(Item::Opened { program, budget })?;
+    Ok(history)
+}
+
+/// The tree at the opening: `main()`, evaluated and settled within the budget, with its effects on the empty store.
+pub(crate) fn opened_tree(
+    engine: &Engine,
+    budget: u32,
+    store: &mut Store<Value>,
+) -> Result<CountedTree, OpenStop>
+    requires { store.old.list ≡ [] }
+    ensures layers { store.new.layers ≡ store.old.layers }
+    ensures ok { IfOk result (λ t. IsOpening (checked_term engine.now) budget (at (tree_term t) (map value_term store.new.list))) }
+    ensures over { IfErr result (λ stop. stop ≡ OpenStop.Over → (s : State) → IsOpening (checked_term engine.now) budget s → ⊥) }
+{
+    let call = call_of_main(engine.alloc())?;
+    let tree = evaluated(engine, &call, budget, store)?;
+    Ok(CountedTree::of(tree)?)
+}
+
+fn call_of_main(alloc: Global) -> Result<Task, OutOfMemory>
+    ensures { IfOk result (λ t. task_term t ≡ call_task main_name []) }
+{
+    let name = TaskText::of(alloc, "main")?;
+    Ok(Task::Call {
+        name,
+        args: Row::new(alloc),
+    })
+}
+
+fn evaluated(
+    engine: &Engine,
+    call: &Task,
+    budget: u32,
+    store: &mut Store<Value>,
+) -> Result<Tree, OpenStop>
+    requires empty { store.old.list ≡ [] }
+    requires main { task_term call.now ≡ call_task main_name [] }
+    ensures layers { store.new.layers ≡ store.old.layers }
+    ensures ok { IfOk result (λ t. IsOpening (checked_term engine.now) budget (at (tree_term t) (map value_term store.new.list))) }
+    ensures over { IfErr result (λ stop. stop ≡ OpenStop.Over → (s : State) → IsOpening (checked_term engine.now) budget s → ⊥) }
+{
+    // The program of an engine is accepted.
+    let _accepted = engine.checked().program();
+    let names = Names::of_params(&[], &[], 0);
+    match normalise(engine, call, &names, store, &mut Purse::new(budget)) {
+        Ok(tree) => Ok(tree),
+        Err(Stop::Over) => Err(OpenStop::Over),
+        Err(Stop::Memory) => Err(OpenStop::Memory),
+    }
+}
