@@ -1,4 +1,4 @@
-ghost use Rattle.std.specs.Prelude.{◌≡◌, ◌≤◌, []};
+ghost use Rattle.std.specs.Prelude.{◌≡◌, ◌≤◌, [], ◌++◌};
 ghost use Rattle.outer_io.specs.Causes.{Rose};
 ghost use Rattle.outer_io.specs.Sink.{Wrote, faults_after_text};
 ghost use Rattle.line_frame.specs.RunFaults.{write_faults_after_run};
@@ -11,6 +11,9 @@ use task_model::Row;
 
 // Answers of so many bytes are written before the next line is run.
 const ENOUGH: usize = 65536;
+
+// An answer of so many bytes is written by itself, behind those that are due, and is copied nowhere.
+const LONG: usize = 8192;
 
 /// The answers that are due: they are told, and were not yet written.
 #[derive(Drop)]
@@ -27,22 +30,34 @@ impl Due {
         }
     }
 
-    /// Takes an answer behind those that are due. Where they are many, or memory for it is refused, all are written.
+    /// Takes an answer behind those that are due. Where it is long, or they are many, or memory for it is refused, all are written.
     pub(crate) fn add<O: Sink>(&mut self, out: &mut O, answer: &[u8]) -> Written
         ensures bytes { JoinsDue (O.taken out.old) (O.taken out.new) self.old.text.list self.new.text.list answer.now result }
         ensures count { O.faults out.old ≤ O.faults out.new }
         ensures failed { result ≡ Written.Failed → Rose (O.faults out.old) (O.faults out.new) }
         ensures exact { O.faults out.new ≡ faults_after_text (O.faults out.old) result }
     {
+        if answer.len() >= LONG {
+            return self.write_with(out, answer);
+        }
         match self.text.extend(answer) {
             Ok(()) if self.text.as_slice().len() < ENOUGH => Written::Whole,
             Ok(()) => self.write(out),
-            Err(_) => {
-                let written = write_two(out, self.text.as_slice(), answer);
-                self.text.truncate(0);
-                written
-            }
+            Err(_) => self.write_with(out, answer),
         }
+    }
+
+    // Writes the answers that are due, and one more behind them. No write is tried again.
+    fn write_with<O: Sink>(&mut self, out: &mut O, answer: &[u8]) -> Written
+        ensures bytes { Wrote (O.taken out.old) (O.taken out.new) (self.old.text.list ++ answer.now) result }
+        ensures none { self.new.text.list ≡ [] }
+        ensures count { O.faults out.old ≤ O.faults out.new }
+        ensures failed { result ≡ Written.Failed → Rose (O.faults out.old) (O.faults out.new) }
+        ensures exact { O.faults out.new ≡ faults_after_text (O.faults out.old) result }
+    {
+        let written = write_two(out, self.text.as_slice(), answer);
+        self.text.truncate(0);
+        written
     }
 
     /// Writes the answers that are due. No write is tried again.

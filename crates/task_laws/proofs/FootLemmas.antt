@@ -1,28 +1,29 @@
 -- Two stores that agree on a tree's foot: its value, failing, tests, offers and widgets agree.
 use Rattle.std.proofs.Common.{◌≡◌, ◌↔◌, ◌≤◌, ◌<◌, ℕ, Bool, true, false, List, [], ◌∷◌, ◌++◌, length, Option, Some, None, refl, sym, ap, ◌∙◌, subst, arith, cond, le_refl}
-use Rattle.std.specs.Prelude.{nat_le, slice_get, slice_index_or, unwrap_or}
+use Rattle.std.specs.Prelude.{◌==◌, nat_le, slice_get, slice_index_or, unwrap_or}
 use Rattle.std.specs.List.{All, Contains}
-use Rattle.std.proofs.lemmas.Bool.{eq-eqb, leb-true, leb-false}
+use Rattle.std.proofs.lemmas.Bool.{eq-eqb, eqb-true, le-leb, leb-true, leb-false}
 use Rattle.std.proofs.lemmas.List.Elements.{All-contains, All-contains_itself}
 use Rattle.std.proofs.lemmas.Option.{slice_get_past}
 use Rattle.task_model.specs.Value.{ValueTerm, unit_value}
 use Rattle.task_model.specs.Env.{SlotTerm, plain_slot, place_slot}
-use Rattle.task_model.specs.Tree.{LaterTerm, TreeTerm, edit_tree, enter_tree, share_tree, then_tree, next_tree, fail_tree, and_tree, or_tree, xor_tree, at}
+use Rattle.task_model.specs.Tree.{LaterTerm, TreeTerm, edit_tree, enter_tree, share_tree, then_tree, next_tree, fail_tree, and_tree, or_tree, xor_tree, State, at}
 use Rattle.task_model.specs.Checked.{CheckedTerm}
 use Rattle.task_model.specs.Work.{Work}
-use Rattle.task_model.specs.Plan.{fails, Derives}
+use Rattle.task_model.specs.Plan.{fails, strides, settles, Derives}
 use Rattle.task_model.specs.Rules.{value_of, trial, side, rule_of}
 use Rattle.task_model.specs.Foot.{with_places, foot, among, AgreeOn}
-use Rattle.task_model.specs.Judgements.{Fails}
+use Rattle.task_model.specs.Judgements.{Fails, Strides, Settles}
 use Rattle.task_model.specs.Sign.{IsSign, Test, IsStepSign}
 use Rattle.task_model.specs.Offer.{OfferTerm, AreOffers}
 use Rattle.task_model.specs.Widget.{WidgetTerm, share_shape, here, AreWidgets}
 use Rattle.task_model.specs.declared.widget.Sign.{Sign}
 use Rattle.task_model.specs.declared.widget.Sign.TheVariants as signs
 use Rattle.task_laws.specs.TreePlaces.{slot_places, places_in}
+use Rattle.task_laws.specs.StoresGo.{StoresGo}
 use Rattle.task_laws.proofs.LikeLemmas.{work_alike}
-use Rattle.task_laws.proofs.TwinLemmas.{SlotsIn, TreeIn, slots_in_push, Frame, Twins, value_alike}
-use Rattle.task_laws.proofs.AlikeLemmas.{Pre, Post, steady, SameBool}
+use Rattle.task_laws.proofs.TwinLemmas.{by_cases, SlotsIn, TreeIn, slots_in_push, Frame, Twins, value_alike}
+use Rattle.task_laws.proofs.AlikeLemmas.{Alike, Pre, Post, steady, SameBool}
 use Rattle.task_laws.proofs.FrameLemmas.{like_test, all_alike}
 use Rattle.task_laws.proofs.FailingLemmas.{test_of}
 use Rattle.task_laws.proofs.PlaceLemmas.{among-append, among-foot, among-slots, contains-among, among-contains}
@@ -148,6 +149,34 @@ tree_within inside
       slots_within inside k.slots (λ n e. h n (among_right (slot_places j.slots) (slot_places k.slots) n e)),
     )
 
+-- what is inside has its places there
+module _ (inside : ℕ → Bool) where
+  -- the places of one part, and then those of another
+  either : (ns ms : List ℕ) → ((n : ℕ) → among ns n ≡ true → inside n ≡ true) → ((n : ℕ) → among ms n ≡ true → inside n ≡ true)
+      → (n : ℕ) → among (ns ++ ms) n ≡ true → inside n ≡ true
+  either ns ms p q n e = by_cases (among ns n) (p n)
+      (λ o. q n (sym (ap (λ b. cond b true (among ms n)) o) ∙ sym (among-append ns ms n) ∙ e))
+
+  one_place : (m : ℕ) → inside m ≡ true → (n : ℕ) → among (m ∷ []) n ≡ true → inside n ≡ true
+  one_place m h n e = by_cases (m == n) (λ q. subst (λ z. inside z ≡ true) (eqb-true m n q) h)
+      (λ q. let o = sym (ap (λ b. cond b true false) q) ∙ e in absurd (cc))
+
+  slots_reach : (ss : List SlotTerm) → SlotsIn inside ss → (n : ℕ) → among (slot_places ss) n ≡ true → inside n ≡ true
+  slots_reach [] h n e = absurd (cc)
+  slots_reach (plain_slot v ∷ ss) h n e = slots_reach ss h.1 n e
+  slots_reach (place_slot m ∷ ss) h n e = either (m ∷ []) (slot_places ss) (one_place m h.0) (slots_reach ss h.1) n e
+
+  tree_reach : (t : TreeTerm) → TreeIn inside t → (n : ℕ) → among (places_in t) n ≡ true → inside n ≡ true
+  tree_reach (edit_tree b v) h n e = absurd (cc)
+  tree_reach (enter_tree b) h n e = absurd (cc)
+  tree_reach (share_tree b m) h n e = one_place m h n e
+  tree_reach (then_tree t k) h n e = either (places_in t) (slot_places k.slots) (tree_reach t h.0) (slots_reach k.slots h.1) n e
+  tree_reach (next_tree t k) h n e = either (places_in t) (slot_places k.slots) (tree_reach t h.0) (slots_reach k.slots h.1) n e
+  tree_reach fail_tree h n e = absurd (cc)
+  tree_reach (and_tree t u) h n e = either (places_in t) (places_in u) (tree_reach t h.0) (tree_reach u h.1) n e
+  tree_reach (or_tree t u) h n e = either (places_in t) (places_in u) (tree_reach t h.0) (tree_reach u h.1) n e
+  tree_reach (xor_tree j k) h n e = either (slot_places j.slots) (slot_places k.slots) (slots_reach j.slots h.0) (slots_reach k.slots h.1) n e
+
 -- these places, and all that are new
 abbrev reached : List ℕ → ℕ → ℕ → Bool
 reached ns k n = cond (among ns n) true (nat_le k n)
@@ -173,6 +202,18 @@ reached-agree ns σ τ a n e = by_test (among ns n) refl e
         let le : length σ ≤ n = leb-true (length σ) n r in
         let le' : length τ ≤ n = omega arith in
         slice_get_past σ n le ∙ sym (slice_get_past τ n le')
+
+reached-new : (ns : List ℕ) (k n : ℕ) → k ≤ n → reached ns k n ≡ true
+reached-new ns k n l = by_test (among ns n)
+  where
+    by_test : (b : Bool) → cond b true (nat_le k n) ≡ true
+    by_test true = refl
+    by_test false = le-leb k n l
+
+reached-not : (ns : List ℕ) (k n : ℕ) → n < k → among ns n ≡ false → reached ns k n ≡ false
+reached-not ns k n l e = by_cases (nat_le k n)
+    (λ q. let le : k ≤ n = leb-true k n q in absurd (omega arith))
+    (λ q. ap (λ b. cond b true (nat_le k n)) e ∙ q)
 
 -- stores that agree on a list of places
 module _ (ns : List ℕ) (σ τ : List ValueTerm) (a : AgreeOn ns σ τ) where
@@ -237,6 +278,38 @@ module _ (ns : List ℕ) (σ τ : List ValueTerm) (a : AgreeOn ns σ τ) where
       widgets_alike c budget near τ σ early' early back there t ws held,
     )
 
+    -- what a stride, or settling, leaves
+    left_alike : (s : State) (τ' : List ValueTerm) → Alike forth s τ' → StoresGo ns σ τ s.store τ' × AgreeOn (foot s.tree) s.store τ'
+    left_alike s τ' h =
+        let g = h.stores in (
+          record {
+            lengths = g.lengths;
+            grown = g.grown;
+            agreeing = λ n r. g.within n (reached-among ns (length σ) n r);
+            new = λ n l. g.within n (reached-new ns (length σ) n l);
+            left = λ n l r. g.left n (reached-not ns (length σ) n l r);
+            right = λ n l r. g.right n (reached-not ns (length σ) n l r);
+          },
+          record {
+            lengths = g.lengths;
+            values = λ n r. g.within n (tree_reach near s.tree h.tree n (sym (among-foot s.tree n) ∙ r));
+          },
+        )
+
+    strides_frame : (c : CheckedTerm) (s : State) (n h : ℕ) → Strides c (at t σ) s n h
+        → (τ' : List ValueTerm) × Strides c (at t τ) (at s.tree τ') n h × StoresGo ns σ τ s.store τ' × AgreeOn (foot s.tree) s.store τ'
+    strides_frame c s n h d =
+        let z = all_alike forth c d.0 (strides (at t σ)) τ (record { tree = held; stores = there }) s n h d.1 in
+        let w = left_alike s z.0 z.2 in
+        (z.0, (d.0, z.1), w.0, w.1)
+
+    settles_frame : (c : CheckedTerm) (s : State) (n h : ℕ) → Settles c (at t σ) s n h
+        → (τ' : List ValueTerm) × Settles c (at t τ) (at s.tree τ') n h × StoresGo ns σ τ s.store τ' × AgreeOn (foot s.tree) s.store τ'
+    settles_frame c s n h d =
+        let z = all_alike forth c d.0 (settles (at t σ)) τ (record { tree = held; stores = there }) s n h d.1 in
+        let w = left_alike s z.0 z.2 in
+        (z.0, (d.0, z.1), w.0, w.1)
+
 -- ---- from a foot, and from the places of slots
 module _ (t : TreeTerm) (σ τ : List ValueTerm) (a : AgreeOn (foot t) σ τ) where
   foot-of : (n : ℕ) → among (places_in t) n ≡ true → among (foot t) n ≡ true
@@ -247,6 +320,14 @@ module _ (t : TreeTerm) (σ τ : List ValueTerm) (a : AgreeOn (foot t) σ τ) wh
 
   pub foot_fails : (c : CheckedTerm) (b : Bool) (n h : ℕ) → Fails c (at t σ) b n h ↔ Fails c (at t τ) b n h
   foot_fails c b n h = fails_frame (foot t) σ τ a t foot-of c b n h
+
+  pub foot_strides : (c : CheckedTerm) (s : State) (n h : ℕ) → Strides c (at t σ) s n h
+      → (τ' : List ValueTerm) × Strides c (at t τ) (at s.tree τ') n h × StoresGo (foot t) σ τ s.store τ' × AgreeOn (foot s.tree) s.store τ'
+  foot_strides c s n h d = strides_frame (foot t) σ τ a t foot-of c s n h d
+
+  pub foot_settles : (c : CheckedTerm) (s : State) (n h : ℕ) → Settles c (at t σ) s n h
+      → (τ' : List ValueTerm) × Settles c (at t τ) (at s.tree τ') n h × StoresGo (foot t) σ τ s.store τ' × AgreeOn (foot s.tree) s.store τ'
+  foot_settles c s n h d = settles_frame (foot t) σ τ a t foot-of c s n h d
 
   pub foot_offers : (c : CheckedTerm) (budget : ℕ) (os : List OfferTerm) → AreOffers c budget t σ os ↔ AreOffers c budget t τ os
   foot_offers c budget os = offers_frame (foot t) σ τ a t foot-of c budget os

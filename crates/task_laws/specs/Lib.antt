@@ -2,3 +2,4 @@ pub mod TreePlaces
 pub mod ActsAt
 pub mod ProgramNodes
 pub mod BodyFronts
+pub mod StoresGo

@@ -6,7 +6,7 @@ ghost use Rattle.task_model.specs.Tree.{LaterTerm, TreeTerm, State, at};
 ghost use Rattle.task_model.specs.Foot.{with_places, foot, AgreeOn};
 ghost use Rattle.task_model.specs.Checked.{CheckedTerm, body_first};
 ghost use Rattle.task_model.specs.Rules.{value_of, side, trial};
-ghost use Rattle.task_model.specs.Judgements.{Fails, IsWithinBudget};
+ghost use Rattle.task_model.specs.Judgements.{Fails, Strides, Settles, IsWithinBudget};
 ghost use Rattle.task_model.specs.Input.{ActTerm, InputTerm};
 ghost use Rattle.task_model.specs.Work.{gives};
 ghost use Rattle.task_model.specs.Handling.{Handled};
@@ -32,6 +32,7 @@ ghost use Rattle.task_model.specs.Sign.{Test};
 ghost use Rattle.task_model.specs.Offer.{next_offer, OfferTerm, AreOffers, SomeMatches};
 ghost use Rattle.task_model.specs.Widget.{WidgetTerm, AreWidgets};
 ghost use Rattle.task_laws.specs.TreePlaces.{places_in};
+ghost use Rattle.task_laws.specs.StoresGo.{StoresGo};
 
 /// A tree's foot has exactly the places that are in the tree, in increasing order and each once. Two stores agree on it
 /// where they have the same length and the same values at these places.
@@ -59,6 +60,18 @@ pub fn foot_frames_tests()
     ensures side { (c : CheckedTerm) (k : LaterTerm) (σ τ : List ValueTerm) →
         AgreeOn (with_places k.slots []) σ τ →
         (failing : Bool) (n h : ℕ) → Test c (side c k σ) failing n h ↔ Test c (side c k τ) failing n h }
+{}
+
+/// Where a tree makes a stride, or settles, over one store, it does so over each store that agrees with that one on its foot: it comes
+/// to the same tree, in the same number of units and at the same height. It reads and writes the places of the foot and new ones
+/// alone, and alike in both, so the stores then agree on the new tree's foot.
+pub fn foot_frames_strides()
+    ensures strides { (c : CheckedTerm) (t : TreeTerm) (σ τ : List ValueTerm) → AgreeOn (foot t) σ τ →
+        (s : State) (n h : ℕ) → Strides c (at t σ) s n h →
+        (τ' : List ValueTerm) × Strides c (at t τ) (at s.tree τ') n h × StoresGo (foot t) σ τ s.store τ' × AgreeOn (foot s.tree) s.store τ' }
+    ensures settling { (c : CheckedTerm) (t : TreeTerm) (σ τ : List ValueTerm) → AgreeOn (foot t) σ τ →
+        (s : State) (n h : ℕ) → Settles c (at t σ) s n h →
+        (τ' : List ValueTerm) × Settles c (at t τ) (at s.tree τ') n h × StoresGo (foot t) σ τ s.store τ' × AgreeOn (foot s.tree) s.store τ' }
 {}
 
 /// Over stores that agree on a tree's foot the tree has the same offers and the same widgets.

@@ -5,7 +5,7 @@
 mod laws;
 
 pub use laws::{
-    failing_offers_nothing, foot_frames_offers_and_widgets, foot_frames_tests,
+    failing_offers_nothing, foot_frames_offers_and_widgets, foot_frames_strides, foot_frames_tests,
     foot_frames_values_and_failing, foot_is_in_order, inputs_act_at_their_address,
     next_stands_alone, nodes_before_bodies, nodes_have_places, offered_or_not, one_page,
     prefixes_are_legal, written_programs_are_placed,

@@ -32,13 +32,14 @@ fn counted(
 #[test]
 fn the_lines_of_one_piece_are_answered_in_one_write(rt: HostRuntime) -> Result<(), Fail> {
     let script = b"a\nb\nc\nd\ne\nf\n";
-    let table: [(usize, usize, u64, usize); 6] = [
+    let table: [(usize, usize, u64, usize); 7] = [
         (99, 3, 1, 18),
         (6, 3, 2, 18),
         (4, 3, 3, 18),
         (1, 3, 6, 18),
         (99, 0, 0, 0),
-        (99, 40000, 3, 240000),
+        (99, 8191, 1, 49146),
+        (99, 8192, 6, 49152),
     ];
     for (piece, size, writes, bytes) in table {
         assert_eq!(rt;
@@ -49,6 +50,15 @@ fn the_lines_of_one_piece_are_answered_in_one_write(rt: HostRuntime) -> Result<(
     assert_eq!(rt;
         counted(rt.alloc(), b"a\nb\nc", 99, 3)?,
         (Finish::Done, 2, 9)
+    );
+    assert_eq!(rt;
+        counted(
+            rt.alloc(),
+            b"a\nb\nc\nd\ne\nf\ng\nh\ni\nj\nk\nl\n",
+            99,
+            8000
+        )?,
+        (Finish::Done, 2, 96000)
     );
     Ok(())
 }
