@@ -1,54 +1,7 @@
 //! What programs do: steps, choices, stores and branches.
 
 /// Programs with transcripts, in blocks as `Block` (block.rt) has them.
-pub(crate) const PROGRAMS: &str = r#"task main() : int = enter int >>? x . edit (x + 1)
-= 0
-> 1 . set 4
-taken 1
-> 1 . next
-taken 2
-> 1 show
-version 2 seat 1
-. edit int 5
-
-task main() : int = enter int >>? x . if x > 3 then edit x else fail int
-= 0
-> 1 . set 2
-taken 1
-> 1 . next
-not offered
-> 1 show
-version 1 seat 1
-. step
-. edit int 2
-
-task main() : int = enter int >>= x . if x > 3 then edit x else fail int
-= 0
-> 1 . set 2
-taken 1
-> 1 show
-version 1 seat 1
-. then
-. edit int 2
-> 1 . set 5
-taken 2
-> 1 show
-version 2 seat 1
-. edit int 5
-
-task main() : int = (enter int >>? x . edit x) >>? y . edit (y * 2)
-= 0
-> 1 . set 3
-taken 1
-> 1 . next
-taken 2
-> 1 . next
-taken 3
-> 1 show
-version 3 seat 1
-. edit int 6
-
-task main() : int = (edit 1 <&> edit 2) >>? p . edit (fst p + snd p)
+pub(crate) const PROGRAMS: &str = r#"task main() : int = (edit 1 <&> edit 2) >>? p . edit (fst p + snd p)
 = 0
 > 1 show
 version 0 seat 1
@@ -80,19 +33,6 @@ task main() : bool = edit 1 >>= x . t("a") task t(s : text) : bool = edit s >>= 
 version 0 seat 1
 . edit bool true
 
-task main() : int = edit 1 <?> fail int
-= 0
-> 1 show
-version 0 seat 1
-. pick left
-> 1 . right
-not offered
-> 1 . left
-taken 1
-> 1 show
-version 1 seat 1
-. edit int 1
-
 task main() : int = fail int <?> edit 1
 = 0
 > 1 show
@@ -107,18 +47,6 @@ taken 1
 > 1 show
 version 1 seat 1
 . edit int 1
-
-task main() : int = enter int <|> enter int
-= 0
-> 1 .S set 3
-taken 1
-> 1 .S set 4
-not offered
-> 1 . set 4
-taken 2
-> 1 show
-version 2 seat 1
-. edit int 4
 
 task main() : int = edit 1 <|> edit 2
 = 0
@@ -175,16 +103,6 @@ version 1 seat 1
 . and
 .F edit int 3
 .S share int 3
-
-task main() : (int, int) = new r = 1 in share r <&> share r
-= 0
-> 1 .F set 9
-taken 1
-> 2 show
-version 1 seat 2
-. and
-.F share int 9
-.S share int 9
 
 task main() : (int, int) = (new a = 1 in share a) <&> (new b = 2 in share b)
 = 0
