@@ -7,3 +7,8 @@ mod SoakLemmas
 mod ReportLemmas
 mod WorkLemmas
 mod PromiseLemmas
+mod CompleteLemmas
+mod EntryLines
+mod SmallTypes
+mod SmallTrees
+mod ReplayLemmas

@@ -8,3 +8,5 @@ pub mod Worked
 pub mod Sources
 pub mod Went
 pub mod Promise
+pub mod Complete
+pub mod Replay

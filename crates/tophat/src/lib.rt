@@ -15,7 +15,7 @@ mod type_fault;
 mod verdict;
 mod work;
 
-pub use laws::one_report;
+pub use laws::{all_lines_are_answered, histories_are_replayed, one_report};
 pub use no_world::NoWorld;
 pub use opening::open_bytes;
 pub use refusal::Refusal;

@@ -4,6 +4,7 @@ ghost use Rattle.command_words.specs.Commands.{command_of};
 ghost use Rattle.tophat.specs.Top.{limits, named};
 ghost use Rattle.tophat.specs.Went.{FailedBy, Went};
 ghost use Rattle.tophat.specs.Promise.{Promised};
+ghost use Rattle.tophat.specs.Complete.{Completes};
 
 use crate::work::{named_file, work};
 use command_words::read_command;
@@ -47,6 +48,12 @@ pub fn tophat<F: Files, I: Source, O: Sink, E: Sink>(
     // A call that fails ends the run, and no other end hides it: at 5 one request or read failed, at 6 one write, and else none.
     ensures faults { FailedBy result (record { before = F.faults files.old; now = F.faults files.new })
         (record { before = I.faults input.old; now = I.faults input.new }) (record { before = O.faults out.old; now = O.faults out.new }) }
+
+    // Where the objects tell their bytes and no count rose, a run of an accepted program that opens, on lines that are all in the grammar,
+    // answers every line, at status 0, unless memory runs out.
+    ensures complete { Completes limits (command_of words.now) (F.holds files.old (named (command_of words.now))) (I.left input.old)
+        (O.taken out.old) (O.taken out.new)
+        (Rose (F.faults files.old) (F.faults files.new) ⊎ (Rose (I.faults input.old) (I.faults input.new) ⊎ Rose (O.faults out.old) (O.faults out.new))) result }
 {
     let asked = read_command(alloc, words);
     let ending = work::<F, I, O, Brand>(alloc, &asked, files, input, out, Blank::new(1));

@@ -3,6 +3,7 @@ use Rattle.outer_io.specs.Sink.{Wrote}
 use Rattle.command_words.specs.Commands.{command_of}
 use Rattle.tophat.specs.Top.{limits}
 use Rattle.tophat.proofs.PromiseLemmas.{promised, usage_is, named_text}
+use Rattle.tophat.proofs.CompleteLemmas.{went_complete}
 use Rattle.tophat.proofs.WorkLemmas.{heard, is_read_fault, is_write_fault, failed_by}
 use Rattle.tophat.proofs.top.tophat.Goals as goal
 
@@ -55,3 +56,6 @@ returns-clause-write_fault g c = λ e.
 pub returns-clause-faults : goal.returns-clause-faults
 returns-clause-faults g c = failed_by c.work-ending.result _ _ _ _ c.status.ensures c.work-ending.ensures.file_count
     c.work-ending.ensures.input_count c.work-ending.ensures.output_count
+
+pub returns-clause-complete : goal.returns-clause-complete
+returns-clause-complete g c = went_complete _ _ _ _ _ _ _ _ _ _ _ _ _ _ _ (returns-clause-went g c)
