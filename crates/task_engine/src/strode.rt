@@ -6,13 +6,13 @@ ghost use Rattle.task_model.specs.Task.{body_term};
 ghost use Rattle.task_model.specs.Tree as trees;
 ghost use Rattle.task_model.specs.Tree.{TreeTerm, cont_term, tree_term};
 ghost use Rattle.task_model.specs.Rules as rules;
-ghost use Rattle.task_engine.specs.Strides.{after_stride};
+ghost use Rattle.task_engine.specs.Strides.{after_stride, Calm};
 
 use shared_store::Store;
 use std::alloc::Global;
 use std::sync::Arc;
 use task_model::{
-    Body, Cont, OutOfMemory, TaskText, Tree, Value, copy_cont, copy_tree, share, shared,
+    Body, Cont, OutOfMemory, Reads, TaskText, Tree, Value, copy_cont, copy_tree, share, shared,
 };
 use task_tree::{has_value, value};
 
@@ -51,13 +51,32 @@ fn strode_part(
     }
 }
 
-/// Whether the tree after a stride has a value.
+/// Whether the tree after a stride has a value. Where it is as it was, no choice in it has one, so none is walked again.
 pub(crate) fn strode_has_value(strode: &Option<Tree>, old: &Tree, store: &Store<Value>) -> bool
+    requires calm { strode.now ≡ None → Calm (tree_term old.now) (map value_term store.now.list) }
     ensures { result ≡ is_some (rules.value_of (after_stride (tree_term old.now) strode.now) (map value_term store.now.list)) }
 {
     match strode {
         Some(t) => has_value(t, store),
-        None => has_value(old, store),
+        None => calm_has_value(old, store),
+    }
+}
+
+// Whether a tree has a value in which no choice has one.
+fn calm_has_value(t: &Tree, store: &Store<Value>) -> bool
+    requires { Calm (tree_term t.now) (map value_term store.now.list) }
+    ensures { result ≡ is_some (rules.value_of (tree_term t.now) (map value_term store.now.list)) }
+{
+    match t {
+        Tree::Edit(..) => true,
+        Tree::Share(_, place) => *place < store.count(),
+        Tree::And(a, b) => calm_has_value(a, store) && calm_has_value(b, store),
+        Tree::Or(..) => false,
+        Tree::Enter(_) => false,
+        Tree::Then(..) => false,
+        Tree::Next(..) => false,
+        Tree::Fail => false,
+        Tree::Xor(..) => false,
     }
 }
 
@@ -142,10 +161,12 @@ pub(crate) fn or_of(
     b: &Arc<Tree>,
     store: &Store<Value>,
 ) -> Result<Option<Tree>, OutOfMemory>
+    requires calm { u ≡ None → Calm (tree_term (arc_value b.now)) (map value_term store.now.list) }
     ensures tree { IfOk result (λ o. after_stride (trees.or_tree (tree_term (arc_value a.now)) (tree_term (arc_value b.now))) o
         ≡ rules.or_of (rules.value_of (after_stride (tree_term (arc_value b.now)) u) (map value_term store.now.list))
         (after_stride (tree_term (arc_value a.now)) t) (after_stride (tree_term (arc_value b.now)) u)) }
     ensures none { IfOk result (λ o. o ≡ None → (t ≡ None) × (u ≡ None)) }
+    ensures valueless { IfOk result (λ o. o ≡ None → rules.value_of (after_stride (tree_term (arc_value b.now)) u) (map value_term store.now.list) ≡ None) }
 {
     if strode_has_value(&u, b, store) {
         Ok(Some(strode_tree(u, b)?))

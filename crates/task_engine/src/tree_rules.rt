@@ -12,7 +12,7 @@ ghost use Rattle.task_model.specs.Rules as rules;
 ghost use Rattle.task_model.specs.Calls.{RunsJudgement, RunsPlan};
 ghost use Rattle.typing_laws.specs.Well.{MayAsk, Well};
 ghost use Rattle.host_eval.specs.NamesTerm.{names_term};
-ghost use Rattle.task_engine.specs.Strides.{after_stride, state_at, attempt, Binds, BindsNone, AnswersStride};
+ghost use Rattle.task_engine.specs.Strides.{Calm, after_stride, state_at, attempt, Binds, BindsNone, AnswersStride};
 
 use crate::engine::Engine;
 use crate::evaluation::evaluate_at;
@@ -318,6 +318,7 @@ pub(crate) fn stride_at(
     ensures height { OnOk result (purse.new.height ≡ purse.old.height) }
     ensures layers { store.new.layers ≡ store.old.layers }
     ensures kept { IfOk result (λ o. o ≡ None → store.new.list ≡ store.old.list) }
+    ensures calm { IfOk result (λ o. o ≡ None → Calm (tree_term t.now) (map value_term store.new.list)) }
     ensures asked { RunsJudgement (checked_term engine.now) (strides (at (tree_term t.now) (map value_term store.old.list))) (λ o. at (after_stride (tree_term t.now) o) (map value_term store.new.list)) purse.old purse.new result }
 {
     let height = purse.height_left();
@@ -340,6 +341,7 @@ fn stride_form(
     ensures height { OnOk result (purse.new.height ≡ purse.old.height) }
     ensures layers { store.new.layers ≡ store.old.layers }
     ensures kept { IfOk result (λ o. o ≡ None → store.new.list ≡ store.old.list) }
+    ensures calm { IfOk result (λ o. o ≡ None → Calm (tree_term t.now) (map value_term store.new.list)) }
     ensures ran { RunsPlan (checked_term engine.now) (rules.stride_rule (checked_term engine.now) (tree_term t.now) (map value_term store.old.list)) (λ o. at (after_stride (tree_term t.now) o) (map value_term store.new.list)) purse.old purse.new result }
 {
     match t {
@@ -387,6 +389,7 @@ fn and_form(
     ensures height { OnOk result (purse.new.height ≡ purse.old.height) }
     ensures layers { store.new.layers ≡ store.old.layers }
     ensures kept { IfOk result (λ o. o ≡ None → store.new.list ≡ store.old.list) }
+    ensures calm { IfOk result (λ o. o ≡ None → Calm (trees.and_tree (tree_term (arc_value a.now)) (tree_term (arc_value b.now))) (map value_term store.new.list)) }
     ensures ran { RunsPlan (checked_term engine.now) (rules.stride_rule (checked_term engine.now) (trees.and_tree (tree_term (arc_value a.now)) (tree_term (arc_value b.now))) (map value_term store.old.list)) (λ o. at (after_stride (trees.and_tree (tree_term (arc_value a.now)) (tree_term (arc_value b.now))) o) (map value_term store.new.list)) purse.old purse.new result }
 {
     let t = stride_at(engine, a, store, purse)?;
@@ -407,6 +410,7 @@ fn or_form(
     ensures height { OnOk result (purse.new.height ≡ purse.old.height) }
     ensures layers { store.new.layers ≡ store.old.layers }
     ensures kept { IfOk result (λ o. o ≡ None → store.new.list ≡ store.old.list) }
+    ensures calm { IfOk result (λ o. o ≡ None → Calm (trees.or_tree (tree_term (arc_value a.now)) (tree_term (arc_value b.now))) (map value_term store.new.list)) }
     ensures ran { RunsPlan (checked_term engine.now) (rules.stride_rule (checked_term engine.now) (trees.or_tree (tree_term (arc_value a.now)) (tree_term (arc_value b.now))) (map value_term store.old.list)) (λ o. at (after_stride (trees.or_tree (tree_term (arc_value a.now)) (tree_term (arc_value b.now))) o) (map value_term store.new.list)) purse.old purse.new result }
 {
     let t = stride_at(engine, a, store, purse)?;
@@ -450,14 +454,18 @@ fn fired(
     requires accepted { IsAccepted (checked_term engine.now) }
     requires well { Well (checked_term engine.now) (rules.fired (checked_term engine.now) (rules.value_of (after_stride (tree_term left.now) strode) (map value_term store.old.list)) (cont_term k.now) (at (after_stride (tree_term left.now) strode) (map value_term store.old.list))) }
     requires bound { Binds (checked_term engine.now) (cont_term k.now).body }
+    requires calm { strode ≡ None → Calm (tree_term left.now) (map value_term store.old.list) }
     ensures height { OnOk result (purse.new.height ≡ purse.old.height) }
     ensures layers { store.new.layers ≡ store.old.layers }
     ensures kept { IfOk result (λ o. o ≡ None → (strode ≡ None) × (store.new.list ≡ store.old.list)) }
     ensures ran { RunsPlan (checked_term engine.now) (rules.fired (checked_term engine.now) (rules.value_of (after_stride (tree_term left.now) strode) (map value_term store.old.list)) (cont_term k.now) (at (after_stride (tree_term left.now) strode) (map value_term store.old.list))) (λ o. at (after_stride (trees.then_tree (tree_term left.now) (cont_term k.now)) o) (map value_term store.new.list)) purse.old purse.new result }
 {
+    if !strode_has_value(&strode, left, store) {
+        return Ok(then_of(engine.alloc(), strode, k)?);
+    }
     let value = strode_value(engine.alloc(), &strode, left, store)?;
     match value {
-        None => Ok(then_of(engine.alloc(), strode, k)?),
+        None => unreachable!(),
         Some(v) => fired_at(engine, left, strode, v, k, store, purse),
     }
 }

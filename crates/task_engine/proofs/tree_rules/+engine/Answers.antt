@@ -17,7 +17,7 @@ use Rattle.host_eval.proofs.RunLemmas.{ran_is, ran_known_ok}
 use Rattle.host_eval.proofs.WellLemmas.{well_is, well_found}
 use Rattle.typing_laws.proofs.CallLemmas.{well_rule, well_ask, well_next, well_first, well_after, well_known}
 use Rattle.task_engine.specs.Strides.{after_stride}
-use Rattle.task_engine.proofs.StrideLemmas.{may_fail, may_stride, well_fails, well_strides, may_stride_on, well_stride_on, sides_bind, then_binds, side_env, restored, same_store, fired_is, attempt_is, with_some, with_none, asked_judged, ran_kept, judged_none, judged_some, judged_keeps, none_moved, some_moved, ran_strode}
+use Rattle.task_engine.proofs.StrideLemmas.{may_fail, may_stride, well_fails, well_strides, may_stride_on, well_stride_on, sides_bind, then_binds, side_env, restored, same_store, fired_is, attempt_is, with_some, with_none, asked_judged, ran_kept, judged_none, judged_some, judged_keeps, none_moved, some_moved, none_is, valueless, calm_on, step_calm, ran_strode}
 use Rattle.task_engine.proofs.tree_rules.+engine.Goals as goal
 
 -- ---- under a rule
@@ -286,21 +286,41 @@ pub normal_at-normal_form-requires : goal.normal_at-normal_form-requires
 normal_at-normal_form-requires t c =
     (search rules, (c.requires.accepted, well_rule c.requires.accepted c.requires.may))
 
+pub stride_form-returns-in-Edit-clause-calm : goal.stride_form-returns-in-Edit-clause-calm
+stride_form-returns-in-Edit-clause-calm t c =
+    rw c.in-Edit.is (λ e. tt)
+
 pub stride_form-returns-in-Edit-clause-ran : goal.stride_form-returns-in-Edit-clause-ran
 stride_form-returns-in-Edit-clause-ran t c =
     rw c.in-Edit.is (ran_give refl)
+
+pub stride_form-returns-in-Enter-clause-calm : goal.stride_form-returns-in-Enter-clause-calm
+stride_form-returns-in-Enter-clause-calm t c =
+    rw c.in-Enter.is (λ e. tt)
 
 pub stride_form-returns-in-Enter-clause-ran : goal.stride_form-returns-in-Enter-clause-ran
 stride_form-returns-in-Enter-clause-ran t c =
     rw c.in-Enter.is (ran_give refl)
 
+pub stride_form-returns-in-Share-clause-calm : goal.stride_form-returns-in-Share-clause-calm
+stride_form-returns-in-Share-clause-calm t c =
+    rw c.in-Share.is (λ e. tt)
+
 pub stride_form-returns-in-Share-clause-ran : goal.stride_form-returns-in-Share-clause-ran
 stride_form-returns-in-Share-clause-ran t c =
     rw c.in-Share.is (ran_give refl)
 
+pub stride_form-returns-in-Fail-clause-calm : goal.stride_form-returns-in-Fail-clause-calm
+stride_form-returns-in-Fail-clause-calm t c =
+    rw c.in-Fail.is (λ e. tt)
+
 pub stride_form-returns-in-Fail-clause-ran : goal.stride_form-returns-in-Fail-clause-ran
 stride_form-returns-in-Fail-clause-ran t c =
     rw c.in-Fail.is (ran_give refl)
+
+pub stride_form-returns-in-Xor-clause-calm : goal.stride_form-returns-in-Xor-clause-calm
+stride_form-returns-in-Xor-clause-calm t c =
+    rw c.in-Xor.is (λ e. tt)
 
 pub stride_form-returns-in-Xor-clause-ran : goal.stride_form-returns-in-Xor-clause-ran
 stride_form-returns-in-Xor-clause-ran t c =
@@ -310,6 +330,10 @@ pub stride_form-then_form-requires : goal.stride_form-then_form-requires
 stride_form-then_form-requires t c =
     (search rules, (c.requires.accepted, rw c.deref.ensures (may_stride (ap tree_term c.in-Then.is) c.requires.may)))
 
+pub stride_form-returns-in-Then-clause-calm : goal.stride_form-returns-in-Then-clause-calm
+stride_form-returns-in-Then-clause-calm t c =
+    rw c.in-Then.is (step_calm _)
+
 pub stride_form-returns-in-Then-clause-ran : goal.stride_form-returns-in-Then-clause-ran
 stride_form-returns-in-Then-clause-ran t c =
     rw (c.in-Then.is, ← c.deref.ensures) c.then_form.ensures.ran
@@ -317,6 +341,10 @@ stride_form-returns-in-Then-clause-ran t c =
 pub stride_form-next_form-requires : goal.stride_form-next_form-requires
 stride_form-next_form-requires t c =
     (search rules, (c.requires.accepted, rw c.deref-in-Next.ensures (may_stride (ap tree_term c.in-Next.is) c.requires.may)))
+
+pub stride_form-returns-in-Next-clause-calm : goal.stride_form-returns-in-Next-clause-calm
+stride_form-returns-in-Next-clause-calm t c =
+    rw c.in-Next.is (step_calm _)
 
 pub stride_form-returns-in-Next-clause-ran : goal.stride_form-returns-in-Next-clause-ran
 stride_form-returns-in-Next-clause-ran t c =
@@ -326,6 +354,10 @@ pub stride_form-and_form-requires : goal.stride_form-and_form-requires
 stride_form-and_form-requires t c =
     (search rules, (c.requires.accepted, may_stride (ap tree_term c.in-And.is) c.requires.may))
 
+pub stride_form-returns-in-And-clause-calm : goal.stride_form-returns-in-And-clause-calm
+stride_form-returns-in-And-clause-calm t c =
+    rw c.in-And.is c.and_form.ensures.calm
+
 pub stride_form-returns-in-And-clause-ran : goal.stride_form-returns-in-And-clause-ran
 stride_form-returns-in-And-clause-ran t c =
     rw c.in-And.is c.and_form.ensures.ran
@@ -333,6 +365,10 @@ stride_form-returns-in-And-clause-ran t c =
 pub stride_form-or_form-requires : goal.stride_form-or_form-requires
 stride_form-or_form-requires t c =
     (search rules, (c.requires.accepted, may_stride (ap tree_term c.in-Or.is) c.requires.may))
+
+pub stride_form-returns-in-Or-clause-calm : goal.stride_form-returns-in-Or-clause-calm
+stride_form-returns-in-Or-clause-calm t c =
+    rw c.in-Or.is c.or_form.ensures.calm
 
 pub stride_form-returns-in-Or-clause-ran : goal.stride_form-returns-in-Or-clause-ran
 stride_form-returns-in-Or-clause-ran t c =
@@ -364,9 +400,32 @@ and_form-returns-clause-ran t c =
     ran_ask _ (rw c.deref.ensures at c.in_ok-t.ensures.asked) (ran_ask _ (rw c.deref-2.ensures at c.in_ok-u.ensures.asked)
     (ran_strode _ c.in_ok-and_of.ensures.tree))
 
+pub and_form-returns-clause-calm : goal.and_form-returns-clause-calm
+and_form-returns-clause-calm t c = λ e.
+    let none = c.in_ok-and_of.ensures.none e in (
+      calm_on _ (c.in_ok-u.ensures.kept none.1) (rw c.deref.ensures at c.in_ok-t.ensures.calm none.0),
+      rw c.deref-2.ensures at c.in_ok-u.ensures.calm none.1,
+    )
+
 pub or_form-stride_at-requires : goal.or_form-stride_at-requires
 or_form-stride_at-requires t c =
     (search rules, (c.requires.accepted, rw c.deref.ensures (well_ask (well_strides _ c.requires.accepted c.requires.may))))
+
+pub or_form-strode_has_value-requires : goal.or_form-strode_has_value-requires
+or_form-strode_has_value-requires t c =
+    record { calm = rw c.deref-2.ensures (rw c.deref.ensures at c.in_ok-t.ensures.calm) }
+
+pub or_form-or_of-requires : goal.or_form-or_of-requires
+or_form-or_of-requires t c =
+    record { calm = rw c.deref-else-strode_has_value.ensures at c.in_ok-u.ensures.calm }
+
+pub or_form-returns-in_ok-or_of-clause-calm : goal.or_form-returns-in_ok-or_of-clause-calm
+or_form-returns-in_ok-or_of-clause-calm t c = λ e.
+    let none = c.in_ok-or_of.ensures.none e in
+    let left = none_is _ (sym (rw c.deref-2.ensures at c.strode_has_value.ensures) ∙ c.if-strode_has_value.false) in (
+      valueless _ none.0 (c.in_ok-u.ensures.kept none.1) left,
+      valueless _ none.1 refl (c.in_ok-or_of.ensures.valueless e),
+    )
 
 pub or_form-returns-in_ok-strode_tree-clause-ran : goal.or_form-returns-in_ok-strode_tree-clause-ran
 or_form-returns-in_ok-strode_tree-clause-ran t c =
@@ -392,18 +451,18 @@ then_form-stride_at-requires t c =
 
 pub then_form-fired-requires : goal.then_form-fired-requires
 then_form-fired-requires t c =
-    (search rules, (c.requires.accepted, (well_next c.requires.accepted (well_strides _ c.requires.accepted c.requires.may) c.in_ok-strode.ensures.asked, then_binds _ _ c.requires.accepted c.requires.may)))
+    (search rules, (c.requires.accepted, (well_next c.requires.accepted (well_strides _ c.requires.accepted c.requires.may) c.in_ok-strode.ensures.asked, (then_binds _ _ c.requires.accepted c.requires.may, c.in_ok-strode.ensures.calm))))
 
 pub then_form-returns-clause-ran : goal.then_form-returns-clause-ran
 then_form-returns-clause-ran t c =
     ran_ask _ c.in_ok-strode.ensures.asked c.fired.ensures.ran
 
 -- ---- a trial
-pub fired-returns-in_ok-then_of-in-None-clause-ran : goal.fired-returns-in_ok-then_of-in-None-clause-ran
-fired-returns-in_ok-then_of-in-None-clause-ran t c =
+pub fired-returns-then-not-strode_has_value-clause-ran : goal.fired-returns-then-not-strode_has_value-clause-ran
+fired-returns-then-not-strode_has_value-clause-ran t c =
     let fire : Option ValueTerm → Plan State = λ o. fired (checked_term c.args.engine.now) o (cont_term c.args.k.now) (at (after_stride (tree_term c.args.left.now) c.args.strode) (map value_term c.args.store.now.list)) in
-    let is = rw c.in-None.is at c.in_ok-value.ensures in
-    ran_is (ap fire (sym is)) (ran_strode _ (c.in_ok-then_of-in-None.ensures.tree _))
+    let is = none_is _ (sym c.strode_has_value.ensures ∙ c.if-not-strode_has_value.true) in
+    ran_is (ap fire is) (ran_strode _ (c.in_ok-then_of.ensures.tree _))
 
 pub fired-fired_at-requires : goal.fired-fired_at-requires
 fired-fired_at-requires t c =
@@ -411,8 +470,8 @@ fired-fired_at-requires t c =
     let is = rw c.in-Some.is at c.in_ok-value.ensures in
     (search rules, (c.requires.accepted, (well_is (ap fire (sym is)) c.requires.well, c.requires.bound)))
 
-pub fired-returns-in-Some-clause-ran : goal.fired-returns-in-Some-clause-ran
-fired-returns-in-Some-clause-ran t c =
+pub fired-returns-clause-ran : goal.fired-returns-clause-ran
+fired-returns-clause-ran t c =
     let fire : Option ValueTerm → Plan State = λ o. fired (checked_term c.args.engine.now) o (cont_term c.args.k.now) (at (after_stride (tree_term c.args.left.now) c.args.strode) (map value_term c.args.store.now.list)) in
     let is = rw c.in-Some.is at c.in_ok-value.ensures in
     ran_is (ap fire (sym is)) c.fired_at.ensures.ran
