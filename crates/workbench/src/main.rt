@@ -3,8 +3,13 @@
 #![tactic(auto)]
 
 mod checked_programs;
+mod deed;
+mod engines;
 mod evaluated_programs;
+mod events;
+mod inputs;
 mod programs;
+mod rule_programs;
 mod work;
 mod worlds;
 
@@ -29,7 +34,7 @@ fn main(rt: HostRuntime) -> io::Result<()> {
     };
     let Some(work) = Work::named(work.as_str()) else {
         return rt.println(
-            "workbench: the first word is text, list, tokens, program, parameters, parameter, definitions, parentheses, small, deep, names, calls, sums, elements, joins, pages or html",
+            "workbench: the first word is text, list, tokens, program, parameters, parameter, definitions, parentheses, small, deep, names, calls, sums, elements, joins, pages, html, set-pairs, set-choices, board, soak, loops, tasks, stride-pairs, stride-choices, stride-chain, trial, next-steps, next-choices, side-steps or side-choices",
         );
     };
     let (Ok(size), Ok(times)) = (

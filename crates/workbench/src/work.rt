@@ -1,4 +1,5 @@
 use crate::checked_programs::{deep_of, names_of, small_of};
+use crate::deed::Deed;
 use crate::evaluated_programs::{calls_of, elements_of, joins_of, sums_of};
 use crate::programs::{definitions_of, parameter_of, parameters_of, parentheses_of, program_of};
 use crate::worlds::{forms_of, pages_drawn};
@@ -10,7 +11,7 @@ use task_model::{Face, Purse, TaskText};
 use task_reader::read_program;
 use task_syntax::lex;
 
-/// What is read.
+/// What is read, or done.
 #[derive(Clone, Copy)]
 pub(crate) enum Work {
     /// The literal of a text of so many letters.
@@ -47,6 +48,8 @@ pub(crate) enum Work {
     Pages,
     /// The same with the HTML page.
     Html,
+    /// A program is opened, and goes on by its rules.
+    Deed(Deed),
 }
 
 impl Work {
@@ -69,7 +72,10 @@ impl Work {
             "joins" => Some(Work::Joins),
             "pages" => Some(Work::Pages),
             "html" => Some(Work::Html),
-            _ => None,
+            _ => match Deed::named(word) {
+                Some(deed) => Some(Work::Deed(deed)),
+                None => None,
+            },
         }
     }
 
@@ -91,6 +97,7 @@ impl Work {
             Work::Elements => elements_of(alloc, size),
             Work::Joins => joins_of(alloc, size),
             Work::Pages | Work::Html => forms_of(alloc, size),
+            Work::Deed(deed) => deed.source(alloc, size),
         }
     }
 
@@ -99,6 +106,7 @@ impl Work {
         match self {
             Work::Pages => pages_drawn(alloc, source, Face::Text, times),
             Work::Html => pages_drawn(alloc, source, Face::Html, times),
+            Work::Deed(deed) => deed.done(alloc, source, times),
             _ => self.times_answered(alloc, source, times),
         }
     }
