@@ -1,4 +1,4 @@
--- The program of a soak and its inputs (docs/FORMATS.md, "generated inputs").
+-- The program of a soak and its inputs (docs/FORMATS.md, "The soak generator").
 use Rattle.std.specs.Prelude.{ℕ, zero, suc, ◌+◌, ◌-◌, ◌*◌, ◌/◌, ◌%◌, ◌^◌, pos, List, [], ◌∷◌, ◌++◌, codes, decimal, replicate}
 use Rattle.task_model.specs.Text.{Text}
 use Rattle.task_model.specs.Value.{int_value}
