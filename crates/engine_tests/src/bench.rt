@@ -1,12 +1,13 @@
 use crate::parts::step_in;
 use crate::runs::{applied, first_started, main_started, settled, strode};
+use observe_inputs::offers;
 use shared_store::Store;
 use std::alloc::Global;
 use std::marker::Model;
 use std::sync::ledger::Ledger;
 use task_engine::{Engine, failing, test_next, test_side};
 use task_model::{
-    Checked, OutOfMemory, Purse, Sign, Steps, Stop, Tree, Value, copy_value, value_has,
+    Checked, Offer, OutOfMemory, Purse, Row, Sign, Steps, Stop, Tree, Value, copy_value, value_has,
 };
 
 /// A program with a store and, where a call has led to one, a tree that fits it over that store.
@@ -191,6 +192,17 @@ impl Bench {
                 Some(test_side(&self.engine, side, &mut self.store, budget, steps))
             }
             _ => None,
+        }
+    }
+    /// The offers of the tree.
+    pub fn offers<L: Ledger>(
+        &mut self,
+        budget: u32,
+        steps: &mut Steps<L>,
+    ) -> Option<Result<Row<Offer>, OutOfMemory>> {
+        match &self.tree {
+            None => None,
+            Some(t) => Some(offers(&self.engine, t, &mut self.store, budget, steps)),
         }
     }
 }

@@ -18,7 +18,8 @@ pub(crate) struct Step<'t> {
 
 // The type of an editor.
 fn edited(t: &Tree) -> Option<&Basic>
-    ensures { IfSome result (λ b. (c : CheckedTerm) (Σ : List BasicTerm) (a : BasicTerm) → TreeHas c Σ (tree_term t.now) a → a ≡ basic_term b.now) }
+    ensures { IfSome result
+        (λ b. (c : CheckedTerm) (Σ : List BasicTerm) (a : BasicTerm) → TreeHas c Σ (tree_term t.now) a → a ≡ basic_term b.now) }
 {
     match t {
         Tree::Edit(b, _) => Some(b),
@@ -31,7 +32,9 @@ fn edited(t: &Tree) -> Option<&Basic>
 /// The first step of a tree, in pre-order, whose left part is an editor.
 #[cycle(steps)]
 pub(crate) fn step_in(t: &Tree) -> Option<Step<'_>>
-    ensures { IfSome result (λ s. (c : CheckedTerm) (σ : List ValueTerm) → Fits c (at (tree_term t.now) σ) → StepFits c (cont_term s.cont.now) (basic_term s.takes.now) σ) }
+    ensures { IfSome result
+        (λ s. (c : CheckedTerm) (σ : List ValueTerm) → Fits c (at (tree_term t.now) σ) → StepFits c (cont_term s.cont.now)
+        (basic_term s.takes.now) σ) }
 {
     match t {
         Tree::Then(left, cont) => match edited(left) {

@@ -1,16 +1,15 @@
 //! Tables of programs and of calls on them, each with its exact units and height.
 //!
-//! Each block of lines begins with a program. Each further line is a change of layers, or a call with the units and the height that it takes,
-//! the word that it answers, if any, the tree behind it, and the store's values with its layers, the newest first. A call stands behind the
-//! lines above it. It is tried with just that work, and with a unit and a rule less, where it has to be over; one that answers `over` with
-//! that work alone. A test takes units alone. Behind `clear` the bench is as it was new.
+//! Each block of lines begins with a program. Each further line is a change of layers, or a call with the units and the height that it
+//! takes, the word that it answers, if any, the tree behind it, and the store's values with its layers, the newest first. A call stands
+//! behind the lines above it. It is tried with just that work, and with a unit and a rule less, where it has to be over; one that answers
+//! `over` with that work alone. A test takes units alone. Behind `clear` the bench is as it was new.
 
 ghost use Rattle.std.specs.Prelude.{◌≡◌, ◌<◌};
 
 use crate::Bench;
 use answering::{Answer, answered, done, is_test};
 use eval_tests::repeated;
-use host_types::check;
 use showing::{layers_text, state_text};
 use std::alloc::Global;
 use std::marker::Brand;
@@ -18,24 +17,14 @@ use std::process::Abort;
 use std::sync::ledger::{Blank, Ledger};
 use std::test::Fail;
 use std::thread;
-use task_model::{Checked, OutOfMemory, Steps};
-use task_reader::read_program;
+use task_model::{OutOfMemory, Steps};
+use test_texts::accepted;
 
 mod answering;
 mod deep;
 mod rules;
 mod showing;
 mod worked;
-
-fn checked(alloc: Global, source: &str) -> Result<Checked, OutOfMemory> {
-    match read_program(alloc, source.as_bytes()) {
-        Ok(read) => match check(alloc, read.program) {
-            Ok(checked) => Ok(checked),
-            Err(_) => Err(OutOfMemory),
-        },
-        Err(_) => Err(OutOfMemory),
-    }
-}
 
 // The bench behind these lines.
 fn replay(alloc: Global, bench: &mut Bench, lines: &str) -> Result<(), OutOfMemory> {
@@ -168,7 +157,7 @@ fn counted_differences<L: Ledger>(
     let mut lines = String::new(alloc);
     let (program, calls) = text.split_once('\n').unwrap_or((text, ""));
     let source = repeated(alloc, program)?;
-    let mut bench = Bench::new(alloc, checked(alloc, source.as_str())?)?;
+    let mut bench = Bench::new(alloc, accepted(alloc, source.as_str())?)?;
     for line in calls.split('\n') {
         let told = difference(alloc, &mut bench, lines.as_str(), line, &mut steps)?;
         all.push_str(told.as_str())?;
@@ -214,6 +203,12 @@ fn single_rules(rt: HostRuntime) -> Result<(), Fail> {
     Ok(())
 }
 
+#[test]
+fn deep_programs(rt: HostRuntime) -> Result<(), Fail> {
+    assert_right(&rt, deep::DEEP)?;
+    Ok(())
+}
+
 // Whether nothing differs from the table of what is deep.
 fn is_deep_enough(alloc: Global) -> bool {
     match differences(alloc, deep::DEEP) {
@@ -223,7 +218,7 @@ fn is_deep_enough(alloc: Global) -> bool {
 }
 
 #[test]
-fn deep_programs(rt: HostRuntime) -> Result<(), Fail> {
+fn deep_programs_on_another_thread(rt: HostRuntime) -> Result<(), Fail> {
     let alloc = rt.alloc();
     let other = thread::spawn(&rt, move || is_deep_enough(alloc))?;
     assert!(rt; other.join(&rt));

@@ -13,11 +13,12 @@ ghost use Rattle.task_model.specs.Calls.{RunsPlan};
 ghost use Rattle.typing_laws.specs.Well.{Well};
 ghost use Rattle.host_eval.specs.NamesTerm.{names_term};
 ghost use Rattle.task_engine.specs.Fitting.{ContFits, SideFits};
+ghost use Rattle.task_engine.specs.Stores.{values_in, state_in};
 
 use host_eval::Names;
 use shared_store::Store;
-use task_engine::{Engine, failing, normalise};
-use task_model::{Body, Cont, Delay, Purse, Slot, Stop, Task, TaskText, Tree, Value};
+use task_engine::{Engine, binder_of, failing, normalise};
+use task_model::{Cont, Delay, Purse, Slot, Stop, Task, Tree, Value};
 
 /// A user step goes on with its cont at the value of its left, unless that is failing.
 pub(crate) fn stepped(
@@ -28,15 +29,17 @@ pub(crate) fn stepped(
     purse: &mut Purse,
 ) -> Result<Option<Tree>, Stop>
     requires accepted { IsAccepted (checked_term engine.now) }
-    requires fits { ContFits (checked_term engine.now) (cont_term k.now) (value_term v) (map value_term store.old.list) }
+    requires fits { ContFits (checked_term engine.now) (cont_term k.now) (value_term v) (values_in store.old) }
     ensures height { OnOk result (purse.new.height ≡ purse.old.height) }
     ensures layers { store.new.layers ≡ store.old.layers }
-    ensures ran { RunsPlan (checked_term engine.now) (model.unless_failing (checked_term engine.now) (cont_term k.now).body ((cont_term k.now).slots ++ plain_slot (value_term v) ∷ []) (map value_term store.old.list)) (option_map (λ u. at (tree_term u) (map value_term store.new.list))) purse.old purse.new result }
+    ensures ran { RunsPlan (checked_term engine.now)
+        (model.unless_failing (checked_term engine.now) (cont_term k.now).body ((cont_term k.now).slots ++ plain_slot (value_term v) ∷ [])
+        (values_in store.old)) (option_map (state_in store.new)) purse.old purse.new result }
 {
     let own = engine.body(k.body);
     let slot = Slot::Plain(v);
     let outer = Names::of_scope(&own.scope, k.slots.as_slice(), engine.body_first(k.body));
-    let names = outer.with(name_of(own), &slot);
+    let names = outer.with(binder_of(own), &slot);
     unless_failing(engine, &own.task, &names, store, purse)
 }
 
@@ -48,10 +51,12 @@ pub(crate) fn side_taken(
     purse: &mut Purse,
 ) -> Result<Option<Tree>, Stop>
     requires accepted { IsAccepted (checked_term engine.now) }
-    requires fits { SideFits (checked_term engine.now) (delay_term k.now) (map value_term store.old.list) }
+    requires fits { SideFits (checked_term engine.now) (delay_term k.now) (values_in store.old) }
     ensures height { OnOk result (purse.new.height ≡ purse.old.height) }
     ensures layers { store.new.layers ≡ store.old.layers }
-    ensures ran { RunsPlan (checked_term engine.now) (model.unless_failing (checked_term engine.now) (delay_term k.now).body (delay_term k.now).slots (map value_term store.old.list)) (option_map (λ u. at (tree_term u) (map value_term store.new.list))) purse.old purse.new result }
+    ensures ran { RunsPlan (checked_term engine.now)
+        (model.unless_failing (checked_term engine.now) (delay_term k.now).body (delay_term k.now).slots (values_in store.old))
+        (option_map (state_in store.new)) purse.old purse.new result }
 {
     let own = engine.body(k.body);
     let names = Names::of_scope(&own.scope, k.slots.as_slice(), engine.body_first(k.body));
@@ -67,23 +72,16 @@ fn unless_failing(
     purse: &mut Purse,
 ) -> Result<Option<Tree>, Stop>
     requires accepted { IsAccepted (checked_term engine.now) }
-    requires well { Well (checked_term engine.now) (ask (normal (task_term t.now) (names_term names.now) (map value_term store.old.list)) (λ s. ask (fails s) (λ no. branch no (give None) (give (Some s))))) }
+    requires well { Well (checked_term engine.now)
+        (ask (normal (task_term t.now) (names_term names.now) (values_in store.old))
+        (λ s. ask (fails s) (λ no. branch no (give None) (give (Some s))))) }
     ensures height { OnOk result (purse.new.height ≡ purse.old.height) }
     ensures layers { store.new.layers ≡ store.old.layers }
-    ensures ran { RunsPlan (checked_term engine.now) (ask (normal (task_term t.now) (names_term names.now) (map value_term store.old.list)) (λ s. ask (fails s) (λ no. branch no (give None) (give (Some s))))) (option_map (λ u. at (tree_term u) (map value_term store.new.list))) purse.old purse.new result }
+    ensures ran { RunsPlan (checked_term engine.now)
+        (ask (normal (task_term t.now) (names_term names.now) (values_in store.old))
+        (λ s. ask (fails s) (λ no. branch no (give None) (give (Some s))))) (option_map (state_in store.new)) purse.old purse.new result }
 {
     let u = normalise(engine, t, names, store, purse)?;
     let no = failing(engine, &u, store, purse)?;
     if no { Ok(None) } else { Ok(Some(u)) }
-}
-
-// The name that a step's body binds.
-fn name_of(own: &Body) -> &TaskText
-    requires { IsSome (body_term own.now).binder }
-    ensures { (body_term own.now).binder ≡ Some result.now }
-{
-    match &own.binder {
-        Some(name) => name,
-        None => unreachable!(),
-    }
 }

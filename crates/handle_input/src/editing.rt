@@ -31,7 +31,9 @@ fn typed<'a>(b: &Basic, v: &'a Value) -> Option<&'a Value>
 /// An editor with the value that an input puts into it.
 pub(crate) fn edited(b: &Basic, path: &[Turn], act: &Act) -> Result<Option<Tree>, OutOfMemory>
     ensures held { IfOk result (λ o. IfSome o (λ t. IsHeldAct (act_term act.now))) }
-    ensures edited { IfOk result (λ o. option_map tree_term o ≡ words.edited_tree (basic_term b.now) (words.value_put (basic_term b.now) path.now (act_term act.now))) }
+    ensures edited { IfOk result
+        (λ o. option_map tree_term o
+        ≡ words.edited_tree (basic_term b.now) (words.value_put (basic_term b.now) path.now (act_term act.now))) }
 {
     let Some(v) = value_put(b, path, act) else {
         return Ok(None);
@@ -52,7 +54,8 @@ pub(crate) fn edited_place(
     ensures held { IfOk result (λ o. IfSome o (λ t. IsHeldAct (act_term act.now))) }
     ensures layers { store.new.layers ≡ store.old.layers }
     ensures written { IfOk result (λ o. option_map (λ u. at (tree_term u) (map value_term store.new.list)) o
-        ≡ words.edited_state (basic_term b.now) place (map value_term store.old.list) (words.value_put (basic_term b.now) path.now (act_term act.now))) }
+        ≡ words.edited_state (basic_term b.now) place (map value_term store.old.list)
+        (words.value_put (basic_term b.now) path.now (act_term act.now))) }
 {
     let Some(v) = value_put(b, path, act) else {
         return Ok(None);

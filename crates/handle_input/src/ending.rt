@@ -14,7 +14,8 @@ pub(crate) fn ended(
     ensures answer { plan_answer result ≡ answer }
     ensures layers { (σ : List values.Value) (below : List (List values.Value)) → store.old.layers ≡ σ ∷ below → store.new.layers ≡ below }
     ensures kept { OnOk result (store.new.list ≡ store.old.list) }
-    ensures undone { (σ : List values.Value) (below : List (List values.Value)) → store.old.layers ≡ σ ∷ below → OnErr result (store.new.list ≡ σ) }
+    ensures undone { (σ : List values.Value) (below : List (List values.Value)) → store.old.layers ≡ σ ∷ below
+        → OnErr result (store.new.list ≡ σ) }
 {
     match answer {
         Ok(Some(t)) => {

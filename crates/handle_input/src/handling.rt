@@ -13,14 +13,15 @@ ghost use Rattle.task_model.specs.Checked.{CheckedTerm, checked_term};
 ghost use Rattle.task_model.specs.Fits.{Fits};
 ghost use Rattle.task_model.specs.Calls.{RunsPlan};
 ghost use Rattle.task_engine.specs.Fitting.{SideFits};
+ghost use Rattle.task_engine.specs.Stores.{values_in, state_in};
 ghost use Rattle.handle_input.specs.Editing.{picked_side};
 
 use crate::bodies::{side_taken, stepped};
 use crate::editing::{edited, edited_place};
-use crate::rebuilding::{and_first, and_second, in_next, in_then, or_first, or_second};
+use crate::rebuilding::{in_first, in_second, in_step};
 use shared_store::Store;
 use std::sync::Arc;
-use task_engine::Engine;
+use task_engine::{Engine, PairKind, StepKind};
 use task_model::{Act, Cont, Delay, OutOfMemory, Purse, Stop, Tree, Turn, Value};
 use task_tree::value;
 
@@ -37,11 +38,13 @@ pub(crate) fn handled(
     purse: &mut Purse,
 ) -> Result<Option<Tree>, Stop>
     requires accepted { IsAccepted (checked_term engine.now) }
-    requires fits { Fits (checked_term engine.now) (at (tree_term t.now) (map value_term store.old.list)) }
+    requires fits { Fits (checked_term engine.now) (state_in store.old t.now) }
     ensures held { IfOk result (λ o. IfSome o (λ t. IsHeldAct (act_term act.now))) }
     ensures height { OnOk result (purse.new.height ≡ purse.old.height) }
     ensures layers { store.new.layers ≡ store.old.layers }
-    ensures ran { RunsPlan (checked_term engine.now) (model.handled (checked_term engine.now) (tree_term t.now) (map value_term store.old.list) path.now (act_term act.now)) (option_map (λ u. at (tree_term u) (map value_term store.new.list))) purse.old purse.new result }
+    ensures ran { RunsPlan (checked_term engine.now)
+        (model.handled (checked_term engine.now) (tree_term t.now) (values_in store.old) path.now (act_term act.now))
+        (option_map (state_in store.new)) purse.old purse.new result }
 {
     match t {
         Tree::Edit(b, _) => Ok(edited(b, path, act)?),
@@ -49,7 +52,7 @@ pub(crate) fn handled(
         Tree::Share(b, place) => Ok(edited_place(b, *place, store, path, act)?),
         Tree::Then(left, k) => {
             let led = handled(engine, left, store, path, act, purse)?;
-            Ok(in_then(engine.alloc(), led, k)?)
+            Ok(in_step(engine.alloc(), StepKind::Then, led, k)?)
         }
         Tree::Next(left, k) => at_next(engine, left, k, store, path, act, purse),
         Tree::Fail => Ok(None),
@@ -58,11 +61,11 @@ pub(crate) fn handled(
             [turn, rest @ ..] => match turn {
                 Turn::First => {
                     let led = handled(engine, a, store, rest, act, purse)?;
-                    Ok(and_first(engine.alloc(), led, b)?)
+                    Ok(in_first(engine.alloc(), PairKind::And, led, b)?)
                 }
                 Turn::Second => {
                     let led = handled(engine, b, store, rest, act, purse)?;
-                    Ok(and_second(engine.alloc(), a, led)?)
+                    Ok(in_second(engine.alloc(), PairKind::And, a, led)?)
                 }
             },
         },
@@ -71,11 +74,11 @@ pub(crate) fn handled(
             [turn, rest @ ..] => match turn {
                 Turn::First => {
                     let led = handled(engine, a, store, rest, act, purse)?;
-                    Ok(or_first(engine.alloc(), led, b)?)
+                    Ok(in_first(engine.alloc(), PairKind::Or, led, b)?)
                 }
                 Turn::Second => {
                     let led = handled(engine, b, store, rest, act, purse)?;
-                    Ok(or_second(engine.alloc(), a, led)?)
+                    Ok(in_second(engine.alloc(), PairKind::Or, a, led)?)
                 }
             },
         },
@@ -95,18 +98,21 @@ fn at_next(
     purse: &mut Purse,
 ) -> Result<Option<Tree>, Stop>
     requires accepted { IsAccepted (checked_term engine.now) }
-    requires fits { Fits (checked_term engine.now) (at (trees.next_tree (tree_term (arc_value left.now)) (cont_term k.now)) (map value_term store.old.list)) }
+    requires fits { Fits (checked_term engine.now)
+        (at (trees.next_tree (tree_term (arc_value left.now)) (cont_term k.now)) (values_in store.old)) }
     ensures held { IfOk result (λ o. IfSome o (λ t. IsHeldAct (act_term act.now))) }
     ensures height { OnOk result (purse.new.height ≡ purse.old.height) }
     ensures layers { store.new.layers ≡ store.old.layers }
-    ensures ran { RunsPlan (checked_term engine.now) (model.handled (checked_term engine.now) (trees.next_tree (tree_term (arc_value left.now)) (cont_term k.now)) (map value_term store.old.list) path.now (act_term act.now)) (option_map (λ u. at (tree_term u) (map value_term store.new.list))) purse.old purse.new result }
+    ensures ran { RunsPlan (checked_term engine.now)
+        (model.handled (checked_term engine.now) (trees.next_tree (tree_term (arc_value left.now)) (cont_term k.now)) (values_in store.old)
+        path.now (act_term act.now)) (option_map (state_in store.new)) purse.old purse.new result }
 {
     let stopped = stopped(engine, left, store, path, act)?;
     match stopped {
         Some(v) => stepped(engine, k, v, store, purse),
         None => {
             let led = handled(engine, left, store, path, act, purse)?;
-            Ok(in_next(engine.alloc(), led, k)?)
+            Ok(in_step(engine.alloc(), StepKind::Next, led, k)?)
         }
     }
 }
@@ -120,7 +126,8 @@ fn stopped(
     act: &Act,
 ) -> Result<Option<Value>, OutOfMemory>
     ensures held { IfOk result (λ o. IfSome o (λ v. IsHeldAct (act_term act.now))) }
-    ensures value { IfOk result (λ v. option_map value_term v ≡ model.stopped path.now (act_term act.now) (value_of (tree_term left.now) (map value_term store.now.list))) }
+    ensures value { IfOk result
+        (λ v. option_map value_term v ≡ model.stopped path.now (act_term act.now) (value_of (tree_term left.now) (values_in store.now))) }
 {
     match (path, act) {
         ([], Act::Next) => value(engine.alloc(), left, store),
@@ -139,11 +146,14 @@ fn at_xor(
     purse: &mut Purse,
 ) -> Result<Option<Tree>, Stop>
     requires accepted { IsAccepted (checked_term engine.now) }
-    requires fits { Fits (checked_term engine.now) (at (trees.xor_tree (delay_term left.now) (delay_term right.now)) (map value_term store.old.list)) }
+    requires fits { Fits (checked_term engine.now)
+        (at (trees.xor_tree (delay_term left.now) (delay_term right.now)) (values_in store.old)) }
     ensures held { IfOk result (λ o. IfSome o (λ t. IsHeldAct (act_term act.now))) }
     ensures height { OnOk result (purse.new.height ≡ purse.old.height) }
     ensures layers { store.new.layers ≡ store.old.layers }
-    ensures ran { RunsPlan (checked_term engine.now) (model.handled (checked_term engine.now) (trees.xor_tree (delay_term left.now) (delay_term right.now)) (map value_term store.old.list) path.now (act_term act.now)) (option_map (λ u. at (tree_term u) (map value_term store.new.list))) purse.old purse.new result }
+    ensures ran { RunsPlan (checked_term engine.now)
+        (model.handled (checked_term engine.now) (trees.xor_tree (delay_term left.now) (delay_term right.now)) (values_in store.old)
+        path.now (act_term act.now)) (option_map (state_in store.new)) purse.old purse.new result }
 {
     match side(left, right, path, act) {
         Some(picked) => side_taken(engine, picked, store, purse),
@@ -154,8 +164,10 @@ fn at_xor(
 // The side of a choice that an input picks.
 fn side<'t>(left: &'t Delay, right: &'t Delay, path: &[Turn], act: &Act) -> Option<&'t Delay>
     ensures held { IfSome result (λ k. IsHeldAct (act_term act.now)) }
-    ensures fits { (c : CheckedTerm) (σ : List ValueTerm) → SideFits c (delay_term left.now) σ → SideFits c (delay_term right.now) σ → IfSome result (λ k. SideFits c (delay_term k.now) σ) }
-    ensures plan { (c : CheckedTerm) (σ : List ValueTerm) → model.handled c (trees.xor_tree (delay_term left.now) (delay_term right.now)) σ path.now (act_term act.now) ≡ picked_side c σ (option_map (λ k. delay_term k.now) result) }
+    ensures fits { (c : CheckedTerm) (σ : List ValueTerm) → SideFits c (delay_term left.now) σ → SideFits c (delay_term right.now) σ →
+        IfSome result (λ k. SideFits c (delay_term k.now) σ) }
+    ensures plan { (c : CheckedTerm) (σ : List ValueTerm) → model.handled c (trees.xor_tree (delay_term left.now) (delay_term right.now)) σ
+        path.now (act_term act.now) ≡ picked_side c σ (option_map (λ k. delay_term k.now) result) }
 {
     match (path, act) {
         ([], Act::Left) => Some(left),

@@ -32,7 +32,9 @@ pub fn handle(
     ensures layers { store.new.layers ≡ store.old.layers }
     ensures refused { OnErr result (store.new.list ≡ store.old.list) }
     ensures held { OnOk result (IsHeldAct (input_term input.now).act) }
-    ensures handles { Spends (model.Handled (checked_term engine.now) (at (tree_term t.now) (map value_term store.old.list)) (input_term input.now)) (option_map (λ u. at (tree_term u) (map value_term store.new.list))) purse.old purse.new (plan_answer result) }
+    ensures handles { Spends
+        (model.Handled (checked_term engine.now) (at (tree_term t.now) (map value_term store.old.list)) (input_term input.now))
+        (option_map (λ u. at (tree_term u) (map value_term store.new.list))) purse.old purse.new (plan_answer result) }
 {
     // The program of an engine is accepted.
     let _accepted = engine.checked().program();
@@ -55,7 +57,8 @@ pub fn interact(
     ensures layers { store.new.layers ≡ store.old.layers }
     ensures refused { OnErr result (store.new.list ≡ store.old.list) }
     ensures held { OnOk result (IsHeldAct (input_term input.now).act) }
-    ensures outcome { TellsOutcome (checked_term engine.now) budget (at (tree_term t.now) (map value_term store.old.list)) (input_term input.now) (map value_term store.new.list) result }
+    ensures outcome { TellsOutcome (checked_term engine.now) budget (at (tree_term t.now) (map value_term store.old.list))
+        (input_term input.now) (map value_term store.new.list) result }
 {
     // The program of an engine is accepted.
     let _accepted = engine.checked().program();
@@ -76,7 +79,9 @@ fn interacted(
     requires fits { Fits (checked_term engine.now) (at (tree_term t.now) (map value_term store.old.list)) }
     ensures held { IfOk result (λ o. IfSome o (λ t. IsHeldAct (input_term input.now).act)) }
     ensures layers { store.new.layers ≡ store.old.layers }
-    ensures ran { RunsPlan (checked_term engine.now) (model.interacts (checked_term engine.now) (at (tree_term t.now) (map value_term store.old.list)) (input_term input.now)) (option_map (λ u. at (tree_term u) (map value_term store.new.list))) purse.old purse.new result }
+    ensures ran { RunsPlan (checked_term engine.now)
+        (model.interacts (checked_term engine.now) (at (tree_term t.now) (map value_term store.old.list)) (input_term input.now))
+        (option_map (λ u. at (tree_term u) (map value_term store.new.list))) purse.old purse.new result }
 {
     let turns = input.path.turns.as_slice();
     let led = handled(engine, t, store, turns, &input.act, purse)?;
@@ -94,7 +99,8 @@ fn settled(
 ) -> Result<Option<Tree>, Stop>
     requires { Well (checked_term engine.now) (model.settled (Some (at (tree_term t) (map value_term store.old.list)))) }
     ensures layers { store.new.layers ≡ store.old.layers }
-    ensures ran { RunsPlan (checked_term engine.now) (model.settled (Some (at (tree_term t) (map value_term store.old.list)))) (option_map (λ u. at (tree_term u) (map value_term store.new.list))) purse.old purse.new result }
+    ensures ran { RunsPlan (checked_term engine.now) (model.settled (Some (at (tree_term t) (map value_term store.old.list))))
+        (option_map (λ u. at (tree_term u) (map value_term store.new.list))) purse.old purse.new result }
 {
     let u = settle(engine, t, store, purse)?;
     Ok(Some(u))

@@ -39,6 +39,12 @@ found_inside (z ∷ xs) (w ∷ vs) x y v e =
     ap (λ o. option_or o (cond (same_text z y) (Some w) None)) (found_inside xs vs x y v (omega arith))
     ∙ or_cond (same_text x y) (found xs vs y) (cond (same_text z y) (Some w) None) v
 
+-- behind one more name, which is the one that is looked for or isn't
+pub found_bound : {A : Type 0} (xs : List Text) (vs : List A) (x y : Text) (v : A) {b : Bool}
+    → length (xs ++ x ∷ []) ≡ length (vs ++ v ∷ []) → same_text x y ≡ b
+    → found (xs ++ x ∷ []) (vs ++ v ∷ []) y ≡ cond b (Some v) (found xs vs y)
+found_bound xs vs x y v e is = found_inside xs vs x y v (paired_outer xs vs x v e) ∙ ap (λ b. cond b (Some v) (found xs vs y)) is
+
 found_skip : {A : Type 0} (xs : List Text) (vs : List A) (i : ℕ) (x y : Text) → i < length xs → i < length vs → x ≡ get_or xs i x
     → same_text x y ≡ false → found (take (suc i) xs) (take (suc i) vs) y ≡ found (take i xs) (take i vs) y
 found_skip [] vs i x y lt lt' p e = absurd (omega arith)

@@ -36,9 +36,10 @@ pub well_found : {c : CheckedTerm} {X A : Type 0} (o : Option X) (f : X → Plan
 well_found o f w = let q = well_some o f w in subst IsSome (sym q.1) refl
 
 -- an expression's rule goes well
-pub well_arm : (c : CheckedTerm) (env : EnvTerm) (σ : List ValueTerm) {e f : HostTerm} → e ≡ f → IsAccepted c
+pub well_arm : {c : CheckedTerm} {env : EnvTerm} {σ : List ValueTerm} {e f : HostTerm} → e ≡ f → IsAccepted c
     → MayAsk c (gives_value e env σ) → Well c (value_rule c f env σ)
-well_arm c env σ {e = e} is accepted m = subst (λ g. Well c (value_rule c g env σ)) is (well_rule {q = gives_value e env σ} accepted m)
+well_arm {c = c} {env = env} {σ = σ} {e = e} is accepted m =
+    subst (λ g. Well c (value_rule c g env σ)) is (well_rule {q = gives_value e env σ} accepted m)
 
 pub stuck_never : {c : CheckedTerm} {A : Type 0} → Well {A = A} c stuck → ⊥
 stuck_never w = w.good
@@ -80,7 +81,8 @@ pub some_within : {X : Type 0} (xs : List X) (n : ℕ) → IsSome (slice_get xs 
 some_within xs n e = let q = some_is (slice_get xs n) e in slice_get_within xs n q.0 q.1
 
 -- ---- environments that fit
-slots_paired : (Σ : List BasicTerm) (ss : List SlotTerm) (qs : List ParamTerm) → SlotsHave Σ ss qs → length qs ≡ length ss
+-- slots that fit parameters are as many
+pub slots_paired : (Σ : List BasicTerm) (ss : List SlotTerm) (qs : List ParamTerm) → SlotsHave Σ ss qs → length qs ≡ length ss
 slots_paired Σ [] [] h = refl
 slots_paired Σ (s ∷ ss) (q ∷ qs) h = ap suc (slots_paired Σ ss qs h.1)
 slots_paired Σ [] (q ∷ qs) h = absurd h

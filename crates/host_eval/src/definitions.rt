@@ -8,7 +8,8 @@ use task_model::{DefBody, Host, Param, Program, TaskText};
 
 /// The parameters and the body of the function of a name, where its first definition is one.
 pub fn function_named<'a>(program: &'a Program, name: &TaskText) -> Option<(&'a [Param], &'a Host)>
-    ensures { function_in (map def_term program.now.defs.list) name.now ≡ option_map (λ f. function_term (map param_term f.0.now) (host_term f.1.now)) result }
+    ensures { function_in (map def_term program.now.defs.list) name.now
+        ≡ option_map (λ f. function_term (map param_term f.0.now) (host_term f.1.now)) result }
 {
     let mut rest = program.defs.as_slice();
     while let [def, more @ ..] = rest {

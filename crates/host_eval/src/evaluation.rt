@@ -36,8 +36,10 @@ pub fn eval<R: Reads>(
     purse: &mut Purse,
 ) -> Result<Value, Stop>
     requires fits { MayAsk (checked_term checked.now) (gives_value (host_term e.now) (names_term names.now) (R.values reads.now)) }
-    ensures spends { Spends (Gives (checked_term checked.now) (host_term e.now) (names_term names.now) (R.values reads.now)) value_term purse.old purse.new result }
-    ensures typed { (i : Typing) → ExpressionFits (checked_term checked.now) i (host_term e.now) (names_term names.now) (R.values reads.now) → IfOk result (λ v. value_has (value_term v) i.type ≡ true) }
+    ensures spends { Spends (Gives (checked_term checked.now) (host_term e.now) (names_term names.now) (R.values reads.now))
+        value_term purse.old purse.new result }
+    ensures typed { (i : Typing) → ExpressionFits (checked_term checked.now) i (host_term e.now) (names_term names.now) (R.values reads.now)
+        → IfOk result (λ v. value_has (value_term v) i.type ≡ true) }
 {
     // The program of a checked one is accepted.
     let _accepted = checked.program();
@@ -57,7 +59,8 @@ pub fn value_at<R: Reads>(
     requires accepted { IsAccepted (checked_term checked.now) }
     requires may { MayAsk (checked_term checked.now) (gives_value (host_term e.now) (names_term names.now) (R.values reads.now)) }
     ensures height { OnOk result (purse.new.height ≡ purse.old.height) }
-    ensures asked { RunsJudgement (checked_term checked.now) (gives_value (host_term e.now) (names_term names.now) (R.values reads.now)) value_term purse.old purse.new result }
+    ensures asked { RunsJudgement (checked_term checked.now) (gives_value (host_term e.now) (names_term names.now) (R.values reads.now))
+        value_term purse.old purse.new result }
 {
     let height = purse.height_left();
     purse.enter()?;
@@ -79,7 +82,8 @@ fn value_form<R: Reads>(
     requires accepted { IsAccepted (checked_term checked.now) }
     requires may { MayAsk (checked_term checked.now) (gives_value (host_term e.now) (names_term names.now) (R.values reads.now)) }
     ensures height { OnOk result (purse.new.height ≡ purse.old.height) }
-    ensures ran { RunsPlan (checked_term checked.now) (value_rule (checked_term checked.now) (host_term e.now) (names_term names.now) (R.values reads.now)) value_term purse.old purse.new result }
+    ensures ran { RunsPlan (checked_term checked.now) (value_rule (checked_term checked.now) (host_term e.now) (names_term names.now)
+        (R.values reads.now)) value_term purse.old purse.new result }
 {
     match e {
         Host::Unit => Ok(Value::Unit),
@@ -135,9 +139,11 @@ fn pair_form<R: Reads>(
     purse: &mut Purse,
 ) -> Result<Value, Stop>
     requires accepted { IsAccepted (checked_term checked.now) }
-    requires well { Well (checked_term checked.now) (value_rule (checked_term checked.now) (pair_expr (host_term a.now) (host_term b.now)) (names_term names.now) (R.values reads.now)) }
+    requires well { Well (checked_term checked.now) (value_rule (checked_term checked.now) (pair_expr (host_term a.now) (host_term b.now))
+        (names_term names.now) (R.values reads.now)) }
     ensures height { OnOk result (purse.new.height ≡ purse.old.height) }
-    ensures ran { RunsPlan (checked_term checked.now) (value_rule (checked_term checked.now) (pair_expr (host_term a.now) (host_term b.now)) (names_term names.now) (R.values reads.now)) value_term purse.old purse.new result }
+    ensures ran { RunsPlan (checked_term checked.now) (value_rule (checked_term checked.now) (pair_expr (host_term a.now) (host_term b.now))
+        (names_term names.now) (R.values reads.now)) value_term purse.old purse.new result }
 {
     let v = value_at(alloc, checked, a, names, reads, purse)?;
     let w = value_at(alloc, checked, b, names, reads, purse)?;
@@ -162,9 +168,11 @@ fn unary_form<R: Reads>(
     purse: &mut Purse,
 ) -> Result<Value, Stop>
     requires accepted { IsAccepted (checked_term checked.now) }
-    requires well { Well (checked_term checked.now) (ask (gives_value (host_term a.now) (names_term names.now) (R.values reads.now)) (λ v. known (computed form v) give)) }
+    requires well { Well (checked_term checked.now) (ask (gives_value (host_term a.now) (names_term names.now) (R.values reads.now))
+        (λ v. known (computed form v) give)) }
     ensures height { OnOk result (purse.new.height ≡ purse.old.height) }
-    ensures ran { RunsPlan (checked_term checked.now) (ask (gives_value (host_term a.now) (names_term names.now) (R.values reads.now)) (λ v. known (computed form v) give)) value_term purse.old purse.new result }
+    ensures ran { RunsPlan (checked_term checked.now) (ask (gives_value (host_term a.now) (names_term names.now) (R.values reads.now))
+        (λ v. known (computed form v) give)) value_term purse.old purse.new result }
 {
     let v = value_at(alloc, checked, a, names, reads, purse)?;
     Ok(computed(form, &v)?)
@@ -182,9 +190,11 @@ fn op_form<R: Reads>(
     purse: &mut Purse,
 ) -> Result<Value, Stop>
     requires accepted { IsAccepted (checked_term checked.now) }
-    requires well { Well (checked_term checked.now) (op_rule (checked_term checked.now) op (host_term a.now) (host_term b.now) (names_term names.now) (R.values reads.now)) }
+    requires well { Well (checked_term checked.now) (op_rule (checked_term checked.now) op (host_term a.now) (host_term b.now)
+        (names_term names.now) (R.values reads.now)) }
     ensures height { OnOk result (purse.new.height ≡ purse.old.height) }
-    ensures ran { RunsPlan (checked_term checked.now) (op_rule (checked_term checked.now) op (host_term a.now) (host_term b.now) (names_term names.now) (R.values reads.now)) value_term purse.old purse.new result }
+    ensures ran { RunsPlan (checked_term checked.now) (op_rule (checked_term checked.now) op (host_term a.now) (host_term b.now)
+        (names_term names.now) (R.values reads.now)) value_term purse.old purse.new result }
 {
     match decider(op) {
         Some(decided) => lazy_form(alloc, checked, decided, a, b, names, reads, purse),
@@ -205,9 +215,11 @@ fn lazy_form<R: Reads>(
     purse: &mut Purse,
 ) -> Result<Value, Stop>
     requires accepted { IsAccepted (checked_term checked.now) }
-    requires well { Well (checked_term checked.now) (lazy_plan decided (host_term a.now) (host_term b.now) (names_term names.now) (R.values reads.now)) }
+    requires well { Well (checked_term checked.now) (lazy_plan decided (host_term a.now) (host_term b.now) (names_term names.now)
+        (R.values reads.now)) }
     ensures height { OnOk result (purse.new.height ≡ purse.old.height) }
-    ensures ran { RunsPlan (checked_term checked.now) (lazy_plan decided (host_term a.now) (host_term b.now) (names_term names.now) (R.values reads.now)) value_term purse.old purse.new result }
+    ensures ran { RunsPlan (checked_term checked.now) (lazy_plan decided (host_term a.now) (host_term b.now) (names_term names.now)
+        (R.values reads.now)) value_term purse.old purse.new result }
 {
     let v = value_at(alloc, checked, a, names, reads, purse)?;
     let left = truth(&v);
@@ -230,9 +242,11 @@ fn strict_form<R: Reads>(
     purse: &mut Purse,
 ) -> Result<Value, Stop>
     requires accepted { IsAccepted (checked_term checked.now) }
-    requires well { Well (checked_term checked.now) (strict_plan op (host_term a.now) (host_term b.now) (names_term names.now) (R.values reads.now)) }
+    requires well { Well (checked_term checked.now) (strict_plan op (host_term a.now) (host_term b.now) (names_term names.now)
+        (R.values reads.now)) }
     ensures height { OnOk result (purse.new.height ≡ purse.old.height) }
-    ensures ran { RunsPlan (checked_term checked.now) (strict_plan op (host_term a.now) (host_term b.now) (names_term names.now) (R.values reads.now)) value_term purse.old purse.new result }
+    ensures ran { RunsPlan (checked_term checked.now) (strict_plan op (host_term a.now) (host_term b.now) (names_term names.now)
+        (R.values reads.now)) value_term purse.old purse.new result }
 {
     let v = value_at(alloc, checked, a, names, reads, purse)?;
     let w = value_at(alloc, checked, b, names, reads, purse)?;
@@ -251,9 +265,12 @@ fn let_form<R: Reads>(
     purse: &mut Purse,
 ) -> Result<Value, Stop>
     requires accepted { IsAccepted (checked_term checked.now) }
-    requires well { Well (checked_term checked.now) (value_rule (checked_term checked.now) (let_expr name.now (host_term a.now) (host_term rest.now)) (names_term names.now) (R.values reads.now)) }
+    requires well { Well (checked_term checked.now) (value_rule (checked_term checked.now)
+        (let_expr name.now (host_term a.now) (host_term rest.now)) (names_term names.now) (R.values reads.now)) }
     ensures height { OnOk result (purse.new.height ≡ purse.old.height) }
-    ensures ran { RunsPlan (checked_term checked.now) (value_rule (checked_term checked.now) (let_expr name.now (host_term a.now) (host_term rest.now)) (names_term names.now) (R.values reads.now)) value_term purse.old purse.new result }
+    ensures ran { RunsPlan (checked_term checked.now) (value_rule (checked_term checked.now)
+        (let_expr name.now (host_term a.now) (host_term rest.now)) (names_term names.now) (R.values reads.now))
+        value_term purse.old purse.new result }
 {
     let v = value_at(alloc, checked, a, names, reads, purse)?;
     let slot = Slot::Plain(v);
@@ -273,9 +290,12 @@ fn if_form<R: Reads>(
     purse: &mut Purse,
 ) -> Result<Value, Stop>
     requires accepted { IsAccepted (checked_term checked.now) }
-    requires well { Well (checked_term checked.now) (value_rule (checked_term checked.now) (if_expr (host_term test.now) (host_term yes.now) (host_term no.now)) (names_term names.now) (R.values reads.now)) }
+    requires well { Well (checked_term checked.now) (value_rule (checked_term checked.now)
+        (if_expr (host_term test.now) (host_term yes.now) (host_term no.now)) (names_term names.now) (R.values reads.now)) }
     ensures height { OnOk result (purse.new.height ≡ purse.old.height) }
-    ensures ran { RunsPlan (checked_term checked.now) (value_rule (checked_term checked.now) (if_expr (host_term test.now) (host_term yes.now) (host_term no.now)) (names_term names.now) (R.values reads.now)) value_term purse.old purse.new result }
+    ensures ran { RunsPlan (checked_term checked.now) (value_rule (checked_term checked.now)
+        (if_expr (host_term test.now) (host_term yes.now) (host_term no.now)) (names_term names.now) (R.values reads.now))
+        value_term purse.old purse.new result }
 {
     let v = value_at(alloc, checked, test, names, reads, purse)?;
     let holds = truth(&v);
@@ -300,9 +320,13 @@ fn case_form<R: Reads>(
     purse: &mut Purse,
 ) -> Result<Value, Stop>
     requires accepted { IsAccepted (checked_term checked.now) }
-    requires well { Well (checked_term checked.now) (value_rule (checked_term checked.now) (case_expr (host_term list.now) (host_term empty.now) head.now tail.now (host_term more.now)) (names_term names.now) (R.values reads.now)) }
+    requires well { Well (checked_term checked.now) (value_rule (checked_term checked.now)
+        (case_expr (host_term list.now) (host_term empty.now) head.now tail.now (host_term more.now)) (names_term names.now)
+        (R.values reads.now)) }
     ensures height { OnOk result (purse.new.height ≡ purse.old.height) }
-    ensures ran { RunsPlan (checked_term checked.now) (value_rule (checked_term checked.now) (case_expr (host_term list.now) (host_term empty.now) head.now tail.now (host_term more.now)) (names_term names.now) (R.values reads.now)) value_term purse.old purse.new result }
+    ensures ran { RunsPlan (checked_term checked.now) (value_rule (checked_term checked.now)
+        (case_expr (host_term list.now) (host_term empty.now) head.now tail.now (host_term more.now)) (names_term names.now)
+        (R.values reads.now)) value_term purse.old purse.new result }
 {
     let v = value_at(alloc, checked, list, names, reads, purse)?;
     let parts = HeadAndTail::of(alloc, &v)?;
@@ -328,9 +352,11 @@ fn list_form<R: Reads>(
     purse: &mut Purse,
 ) -> Result<Value, Stop>
     requires accepted { IsAccepted (checked_term checked.now) }
-    requires well { Well (checked_term checked.now) (value_rule (checked_term checked.now) (list_expr (as_exprs (map host_term items.now))) (names_term names.now) (R.values reads.now)) }
+    requires well { Well (checked_term checked.now) (value_rule (checked_term checked.now) (list_expr (as_exprs (map host_term items.now)))
+        (names_term names.now) (R.values reads.now)) }
     ensures height { OnOk result (purse.new.height ≡ purse.old.height) }
-    ensures ran { RunsPlan (checked_term checked.now) (value_rule (checked_term checked.now) (list_expr (as_exprs (map host_term items.now))) (names_term names.now) (R.values reads.now)) value_term purse.old purse.new result }
+    ensures ran { RunsPlan (checked_term checked.now) (value_rule (checked_term checked.now)
+        (list_expr (as_exprs (map host_term items.now))) (names_term names.now) (R.values reads.now)) value_term purse.old purse.new result }
 {
     let values = values_at(alloc, checked, items, names, reads, purse)?;
     Ok(list_of(alloc, values)?)
@@ -347,9 +373,11 @@ fn values_at<R: Reads>(
     purse: &mut Purse,
 ) -> Result<Row<Value>, Stop>
     requires accepted { IsAccepted (checked_term checked.now) }
-    requires well { Well (checked_term checked.now) (values_for (names_term names.now) (R.values reads.now) [] (as_exprs (map host_term items.now))) }
+    requires well { Well (checked_term checked.now) (values_for (names_term names.now) (R.values reads.now) []
+        (as_exprs (map host_term items.now))) }
     ensures height { OnOk result (purse.new.height ≡ purse.old.height) }
-    ensures ran { RunsPlan (checked_term checked.now) (values_for (names_term names.now) (R.values reads.now) [] (as_exprs (map host_term items.now))) (λ r. map value_term r.list) purse.old purse.new result }
+    ensures ran { RunsPlan (checked_term checked.now) (values_for (names_term names.now) (R.values reads.now) []
+        (as_exprs (map host_term items.now))) (λ r. map value_term r.list) purse.old purse.new result }
 {
     let mut values = Row::new(alloc);
     values.reserve(items.len())?;
@@ -373,10 +401,13 @@ fn call_form<R: Reads>(
     purse: &mut Purse,
 ) -> Result<Value, Stop>
     requires accepted { IsAccepted (checked_term checked.now) }
-    requires well { Well (checked_term checked.now) (value_rule (checked_term checked.now) (call_expr name.now (as_exprs (map host_term args.now))) (names_term names.now) (R.values reads.now)) }
+    requires well { Well (checked_term checked.now) (value_rule (checked_term checked.now)
+        (call_expr name.now (as_exprs (map host_term args.now))) (names_term names.now) (R.values reads.now)) }
     requires paired { IsPaired (names_term names.now) }
     ensures height { OnOk result (purse.new.height ≡ purse.old.height) }
-    ensures ran { RunsPlan (checked_term checked.now) (value_rule (checked_term checked.now) (call_expr name.now (as_exprs (map host_term args.now))) (names_term names.now) (R.values reads.now)) value_term purse.old purse.new result }
+    ensures ran { RunsPlan (checked_term checked.now) (value_rule (checked_term checked.now)
+        (call_expr name.now (as_exprs (map host_term args.now))) (names_term names.now) (R.values reads.now))
+        value_term purse.old purse.new result }
 {
     let (params, body) = callee(checked.program(), name);
     call_at(alloc, checked, params, body, args, names, reads, purse)
@@ -395,10 +426,12 @@ fn call_at<R: Reads>(
     purse: &mut Purse,
 ) -> Result<Value, Stop>
     requires accepted { IsAccepted (checked_term checked.now) }
-    requires well { Well (checked_term checked.now) (call_plan (host_term body.now) (map param_term params.now) (map host_term args.now) (names_term names.now) (R.values reads.now)) }
+    requires well { Well (checked_term checked.now) (call_plan (host_term body.now) (map param_term params.now) (map host_term args.now)
+        (names_term names.now) (R.values reads.now)) }
     requires paired { IsPaired (names_term names.now) }
     ensures height { OnOk result (purse.new.height ≡ purse.old.height) }
-    ensures ran { RunsPlan (checked_term checked.now) (call_plan (host_term body.now) (map param_term params.now) (map host_term args.now) (names_term names.now) (R.values reads.now)) value_term purse.old purse.new result }
+    ensures ran { RunsPlan (checked_term checked.now) (call_plan (host_term body.now) (map param_term params.now) (map host_term args.now)
+        (names_term names.now) (R.values reads.now)) value_term purse.old purse.new result }
 {
     purse.spend()?;
     let slots = slots_at(alloc, checked, args, params, names, reads, purse)?;
@@ -418,10 +451,12 @@ pub fn slots_at<R: Reads>(
     purse: &mut Purse,
 ) -> Result<Row<Slot>, Stop>
     requires accepted { IsAccepted (checked_term checked.now) }
-    requires well { Well (checked_term checked.now) (slots_for (names_term names.now) (R.values reads.now) [] (map host_term args.now) (map param_term params.now)) }
+    requires well { Well (checked_term checked.now) (slots_for (names_term names.now) (R.values reads.now) [] (map host_term args.now)
+        (map param_term params.now)) }
     requires paired { IsPaired (names_term names.now) }
     ensures height { OnOk result (purse.new.height ≡ purse.old.height) }
-    ensures ran { RunsPlan (checked_term checked.now) (slots_for (names_term names.now) (R.values reads.now) [] (map host_term args.now) (map param_term params.now)) (λ r. map slot_term r.list) purse.old purse.new result }
+    ensures ran { RunsPlan (checked_term checked.now) (slots_for (names_term names.now) (R.values reads.now) [] (map host_term args.now)
+        (map param_term params.now)) (λ r. map slot_term r.list) purse.old purse.new result }
 {
     let mut slots = Row::new(alloc);
     slots.reserve(args.len())?;
@@ -450,10 +485,12 @@ fn slot_at<R: Reads>(
     purse: &mut Purse,
 ) -> Result<Slot, Stop>
     requires accepted { IsAccepted (checked_term checked.now) }
-    requires well { Well (checked_term checked.now) (slot_for (names_term names.now) (R.values reads.now) (host_term arg.now) (kind_term kind.now) give) }
+    requires well { Well (checked_term checked.now) (slot_for (names_term names.now) (R.values reads.now) (host_term arg.now)
+        (kind_term kind.now) give) }
     requires paired { IsPaired (names_term names.now) }
     ensures height { OnOk result (purse.new.height ≡ purse.old.height) }
-    ensures ran { RunsPlan (checked_term checked.now) (slot_for (names_term names.now) (R.values reads.now) (host_term arg.now) (kind_term kind.now) give) slot_term purse.old purse.new result }
+    ensures ran { RunsPlan (checked_term checked.now) (slot_for (names_term names.now) (R.values reads.now) (host_term arg.now)
+        (kind_term kind.now) give) slot_term purse.old purse.new result }
 {
     match kind {
         Kind::Plain(_) => {

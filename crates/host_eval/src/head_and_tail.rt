@@ -27,7 +27,8 @@ impl HeadAndTail {
     }
 
     fn of_items(alloc: Global, items: &[Value]) -> Result<Option<HeadAndTail>, OutOfMemory>
-        ensures { IfOk result (λ o. words.list_parts (list_value (as_values (map value_term items.now))) ≡ Some (option_map head_and_tail o)) }
+        ensures { IfOk result (λ o. words.list_parts (list_value (as_values (map value_term items.now)))
+            ≡ Some (option_map head_and_tail o)) }
     {
         let [first, rest @ ..] = items else {
             return Ok(None);

@@ -89,7 +89,8 @@ pub(crate) fn place_slot(names: &Names, arg: &Host) -> Slot
 /// The parameters and the body of the function that a call names.
 pub(crate) fn callee<'a>(program: &'a Program, name: &TaskText) -> (&'a [Param], &'a Host)
     requires known { IsSome (words.function_in (map def_term program.now.defs.list) name.now) }
-    ensures { words.function_in (map def_term program.now.defs.list) name.now ≡ Some (words.function_term (map param_term result.0.now) (host_term result.1.now)) }
+    ensures { words.function_in (map def_term program.now.defs.list) name.now
+        ≡ Some (words.function_term (map param_term result.0.now) (host_term result.1.now)) }
 {
     match function_named(program, name) {
         Some(callee) => callee,

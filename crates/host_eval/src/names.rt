@@ -42,7 +42,12 @@ pub struct Names<'e> {
 impl<'e> Names<'e> {
     /// Parameters with a slot for each, in order.
     pub fn of_params(params: &'e [Param], slots: &'e [Slot], first: u64) -> Names<'e>
-        ensures { names_term result ≡ record { names = param_names (map param_term params.now); slots = map slot_term slots.now; first = first } }
+        ensures { names_term result ≡ record {
+          names = param_names (map param_term params.now);
+          slots = map slot_term slots.now;
+          first =
+              first;
+        } }
     {
         let links = Links::Parameters { params, slots };
         Names { links, first }

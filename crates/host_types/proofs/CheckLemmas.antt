@@ -41,7 +41,8 @@ seen_fault d bodies p stop e f s =
     record {
       by =
           subst (λ o. StopsBy o stop)
-          (ap (λ q. first_fault (demands_of q)) (same_program d bodies p e f) ∙ sym (first_unmet-listed (demands_of (program_term p)))) s.by;
+          (ap (λ q. first_fault (demands_of q)) (same_program d bodies p e f) ∙ sym (first_unmet-listed (demands_of (program_term p))))
+          s.by;
     }
 
 -- what a `?` passes on

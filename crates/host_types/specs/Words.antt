@@ -1,14 +1,17 @@
 -- Words for parts of the code.
-use Rattle.std.specs.Prelude.{ℕ, ◌+◌, List}
+use Rattle.std.specs.Prelude.{ℕ, ◌+◌, ◌==◌, List, Option}
 use Rattle.task_model.specs.Basic.{BasicTerm, bool_type, int_type}
 use Rattle.task_model.specs.Host.{HostTerm}
 use Rattle.task_model.specs.Program.{ParamTerm}
-use Rattle.task_model.specs.Names.{CallsTerm}
+use Rattle.task_model.specs.Names.{CallsTerm, Numbered, is_open}
 use Rattle.task_model.specs.TypeParts.{first_part, second_part}
-use Rattle.task_model.specs.TypeFault.{Demands, ◌⨾◌, compared, is_pair, has_length, wanted}
+use Rattle.task_model.specs.TypeFault.{TypeKindTerm, arity, Demands, ◌⨾◌, demanded, compared, is_pair, has_length, wanted}
 use Rattle.task_model.specs.NodeCounts.{nodes}
 use Rattle.task_model.specs.TypeOf.{type_of}
-use Rattle.task_model.specs.Demands.{demands, all_demands}
+use Rattle.task_model.specs.Demands.{demands, all_demands, function_call}
+use Rattle.task_model.specs.TaskDemands.{task_call}
+use Rattle.host_types.specs.declared.calls.Callee.{Callee}
+use Rattle.host_types.specs.declared.calls.Callee.TheVariants as callee
 use Rattle.host_types.specs.declared.operators.Unary.{Unary}
 use Rattle.host_types.specs.declared.operators.Unary.TheVariants as unary
 
@@ -31,3 +34,12 @@ unary_type unary.Length b = int_type
 abbrev pub branch_demands : CallsTerm → List ParamTerm → List ParamTerm → ℕ → HostTerm → HostTerm → Demands
 branch_demands k s inner n a b =
     all_demands k s n a ⨾ wanted (n + nodes a) (type_of k.defs s a) (type_of k.defs inner b) (demands k inner (n + nodes a) b)
+
+-- what is demanded of a call
+abbrev pub call_of : Callee → ℕ → Option ℕ → ℕ → Option Numbered → Demands
+call_of callee.Function = function_call
+call_of callee.Task = task_call
+
+-- a definition may be called, or else there is this fault, and it has so many parameters as there are arguments
+abbrev pub open_with : ℕ → Option ℕ → ℕ → ℕ → ℕ → TypeKindTerm → Demands
+open_with n below index params args closed = demanded (is_open below index) n closed ⨾ demanded (params == args) n (arity params args)

@@ -10,6 +10,13 @@ pub(crate) struct Calls<'p> {
     pub(crate) below: Option<usize>,
 }
 
+/// What a call wants a name to be.
+#[derive(Clone, Copy)]
+pub(crate) enum Callee {
+    Function,
+    Task,
+}
+
 /// Whether the definition of this number may be called.
 pub(crate) fn is_open(below: Option<usize>, index: usize) -> bool
     ensures { result ≡ scopes.is_open below index }

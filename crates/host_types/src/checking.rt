@@ -100,7 +100,8 @@ fn body(
     def: &Def,
     types: &mut Row<Basic>,
 ) -> Result<u64, CheckStop>
-    ensures { ChecksBody (seen_program definitions.now bodies.now) number (scope_term scope.now) node (basic_term def.now.result) (def_body_term def.now.what)
+    ensures { ChecksBody (seen_program definitions.now bodies.now) number (scope_term scope.now) node (basic_term def.now.result)
+        (def_body_term def.now.what)
         (map basic_term types.old.list) (map basic_term types.new.list) result }
 {
     let calls = Calls {
@@ -129,7 +130,8 @@ fn from_parameters(
     def: &Def,
     types: &mut Row<Basic>,
 ) -> Result<u64, CheckStop>
-    ensures { ChecksParameters (seen_program definitions.now bodies.now) number first (def_term def.now) (scope_term scope.now) node (map param_term params.now)
+    ensures { ChecksParameters (seen_program definitions.now bodies.now) number first (def_term def.now) (scope_term scope.now) node
+        (map param_term params.now)
         (map basic_term types.old.list) (map basic_term types.new.list) result }
 {
     match params {
@@ -141,11 +143,7 @@ fn from_parameters(
         [param, others @ ..] => {
             parameter(scope, node, param)?;
             let behind = next(node)?;
-            let within = Names::Named {
-                outer: &*scope,
-                name: &param.name,
-                kind: &param.kind,
-            };
+            let within = (&*scope).with(&param.name, &param.kind);
             from_parameters(
                 alloc,
                 definitions,
@@ -172,7 +170,8 @@ fn definition(
     def: &Def,
     types: &mut Row<Basic>,
 ) -> Result<u64, CheckStop>
-    ensures { ChecksDefinition (seen_program definitions.now bodies.now) number node (def_term def.now) (map basic_term types.old.list) (map basic_term types.new.list) result }
+    ensures { ChecksDefinition (seen_program definitions.now bodies.now) number node (def_term def.now) (map basic_term types.old.list)
+        (map basic_term types.new.list) result }
 {
     new_name(definitions, number, node, &def.name)?;
     let behind = next(node)?;
@@ -212,7 +211,8 @@ fn all_definitions(
     types: &mut Row<Basic>,
 ) -> Result<(), CheckStop>
     ensures { MatchResult result
-        (λ _. IsChecked (demands.demands_of (seen_program definitions.now bodies.now)) (map basic_term types.old.list ++ demands.types_of (seen_program definitions.now bodies.now)) (map basic_term types.new.list))
+        (λ _. IsChecked (demands.demands_of (seen_program definitions.now bodies.now))
+        (map basic_term types.old.list ++ demands.types_of (seen_program definitions.now bodies.now)) (map basic_term types.new.list))
         (IsStop (demands.demands_of (seen_program definitions.now bodies.now))) }
 {
     let mut node = 0;

@@ -59,7 +59,8 @@ pub(crate) fn sized(node: u64, basic: &Basic) -> Result<(), CheckStop>
 
 /// A part's type is the one wanted.
 pub(crate) fn compared(node: u64, want: &Basic, got: &Basic) -> Result<(), CheckStop>
-    ensures { MatchResult result (λ _. IsMet (compared node (basic_term want.now) (basic_term got.now))) (IsStop (compared node (basic_term want.now) (basic_term got.now))) }
+    ensures { MatchResult result (λ _. IsMet (compared node (basic_term want.now) (basic_term got.now)))
+        (IsStop (compared node (basic_term want.now) (basic_term got.now))) }
 {
     if same_basic(want, got) {
         return Ok(());

@@ -12,12 +12,10 @@ ghost use Rattle.host_types.specs.Words.{unary_operand, unary_type, branch_deman
 ghost use Rattle.host_types.specs.Answer.{IsPassed, IsStop, AnswersType, Checks, ChecksForm, ChecksWanted};
 ghost use Rattle.host_types.specs.Seen.{scope_term, calls_term};
 
-use crate::calls::Calls;
+use crate::calls::{Callee, Calls};
 use crate::compare::{compared, sized};
 use crate::fault::{CheckStop, next};
-use crate::lookups::{
-    fault, function_called, item, place_named, room_for_name, room_for_two, value_named,
-};
+use crate::lookups::{called, fault, item, place_named, room_for_name, room_for_two, value_named};
 use crate::names::Names;
 use crate::operators::{Unary, applied, left, listed, operated, paired, right};
 use std::alloc::Global;
@@ -150,9 +148,10 @@ fn call_form(
     name: &TaskText,
     args: &[Host],
 ) -> Result<Typed, CheckStop>
-    ensures { ChecksForm (calls_term calls.now) (scope_term scope.now) node (call_expr name.now (as_exprs (map host_term args.now))) result }
+    ensures { ChecksForm (calls_term calls.now) (scope_term scope.now) node
+        (call_expr name.now (as_exprs (map host_term args.now))) result }
 {
-    let def = function_called(calls, node, name, args.len())?;
+    let def = called(calls, Callee::Function, node, name, args.len())?;
     let inner = next(node)?;
     let behind = arguments(alloc, calls, scope, inner, args, def.params.as_slice())?;
     let basic = copy_basic(&def.result)?;
@@ -174,8 +173,10 @@ pub(crate) fn arguments(
 ) -> Result<u64, CheckStop>
     requires { length args.now ≡ length params.now }
     ensures { MatchResult result
-        (IsPassed (demands.arguments (calls_term calls.now) (scope_term scope.now) node (as_exprs (map host_term args.now)) (map param_term params.now)) (node + nodes_all (as_exprs (map host_term args.now))))
-        (IsStop (demands.arguments (calls_term calls.now) (scope_term scope.now) node (as_exprs (map host_term args.now)) (map param_term params.now))) }
+        (IsPassed (demands.arguments (calls_term calls.now) (scope_term scope.now) node (as_exprs (map host_term args.now))
+        (map param_term params.now)) (node + nodes_all (as_exprs (map host_term args.now))))
+        (IsStop (demands.arguments (calls_term calls.now) (scope_term scope.now) node (as_exprs (map host_term args.now))
+        (map param_term params.now))) }
 {
     let mut open = params;
     let mut behind = node;
@@ -199,8 +200,12 @@ fn argument(
     kind: &Kind,
 ) -> Result<u64, CheckStop>
     ensures { MatchResult result
-        (IsPassed (demands.argument node (scope_term scope.now) (kind_term kind.now) (bare_name (host_term e.now)) (type_of (calls_term calls.now).defs (scope_term scope.now) (host_term e.now)) (demands.demands (calls_term calls.now) (scope_term scope.now) node (host_term e.now))) (node + nodes (host_term e.now)))
-        (IsStop (demands.argument node (scope_term scope.now) (kind_term kind.now) (bare_name (host_term e.now)) (type_of (calls_term calls.now).defs (scope_term scope.now) (host_term e.now)) (demands.demands (calls_term calls.now) (scope_term scope.now) node (host_term e.now)))) }
+        (IsPassed (demands.argument node (scope_term scope.now) (kind_term kind.now) (bare_name (host_term e.now))
+        (type_of (calls_term calls.now).defs (scope_term scope.now) (host_term e.now))
+        (demands.demands (calls_term calls.now) (scope_term scope.now) node (host_term e.now))) (node + nodes (host_term e.now)))
+        (IsStop (demands.argument node (scope_term scope.now) (kind_term kind.now) (bare_name (host_term e.now))
+        (type_of (calls_term calls.now).defs (scope_term scope.now) (host_term e.now))
+        (demands.demands (calls_term calls.now) (scope_term scope.now) node (host_term e.now)))) }
 {
     match (kind, e) {
         (Kind::Plain(basic), _) => wanted(alloc, calls, scope, node, e, basic),
@@ -279,8 +284,10 @@ fn elements(
     basic: &Basic,
 ) -> Result<u64, CheckStop>
     ensures { MatchResult result
-        (IsPassed (demands.elements (calls_term calls.now) (scope_term scope.now) node (basic_term basic.now) (as_exprs (map host_term items.now))) (node + nodes_all (as_exprs (map host_term items.now))))
-        (IsStop (demands.elements (calls_term calls.now) (scope_term scope.now) node (basic_term basic.now) (as_exprs (map host_term items.now)))) }
+        (IsPassed (demands.elements (calls_term calls.now) (scope_term scope.now) node (basic_term basic.now)
+        (as_exprs (map host_term items.now))) (node + nodes_all (as_exprs (map host_term items.now))))
+        (IsStop (demands.elements (calls_term calls.now) (scope_term scope.now) node (basic_term basic.now)
+        (as_exprs (map host_term items.now)))) }
 {
     let mut behind = node;
     for item in items {
@@ -299,8 +306,10 @@ fn unary_form(
     a: &Host,
 ) -> Result<Typed, CheckStop>
     ensures { AnswersType
-        (demands.all_demands (calls_term calls.now) (scope_term scope.now) (suc node) (host_term a.now) ⨾ unary_operand operator (suc node) (type_of (calls_term calls.now).defs (scope_term scope.now) (host_term a.now)))
-        (unary_type operator (type_of (calls_term calls.now).defs (scope_term scope.now) (host_term a.now))) (node + suc (nodes (host_term a.now))) result }
+        (demands.all_demands (calls_term calls.now) (scope_term scope.now) (suc node) (host_term a.now)
+        ⨾ unary_operand operator (suc node) (type_of (calls_term calls.now).defs (scope_term scope.now) (host_term a.now)))
+        (unary_type operator (type_of (calls_term calls.now).defs (scope_term scope.now) (host_term a.now)))
+        (node + suc (nodes (host_term a.now))) result }
 {
     let inner = next(node)?;
     let typed = whole(alloc, calls, scope, inner, a)?;
@@ -344,17 +353,14 @@ fn let_form(
     a: &Host,
     rest: &Host,
 ) -> Result<Typed, CheckStop>
-    ensures { ChecksForm (calls_term calls.now) (scope_term scope.now) node (let_expr name.now (host_term a.now) (host_term rest.now)) result }
+    ensures { ChecksForm (calls_term calls.now) (scope_term scope.now) node (let_expr name.now (host_term a.now) (host_term rest.now))
+        result }
 {
     room_for_name(scope, node)?;
     let inner = next(node)?;
     let bound = whole(alloc, calls, scope, inner, a)?;
     let kind = Kind::Plain(bound.basic);
-    let within = Names::Named {
-        outer: &*scope,
-        name: &*name,
-        kind: &kind,
-    };
+    let within = (&*scope).with(&*name, &kind);
     whole(alloc, calls, &within, bound.next, rest)
 }
 
@@ -368,7 +374,8 @@ fn if_form(
     yes: &Host,
     no: &Host,
 ) -> Result<Typed, CheckStop>
-    ensures { ChecksForm (calls_term calls.now) (scope_term scope.now) node (if_expr (host_term test.now) (host_term yes.now) (host_term no.now)) result }
+    ensures { ChecksForm (calls_term calls.now) (scope_term scope.now) node
+        (if_expr (host_term test.now) (host_term yes.now) (host_term no.now)) result }
 {
     let inner = next(node)?;
     let behind = wanted(alloc, calls, scope, inner, test, &Basic::Bool)?;
@@ -392,7 +399,8 @@ fn case_form(
     tail: &TaskText,
     more: &Host,
 ) -> Result<Typed, CheckStop>
-    ensures { ChecksForm (calls_term calls.now) (scope_term scope.now) node (case_expr (host_term list.now) (host_term empty.now) head.now tail.now (host_term more.now)) result }
+    ensures { ChecksForm (calls_term calls.now) (scope_term scope.now) node
+        (case_expr (host_term list.now) (host_term empty.now) head.now tail.now (host_term more.now)) result }
 {
     room_for_two(scope, node, head, tail)?;
     let inner = next(node)?;
@@ -400,16 +408,8 @@ fn case_form(
     let item = copy_basic(item(inner, &listed.basic)?)?;
     let first = Kind::Plain(item);
     let others = Kind::Plain(listed.basic);
-    let outer = Names::Named {
-        outer: &*scope,
-        name: &*head,
-        kind: &first,
-    };
-    let within = Names::Named {
-        outer: &outer,
-        name: &*tail,
-        kind: &others,
-    };
+    let outer = (&*scope).with(&*head, &first);
+    let within = outer.with(&*tail, &others);
     branches(alloc, calls, scope, &within, listed.next, empty, more)
 }
 
@@ -426,7 +426,8 @@ fn branches(
 ) -> Result<Typed, CheckStop>
     ensures { AnswersType
         (branch_demands (calls_term calls.now) (scope_term scope.now) (scope_term within.now) node (host_term a.now) (host_term b.now))
-        (type_of (calls_term calls.now).defs (scope_term scope.now) (host_term a.now)) (node + nodes (host_term a.now) + nodes (host_term b.now)) result }
+        (type_of (calls_term calls.now).defs (scope_term scope.now) (host_term a.now))
+        (node + nodes (host_term a.now) + nodes (host_term b.now)) result }
 {
     let first = whole(alloc, calls, scope, node, a)?;
     let behind = wanted(alloc, calls, within, first.next, b, &first.basic)?;

@@ -1,14 +1,17 @@
-ghost use Rattle.std.specs.Prelude.{◌≡◌, MatchResult};
+ghost use Rattle.std.specs.Prelude.{◌≡◌, length, map, MatchResult};
 ghost use Rattle.task_model.specs.Basic.{basic_term, list_type};
 ghost use Rattle.task_model.specs.TypeParts.{first_part, second_part};
 ghost use Rattle.task_model.specs.Names.{kind_in, named_type, called_definition};
 ghost use Rattle.task_model.specs.TypeFault.{◌⨾◌, value_name, ref_name, is_pair, is_list, has_length, IsMet};
-ghost use Rattle.task_model.specs.Demands.{has_place, two_names, function_call};
-ghost use Rattle.task_model.specs.TaskDemands.{task_call};
+ghost use Rattle.task_model.specs.Demands.{has_place, two_names};
+ghost use Rattle.task_model.specs.Program.{param_term};
+ghost use Rattle.task_model.specs.TypeKind.{type_kind_term};
+ghost use Rattle.host_types.specs.Words.{call_of, open_with};
 ghost use Rattle.host_types.specs.Seen.{scope_term, calls_term};
 ghost use Rattle.host_types.specs.Answer.{IsStop, HasBasic, HasHead};
 
-use crate::calls::{Calls, is_open};
+use crate::calls::{Callee, Calls, is_open};
+use crate::definitions::Found;
 use crate::fault::CheckStop;
 use crate::names::{Names, found, has_at_most};
 use task_model::{Basic, Def, DefBody, Kind, SCOPE_NAME_LIMIT, TaskText, TypeKind, copy_basic};
@@ -39,7 +42,8 @@ pub(crate) fn place_named<'s>(
     name: &TaskText,
 ) -> Result<&'s Basic, CheckStop>
     ensures { MatchResult result
-        (λ b. HasBasic (ref_name node (kind_in (scope_term scope.now) name.now)) (named_type (kind_in (scope_term scope.now) name.now)) b.now)
+        (λ b. HasBasic (ref_name node (kind_in (scope_term scope.now) name.now))
+        (named_type (kind_in (scope_term scope.now) name.now)) b.now)
         (IsStop (ref_name node (kind_in (scope_term scope.now) name.now))) }
 {
     match found(scope, name) {
@@ -80,57 +84,53 @@ pub(crate) fn room_for_two(
     }
 }
 
-/// The function that a call names, with so many arguments.
-pub(crate) fn function_called<'p>(
+/// The function or the task that a call names, with so many arguments.
+pub(crate) fn called<'p>(
     calls: &Calls<'p>,
+    callee: Callee,
     node: u64,
     name: &TaskText,
     args: usize,
 ) -> Result<&'p Def, CheckStop>
     ensures { MatchResult result
-        (λ d. HasHead (function_call node (calls_term calls.now).below args (called_definition (calls_term calls.now) name.now)) (called_definition (calls_term calls.now) name.now) d.now)
-        (IsStop (function_call node (calls_term calls.now).below args (called_definition (calls_term calls.now) name.now))) }
+        (λ d. HasHead (call_of callee node (calls_term calls.now).below args (called_definition (calls_term calls.now) name.now))
+        (called_definition (calls_term calls.now) name.now) d.now)
+        (IsStop (call_of callee node (calls_term calls.now).below args (called_definition (calls_term calls.now) name.now))) }
 {
-    let Some(callee) = calls.definitions.named(name) else {
+    let Some(found) = calls.definitions.named(name) else {
         return fault(node, TypeKind::UnknownName);
     };
-    let DefBody::Fun(_) = &callee.def.what else {
-        return fault(node, TypeKind::UnknownName);
-    };
-    if !is_open(calls.below, callee.index) {
-        return fault(node, TypeKind::LaterCall);
-    }
-    let params = callee.def.params.as_slice().len();
-    if params == args {
-        Ok(callee.def)
-    } else {
-        fault(node, arity(params, args))
+    match (callee, &found.def.what) {
+        (Callee::Function, DefBody::Fun(_)) => {
+            admitted(calls, &found, node, args, TypeKind::LaterCall)
+        }
+        (Callee::Task, DefBody::Task(_)) => {
+            admitted(calls, &found, node, args, TypeKind::Unguarded)
+        }
+        _ => fault(node, TypeKind::UnknownName),
     }
 }
 
-/// The task that a call names, with so many arguments.
-pub(crate) fn task_called<'p>(
+/// A definition that may be called, or else that fault, with so many parameters as arguments.
+fn admitted<'p>(
     calls: &Calls<'p>,
+    found: &Found<'p>,
     node: u64,
-    name: &TaskText,
     args: usize,
+    closed: TypeKind,
 ) -> Result<&'p Def, CheckStop>
     ensures { MatchResult result
-        (λ d. HasHead (task_call node (calls_term calls.now).below args (called_definition (calls_term calls.now) name.now)) (called_definition (calls_term calls.now) name.now) d.now)
-        (IsStop (task_call node (calls_term calls.now).below args (called_definition (calls_term calls.now) name.now))) }
+        (λ d. IsMet (open_with node (calls_term calls.now).below found.now.index (length (map param_term found.now.def.now.params.list))
+        args (type_kind_term closed)) × (d.now ≡ found.now.def.now))
+        (IsStop (open_with node (calls_term calls.now).below found.now.index (length (map param_term found.now.def.now.params.list))
+        args (type_kind_term closed))) }
 {
-    let Some(callee) = calls.definitions.named(name) else {
-        return fault(node, TypeKind::UnknownName);
-    };
-    let DefBody::Task(_) = &callee.def.what else {
-        return fault(node, TypeKind::UnknownName);
-    };
-    if !is_open(calls.below, callee.index) {
-        return fault(node, TypeKind::Unguarded);
+    if !is_open(calls.below, found.index) {
+        return fault(node, closed);
     }
-    let params = callee.def.params.as_slice().len();
+    let params = found.def.params.as_slice().len();
     if params == args {
-        Ok(callee.def)
+        Ok(found.def)
     } else {
         fault(node, arity(params, args))
     }

@@ -17,6 +17,19 @@ pub(crate) enum Names<'s> {
     },
 }
 
+impl<'s> Names<'s> {
+    /// The names with one more.
+    pub(crate) fn with(&'s self, name: &'s TaskText, kind: &'s Kind) -> Names<'s>
+        ensures { scope_term result ≡ scope_term self.now ++ record { name = name.now; kind = kind_term kind.now } ∷ [] }
+    {
+        Names::Named {
+            outer: self,
+            name,
+            kind,
+        }
+    }
+}
+
 /// What a name stands for, the innermost one of its spelling.
 pub(crate) fn found<'s>(scope: &Names<'s>, name: &TaskText) -> Option<&'s Kind>
     ensures { kind_in (scope_term scope.now) name.now ≡ option_map (λ k. kind_term k.now) result }

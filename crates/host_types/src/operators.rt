@@ -24,7 +24,8 @@ pub(crate) enum Unary {
 
 /// What an operator with one operand of this type gives.
 pub(crate) fn applied(form: Unary, node: u64, basic: Basic) -> Result<Basic, CheckStop>
-    ensures { MatchResult result (HasBasic (unary_operand form node (basic_term basic)) (unary_type form (basic_term basic))) (IsStop (unary_operand form node (basic_term basic))) }
+    ensures { MatchResult result (HasBasic (unary_operand form node (basic_term basic)) (unary_type form (basic_term basic)))
+        (IsStop (unary_operand form node (basic_term basic))) }
 {
     match form {
         Unary::Neg => {
@@ -46,7 +47,8 @@ pub(crate) fn applied(form: Unary, node: u64, basic: Basic) -> Result<Basic, Che
 
 /// What is wanted of the left operand.
 pub(crate) fn left(op: Op, node: u64, basic: &Basic) -> Result<(), CheckStop>
-    ensures { MatchResult result (λ _. IsMet (left_operand op node (basic_term basic.now))) (IsStop (left_operand op node (basic_term basic.now))) }
+    ensures { MatchResult result (λ _. IsMet (left_operand op node (basic_term basic.now)))
+        (IsStop (left_operand op node (basic_term basic.now))) }
 {
     match op {
         Op::Eq => Ok(()),
@@ -67,7 +69,8 @@ pub(crate) fn right(
     left: &Basic,
     basic: &Basic,
 ) -> Result<(), CheckStop>
-    ensures { MatchResult result (λ _. IsMet (right_operand op node (basic_term left.now) (basic_term basic.now))) (IsStop (right_operand op node (basic_term left.now) (basic_term basic.now))) }
+    ensures { MatchResult result (λ _. IsMet (right_operand op node (basic_term left.now) (basic_term basic.now)))
+        (IsStop (right_operand op node (basic_term left.now) (basic_term basic.now))) }
 {
     match op {
         Op::Eq => compared(node, left, basic),
@@ -81,7 +84,8 @@ pub(crate) fn right(
 }
 
 fn consed(alloc: Global, node: u64, head: &Basic, list: &Basic) -> Result<(), CheckStop>
-    ensures { MatchResult result (λ _. IsMet (right_operand Op.Cons node (basic_term head.now) (basic_term list.now))) (IsStop (right_operand Op.Cons node (basic_term head.now) (basic_term list.now))) }
+    ensures { MatchResult result (λ _. IsMet (right_operand Op.Cons node (basic_term head.now) (basic_term list.now)))
+        (IsStop (right_operand Op.Cons node (basic_term head.now) (basic_term list.now))) }
 {
     item(node, list)?;
     let want = listed(alloc, head)?;

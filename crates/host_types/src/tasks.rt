@@ -4,19 +4,19 @@ ghost use Rattle.task_model.specs.Host.{host_term, as_exprs};
 ghost use Rattle.task_model.specs.Task.{task_term};
 ghost use Rattle.task_model.specs.FullTask.{full_body_numbered, step_over, sides_of, full_edit, full_call, full_and, full_or, full_let, full_if, full_case, full_new, full_put};
 ghost use Rattle.task_model.specs.LaterBodies.{later_bodies, full_task};
-ghost use Rattle.task_model.specs.Names.{kind_in, named_type};
+ghost use Rattle.task_model.specs.Names.{all_open, kind_in, named_type};
 ghost use Rattle.task_model.specs.TypeFault.{met, ref_name};
 ghost use Rattle.task_model.specs.NodeCounts.{nodes_all};
 ghost use Rattle.task_model.specs.TypeOf.{task_type};
 ghost use Rattle.task_model.specs.TaskDemands.{task_demands};
-ghost use Rattle.host_types.specs.Answer.{IsTask, IsStop, AnswersType, ChecksTask, ChecksTaskForm, ChecksTaskWanted};
+ghost use Rattle.host_types.specs.Answer.{IsTask, IsStop, AnswersType, Checks, ChecksWanted, ChecksTask, ChecksTaskForm, ChecksTaskWanted};
 ghost use Rattle.host_types.specs.Seen.{scope_term, calls_term};
 
-use crate::calls::Calls;
+use crate::calls::{Callee, Calls};
 use crate::compare::{compared, sized};
 use crate::expressions::{Typed, arguments, wanted, whole};
 use crate::fault::{CheckStop, next};
-use crate::lookups::{fault, item, place_named, room_for_name, room_for_two, task_called};
+use crate::lookups::{called, fault, item, place_named, room_for_name, room_for_two};
 use crate::names::Names;
 use crate::operators::paired;
 use std::alloc::Global;
@@ -35,7 +35,8 @@ pub(crate) fn task(
     t: &Task,
     types: &mut Row<Basic>,
 ) -> Result<Typed, CheckStop>
-    ensures { ChecksTask (calls_term calls.now) (scope_term scope.now) node (full_task later.now (task_term t.now)) (map basic_term types.old.list) (map basic_term types.new.list) result }
+    ensures { ChecksTask (calls_term calls.now) (scope_term scope.now) node (full_task later.now (task_term t.now))
+        (map basic_term types.old.list) (map basic_term types.new.list) result }
 {
     let typed = form(alloc, calls, later, scope, node, t, types)?;
     sized(node, &typed.basic)?;
@@ -54,7 +55,8 @@ pub(crate) fn wanted_task(
     want: &Basic,
     types: &mut Row<Basic>,
 ) -> Result<u64, CheckStop>
-    ensures { ChecksTaskWanted (calls_term calls.now) (scope_term scope.now) node (full_task later.now (task_term t.now)) (basic_term want.now) (map basic_term types.old.list) (map basic_term types.new.list) result }
+    ensures { ChecksTaskWanted (calls_term calls.now) (scope_term scope.now) node (full_task later.now (task_term t.now))
+        (basic_term want.now) (map basic_term types.old.list) (map basic_term types.new.list) result }
 {
     let typed = task(alloc, calls, later, scope, node, t, types)?;
     compared(node, want, &typed.basic)?;
@@ -72,7 +74,8 @@ fn form(
     t: &Task,
     types: &mut Row<Basic>,
 ) -> Result<Typed, CheckStop>
-    ensures { ChecksTaskForm (calls_term calls.now) (scope_term scope.now) node (full_task later.now (task_term t.now)) (map basic_term types.old.list) (map basic_term types.new.list) result }
+    ensures { ChecksTaskForm (calls_term calls.now) (scope_term scope.now) node (full_task later.now (task_term t.now))
+        (map basic_term types.old.list) (map basic_term types.new.list) result }
 {
     match t {
         Task::Edit(e) => edit_form(alloc, calls, scope, node, e, types),
@@ -115,6 +118,41 @@ fn form(
     }
 }
 
+// An expression of a task, checked whole. It may call every function.
+fn expression(
+    alloc: Global,
+    calls: &Calls,
+    scope: &Names,
+    node: u64,
+    e: &Host,
+) -> Result<Typed, CheckStop>
+    ensures { Checks (all_open (calls_term calls.now)) (scope_term scope.now) node (host_term e.now) result }
+{
+    let open = Calls {
+        definitions: calls.definitions,
+        below: None,
+    };
+    whole(alloc, &open, scope, node, e)
+}
+
+// Such an expression, compared with the type that is wanted of it: the number of the node behind it.
+fn wanted_expression(
+    alloc: Global,
+    calls: &Calls,
+    scope: &Names,
+    node: u64,
+    e: &Host,
+    want: &Basic,
+) -> Result<u64, CheckStop>
+    ensures { ChecksWanted (all_open (calls_term calls.now)) (scope_term scope.now) node (host_term e.now) (basic_term want.now) result }
+{
+    let open = Calls {
+        definitions: calls.definitions,
+        below: None,
+    };
+    wanted(alloc, &open, scope, node, e, want)
+}
+
 fn edit_form(
     alloc: Global,
     calls: &Calls,
@@ -123,14 +161,11 @@ fn edit_form(
     e: &Host,
     types: &mut Row<Basic>,
 ) -> Result<Typed, CheckStop>
-    ensures { ChecksTaskForm (calls_term calls.now) (scope_term scope.now) node (full_edit (host_term e.now)) (map basic_term types.old.list) (map basic_term types.new.list) result }
+    ensures { ChecksTaskForm (calls_term calls.now) (scope_term scope.now) node (full_edit (host_term e.now))
+        (map basic_term types.old.list) (map basic_term types.new.list) result }
 {
-    let open = Calls {
-        definitions: calls.definitions,
-        below: None,
-    };
     let inner = next(node)?;
-    let typed = whole(alloc, &open, scope, inner, e)?;
+    let typed = expression(alloc, calls, scope, inner, e)?;
     types.push(copy_basic(&typed.basic)?)?;
     Ok(typed)
 }
@@ -171,13 +206,14 @@ fn call_form(
     args: &[Host],
 ) -> Result<Typed, CheckStop>
     ensures { AnswersType (task_demands (calls_term calls.now) (scope_term scope.now) node (full_call name.now (map host_term args.now)))
-        (task_type (calls_term calls.now).defs (scope_term scope.now) (full_call name.now (map host_term args.now))) (node + suc (nodes_all (as_exprs (map host_term args.now)))) result }
+        (task_type (calls_term calls.now).defs (scope_term scope.now) (full_call name.now (map host_term args.now)))
+        (node + suc (nodes_all (as_exprs (map host_term args.now)))) result }
 {
     let open = Calls {
         definitions: calls.definitions,
         below: None,
     };
-    let def = task_called(calls, node, name, args.len())?;
+    let def = called(calls, Callee::Task, node, name, args.len())?;
     let inner = next(node)?;
     let behind = arguments(alloc, &open, scope, inner, args, def.params.as_slice())?;
     let basic = copy_basic(&def.result)?;
@@ -199,7 +235,8 @@ fn step_form(
     types: &mut Row<Basic>,
 ) -> Result<Typed, CheckStop>
     ensures { ChecksTaskForm (calls_term calls.now) (scope_term scope.now) node
-        (step_over (full_task later.now (task_term left.now)) (full_body_numbered later.now.first (later_bodies later.now) number)) (map basic_term types.old.list) (map basic_term types.new.list) result }
+        (step_over (full_task later.now (task_term left.now)) (full_body_numbered later.now.first (later_bodies later.now) number))
+        (map basic_term types.old.list) (map basic_term types.new.list) result }
 {
     let open = Calls {
         definitions: calls.definitions,
@@ -221,11 +258,7 @@ fn step_form(
     let inner = next(node)?;
     let bound = task(alloc, calls, later, scope, inner, left, types)?;
     let kind = Kind::Plain(bound.basic);
-    let within = Names::Named {
-        outer: &*scope,
-        name,
-        kind: &kind,
-    };
+    let within = (&*scope).with(name, &kind);
     task(
         alloc, &open, &behind, &within, bound.next, &body.task, types,
     )
@@ -242,7 +275,9 @@ fn and_form(
     b: &Task,
     types: &mut Row<Basic>,
 ) -> Result<Typed, CheckStop>
-    ensures { ChecksTaskForm (calls_term calls.now) (scope_term scope.now) node (full_and (full_task later.now (task_term a.now)) (full_task later.now (task_term b.now))) (map basic_term types.old.list) (map basic_term types.new.list) result }
+    ensures { ChecksTaskForm (calls_term calls.now) (scope_term scope.now) node
+        (full_and (full_task later.now (task_term a.now)) (full_task later.now (task_term b.now)))
+        (map basic_term types.old.list) (map basic_term types.new.list) result }
 {
     let inner = next(node)?;
     let first = task(alloc, calls, later, scope, inner, a, types)?;
@@ -265,7 +300,9 @@ fn or_form(
     b: &Task,
     types: &mut Row<Basic>,
 ) -> Result<Typed, CheckStop>
-    ensures { ChecksTaskForm (calls_term calls.now) (scope_term scope.now) node (full_or (full_task later.now (task_term a.now)) (full_task later.now (task_term b.now))) (map basic_term types.old.list) (map basic_term types.new.list) result }
+    ensures { ChecksTaskForm (calls_term calls.now) (scope_term scope.now) node
+        (full_or (full_task later.now (task_term a.now)) (full_task later.now (task_term b.now)))
+        (map basic_term types.old.list) (map basic_term types.new.list) result }
 {
     let inner = next(node)?;
     let first = task(alloc, calls, later, scope, inner, a, types)?;
@@ -297,7 +334,9 @@ fn xor_form(
     types: &mut Row<Basic>,
 ) -> Result<Typed, CheckStop>
     ensures { ChecksTaskForm (calls_term calls.now) (scope_term scope.now) node
-        (sides_of (full_body_numbered later.now.first (later_bodies later.now) left) (full_body_numbered later.now.first (later_bodies later.now) right)) (map basic_term types.old.list) (map basic_term types.new.list) result }
+        (sides_of (full_body_numbered later.now.first (later_bodies later.now) left)
+        (full_body_numbered later.now.first (later_bodies later.now) right))
+        (map basic_term types.old.list) (map basic_term types.new.list) result }
 {
     let Some(
         NumberedBody {
@@ -351,21 +390,15 @@ fn let_form(
     rest: &Task,
     types: &mut Row<Basic>,
 ) -> Result<Typed, CheckStop>
-    ensures { ChecksTaskForm (calls_term calls.now) (scope_term scope.now) node (full_let name.now (host_term e.now) (full_task later.now (task_term rest.now))) (map basic_term types.old.list) (map basic_term types.new.list) result }
+    ensures { ChecksTaskForm (calls_term calls.now) (scope_term scope.now) node
+        (full_let name.now (host_term e.now) (full_task later.now (task_term rest.now)))
+        (map basic_term types.old.list) (map basic_term types.new.list) result }
 {
-    let open = Calls {
-        definitions: calls.definitions,
-        below: None,
-    };
     room_for_name(scope, node)?;
     let inner = next(node)?;
-    let bound = whole(alloc, &open, scope, inner, e)?;
+    let bound = expression(alloc, calls, scope, inner, e)?;
     let kind = Kind::Plain(bound.basic);
-    let within = Names::Named {
-        outer: &*scope,
-        name: &*name,
-        kind: &kind,
-    };
+    let within = (&*scope).with(&*name, &kind);
     task(alloc, calls, later, &within, bound.next, rest, types)
 }
 
@@ -381,14 +414,12 @@ fn if_form(
     no: &Task,
     types: &mut Row<Basic>,
 ) -> Result<Typed, CheckStop>
-    ensures { ChecksTaskForm (calls_term calls.now) (scope_term scope.now) node (full_if (host_term test.now) (full_task later.now (task_term yes.now)) (full_task later.now (task_term no.now))) (map basic_term types.old.list) (map basic_term types.new.list) result }
+    ensures { ChecksTaskForm (calls_term calls.now) (scope_term scope.now) node
+        (full_if (host_term test.now) (full_task later.now (task_term yes.now)) (full_task later.now (task_term no.now)))
+        (map basic_term types.old.list) (map basic_term types.new.list) result }
 {
-    let open = Calls {
-        definitions: calls.definitions,
-        below: None,
-    };
     let inner = next(node)?;
-    let behind = wanted(alloc, &open, scope, inner, test, &Basic::Bool)?;
+    let behind = wanted_expression(alloc, calls, scope, inner, test, &Basic::Bool)?;
     let first = task(alloc, calls, later, scope, behind, yes, types)?;
     let behind = wanted_task(
         alloc,
@@ -420,29 +451,19 @@ fn case_form(
     more: &Task,
     types: &mut Row<Basic>,
 ) -> Result<Typed, CheckStop>
-    ensures { ChecksTaskForm (calls_term calls.now) (scope_term scope.now) node (full_case (host_term list.now) (full_task later.now (task_term empty.now)) head.now tail.now (full_task later.now (task_term more.now))) (map basic_term types.old.list) (map basic_term types.new.list) result }
+    ensures { ChecksTaskForm (calls_term calls.now) (scope_term scope.now) node
+        (full_case (host_term list.now) (full_task later.now (task_term empty.now)) head.now tail.now
+        (full_task later.now (task_term more.now))) (map basic_term types.old.list) (map basic_term types.new.list) result }
 {
-    let open = Calls {
-        definitions: calls.definitions,
-        below: None,
-    };
     room_for_two(scope, node, head, tail)?;
     let inner = next(node)?;
-    let listed = whole(alloc, &open, scope, inner, list)?;
+    let listed = expression(alloc, calls, scope, inner, list)?;
     let item = copy_basic(item(inner, &listed.basic)?)?;
     let first = task(alloc, calls, later, scope, listed.next, empty, types)?;
     let head_kind = Kind::Plain(item);
     let tail_kind = Kind::Plain(listed.basic);
-    let outer = Names::Named {
-        outer: &*scope,
-        name: &*head,
-        kind: &head_kind,
-    };
-    let within = Names::Named {
-        outer: &outer,
-        name: &*tail,
-        kind: &tail_kind,
-    };
+    let outer = (&*scope).with(&*head, &head_kind);
+    let within = outer.with(&*tail, &tail_kind);
     let behind = wanted_task(
         alloc,
         calls,
@@ -471,21 +492,15 @@ fn new_form(
     rest: &Task,
     types: &mut Row<Basic>,
 ) -> Result<Typed, CheckStop>
-    ensures { ChecksTaskForm (calls_term calls.now) (scope_term scope.now) node (full_new name.now (host_term e.now) (full_task later.now (task_term rest.now))) (map basic_term types.old.list) (map basic_term types.new.list) result }
+    ensures { ChecksTaskForm (calls_term calls.now) (scope_term scope.now) node
+        (full_new name.now (host_term e.now) (full_task later.now (task_term rest.now)))
+        (map basic_term types.old.list) (map basic_term types.new.list) result }
 {
-    let open = Calls {
-        definitions: calls.definitions,
-        below: None,
-    };
     room_for_name(scope, node)?;
     let inner = next(node)?;
-    let bound = whole(alloc, &open, scope, inner, e)?;
+    let bound = expression(alloc, calls, scope, inner, e)?;
     let kind = Kind::Ref(bound.basic);
-    let within = Names::Named {
-        outer: &*scope,
-        name: &*name,
-        kind: &kind,
-    };
+    let within = (&*scope).with(&*name, &kind);
     task(alloc, calls, later, &within, bound.next, rest, types)
 }
 
@@ -501,14 +516,12 @@ fn put_form(
     rest: &Task,
     types: &mut Row<Basic>,
 ) -> Result<Typed, CheckStop>
-    ensures { ChecksTaskForm (calls_term calls.now) (scope_term scope.now) node (full_put name.now (host_term e.now) (full_task later.now (task_term rest.now))) (map basic_term types.old.list) (map basic_term types.new.list) result }
+    ensures { ChecksTaskForm (calls_term calls.now) (scope_term scope.now) node
+        (full_put name.now (host_term e.now) (full_task later.now (task_term rest.now)))
+        (map basic_term types.old.list) (map basic_term types.new.list) result }
 {
-    let open = Calls {
-        definitions: calls.definitions,
-        below: None,
-    };
     let want = place_named(scope, node, name)?;
     let inner = next(node)?;
-    let behind = wanted(alloc, &open, scope, inner, e, want)?;
+    let behind = wanted_expression(alloc, calls, scope, inner, e, want)?;
     task(alloc, calls, later, scope, behind, rest, types)
 }

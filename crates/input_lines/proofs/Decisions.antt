@@ -1,6 +1,7 @@
 -- The reader once more, as a decision: each line is read or has its first fault.
 use Rattle.std.specs.Prelude.{codes}
-use Rattle.std.proofs.Common.{◌≡◌, ℕ, ◌+◌, ◌-◌, ◌*◌, ◌≤◌, ◌<◌, ◌⊎◌, inl, inr, List, [], ◌∷◌, ◌++◌, length, take, Ok, Err, refl, sym, ap, ◌∙◌, subst, arith}
+use Rattle.std.proofs.Common.{◌≡◌, ℕ, ◌+◌, ◌-◌, ◌*◌, ◌≤◌, ◌<◌, ◌⊎◌, inl, inr, List, [], ◌∷◌, ◌++◌, length, take, drop, Ok, Err, refl, sym, ap, ◌∙◌, subst, arith, append_assoc}
+use Rattle.std.proofs.lemmas.List.{take-append-drop, take_all}
 use Rattle.task_model.specs.Text.{Text}
 use Rattle.task_model.specs.Token.{IsDigit}
 use Rattle.task_model.specs.Value.{ValueTerm}
@@ -10,8 +11,8 @@ use Rattle.task_model.specs.declared.input.Turn.{Turn}
 use Rattle.task_model.specs.declared.input.Turn.TheVariants.{First, Second}
 use Rattle.exact_reading.specs.declared.stop.ParseStop.TheVariants.{Fault}
 use Rattle.exact_reading.specs.declared.stop.FaultKind.TheVariants.{Unexpected}
-use Rattle.exact_reading.specs.Reading.{Language, SharesPrefix, Always, Right, Tok, Run, NoToken, Anything}
-use Rattle.exact_reading.specs.Whole.{IsFirstFault}
+use Rattle.exact_reading.specs.Reading.{Language, SharesPrefix, IsViablePrefix, Always, Right, Tok, Run, NoToken, Anything}
+use Rattle.exact_reading.specs.Whole.{IsFault, IsFirstFault}
 use Rattle.exact_reading.proofs.Productions.{refused_first, tok_right, begins_token}
 use Rattle.exact_reading.proofs.Runs.{run_more, run_stop, run_done}
 use Rattle.exact_reading.proofs.Whole.{whole_found, whole_only, refused, no_word, left_within}
@@ -19,7 +20,7 @@ use Rattle.literal_text.specs.Literals.{IsLiteral}
 use Rattle.literal_text.specs.LiteralReading.{NoDigit}
 use Rattle.literal_text.proofs.CharacterLemmas.{order}
 use Rattle.input_lines.specs.ScriptLines.{LineTerm, nothing, shows, IsScriptLine}
-use Rattle.input_lines.specs.LinePlaces.{IsBadLine}
+use Rattle.input_lines.specs.LinePlaces.{IsLineWithin, IsBadLine}
 use Rattle.literal_laws.proofs.OneLiteral.{some_any, one_any}
 use Rattle.input_lines.specs.LineReading.{AtEnd, AtReturn, NoReturn, NoLetter, LineEnd, EndWord, SeatNumber, PathLetters, EndLiteral, EndAct, EndInput, EndCommand, SeatedLine}
 use Rattle.input_lines.proofs.EndLemmas.{nothing_right, nothing_stop, end_with, end_without, end_word_right, end_word_stop}
@@ -28,7 +29,7 @@ use Rattle.input_lines.proofs.PathLemmas.{path_right, path_stop, dot_read, turn_
 use Rattle.input_lines.proofs.LiteralEndLemmas.{literal_right, literal_stop, place_within, end_literal_right, end_literal_after, end_literal_stop}
 use Rattle.input_lines.proofs.ActLemmas as acts
 use Rattle.input_lines.proofs.CommandLemmas as commands
-use Rattle.input_lines.proofs.WholeLineLemmas.{bad_within, bad_front, bad_line}
+use Rattle.input_lines.proofs.FrontLemmas.{some_line, whole_begins, longest_front, line_over_long, fault_cut, bad_line}
 
 -- ---- answers
 -- what was read of the front, or the first fault
@@ -324,24 +325,26 @@ module _ (decides : SomeLiteral) (one : OneLiteral) where
 
   pub some_line_or_place : (longest : ℕ) (t : Text)
       → ((l : LineTerm) × IsScriptLine t l × (length t ≤ longest)) ⊎ ((place : ℕ) × IsBadLine longest t place)
-  some_line_or_place longest t = go (order longest (length t))
+  some_line_or_place longest t = go (line_or_fault (take longest t)) (order longest (length t))
     where
-      within : length t ≤ longest → ((l : LineTerm) × IsScriptLine t l)
-          ⊎ ((place : ℕ) × IsFirstFault IsScriptLine Always t Unexpected place)
-          → ((l : LineTerm) × IsScriptLine t l × (length t ≤ longest)) ⊎ ((place : ℕ) × IsBadLine longest t place)
-      within le (inl (l, is)) = inl (l, is, le)
-      within le (inr (place, fault)) = inr (place, bad_within longest t place le fault)
+      cut : t ≡ take longest t ++ drop longest t
+      cut = sym (take-append-drop longest t)
 
-      beyond : longest < length t → ((l : LineTerm) × IsScriptLine (take longest t) l)
+      bad : (front rest : Text) → t ≡ front ++ rest → IsViablePrefix IsScriptLine Always front
+          → IsFault (IsLineWithin longest) Always front rest Unexpected → (place : ℕ) × IsBadLine longest t place
+      bad front rest e begins stops = let (place, is) = longest_front longest front begins in
+          (place, bad_line longest t front rest place e is stops)
+
+      go : ((l : LineTerm) × IsScriptLine (take longest t) l)
           ⊎ ((place : ℕ) × IsFirstFault IsScriptLine Always (take longest t) Unexpected place)
+          → (longest < length t) ⊎ (length t ≤ longest)
           → ((l : LineTerm) × IsScriptLine t l × (length t ≤ longest)) ⊎ ((place : ℕ) × IsBadLine longest t place)
-      beyond over (inl (l, is)) = inr (longest, bad_line longest t over l is)
-      beyond over (inr (place, fault)) = inr (place, bad_front longest t over place fault)
-
-      go : (longest < length t) ⊎ (length t ≤ longest)
-          → ((l : LineTerm) × IsScriptLine t l × (length t ≤ longest)) ⊎ ((place : ℕ) × IsBadLine longest t place)
-      go (inl over) = beyond over (line_or_fault (take longest t))
-      go (inr le) = within le (line_or_fault t)
+      go (inl (l, is)) (inl over) = inr (bad (take longest t) (drop longest t) cut (whole_begins (take longest t) l is)
+          (line_over_long longest t over))
+      go (inl (l, is)) (inr le) = inl (l, subst (λ s. IsScriptLine s l) (take_all longest t le) is, le)
+      go (inr (place, fault)) _ = inr (bad fault.front (fault.back ++ drop longest t)
+          (cut ∙ ap (λ l. l ++ drop longest t) fault.split ∙ append_assoc fault.front fault.back (drop longest t))
+          (fault.begins some_line) (fault_cut longest t fault.front fault.back fault.split fault.stops))
 
 -- ---- lines
 pub line_or_place : (longest : ℕ) (t : Text)

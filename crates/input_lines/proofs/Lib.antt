@@ -9,5 +9,11 @@ pub mod CommandLemmas
 pub mod WholeLineLemmas
 pub mod EntryLemmas
 pub mod SoakLemmas
+pub mod FillLemmas
+pub mod TextFills
+pub mod LiteralFills
+pub mod LineFills
+pub mod RoomLemmas
+pub mod FrontLemmas
 pub mod LawLemmas
 pub mod Decisions

@@ -1,20 +1,20 @@
--- From the answer for a line of any length to what is said of it within a limit.
-use Rattle.std.proofs.Common.{◌≡◌, ℕ, ◌≤◌, ◌<◌, false, Result, Ok, Err, [], ◌∷◌, ◌++◌, length, take, drop, refl, sym, ap, ◌∙◌, subst, arith, append_assoc, length-append}
-use Rattle.std.proofs.lemmas.List.{length-take-le, take-append-drop}
-use Rattle.std.specs.Prelude.{IfErr}
-use Rattle.task_model.specs.Text.{Text}
+-- From the answer for the first bytes of a line to what is said of all within the limit.
+use Rattle.std.proofs.lemmas.List.{take-append-drop, take-append-le, take_all}
+use Rattle.std.proofs.Common.{◌≡◌, ℕ, ◌+◌, ◌≤◌, ◌<◌, Ok, Err, [], ◌++◌, length, take, drop, refl, sym, ap, ◌∙◌, subst, arith, append_assoc}
+use Rattle.exact_reading.specs.declared.stop.FaultKind.{FaultKind}
 use Rattle.exact_reading.specs.declared.stop.FaultKind.TheVariants.{Unexpected}
-use Rattle.exact_reading.specs.Reading.{IsViablePrefix, Always}
-use Rattle.exact_reading.specs.Whole.{IsFirstFault, IsFault}
-use Rattle.exact_reading.proofs.Sequences.{append_nil}
-use Rattle.input_lines.specs.ScriptLines.{LineTerm, nothing, LineParse, empty, comment, show, act, parsed_line, IsScriptLine, HasSeat}
+use Rattle.exact_reading.specs.declared.stop.ParseStop.TheVariants.{Fault}
+use Rattle.exact_reading.specs.Reading.{IsViablePrefix, Always, Right}
+use Rattle.exact_reading.specs.Whole.{IsFault, IsFirstFault}
+use Rattle.exact_reading.proofs.Whole.{whole_only, refused, always_unexpected, no_word}
+use Rattle.task_model.specs.Text.{Text}
 use Rattle.line_frame.specs.declared.machine.LineStop.{LineStop}
 use Rattle.line_frame.specs.declared.machine.LineStop.TheVariants.{Bad, Memory}
-use Rattle.input_lines.specs.LinePlaces.{IsStuck, IsBadLine, IsBadColumn, IsFaultColumn}
-
--- the empty line
-pub some_line : IsViablePrefix IsScriptLine Always []
-some_line = ([], nothing, record { parse = empty; returned = false; are = refl; stands_for = refl }, tt)
+use Rattle.input_lines.specs.ScriptLines.{LineTerm, LineParse, empty, comment, show, act, parsed_line, IsScriptLine, HasSeat}
+use Rattle.input_lines.specs.LinePlaces.{IsLineWithin, IsBadColumn}
+use Rattle.input_lines.specs.LineFronts.{IsFrontColumn}
+use Rattle.input_lines.specs.LineReading.{AtEnd}
+use Rattle.input_lines.proofs.FrontLemmas.{some_line, line_over_long, fault_cut, bad_line}
 
 -- a line's seat is one
 pub line_seat : (t : Text) (l : LineTerm) → IsScriptLine t l → HasSeat l
@@ -26,95 +26,52 @@ line_seat t l h = subst HasSeat (sym h.stands_for) (go h.parse)
     go (show seat is) = is
     go (act seat is path p) = is
 
--- the first fault of bytes within the limit
-pub bad_within : (longest : ℕ) (t : Text) (place : ℕ) → length t ≤ longest → IsFirstFault IsScriptLine Always t Unexpected place
-    → IsBadLine longest t place
-bad_within longest t place le fault = record {
-  front = fault.front;
-  back = fault.back;
-  split = fault.split;
-  at = fault.at;
-  begins = (
-    let all = ap length fault.split in let both = length-append fault.front fault.back in
-        omega (arith, le, all, both),
-    fault.begins some_line,
-  );
-  stops = go fault.back fault.stops;
-}
-  where
-    go : (back : Text) → IsFault IsScriptLine Always fault.front back Unexpected → IsStuck longest fault.front back
-    go [] stops = stops
-    go (byte ∷ back) stops = λ begins. stops begins.1
+-- ---- a fault in the first bytes
+pub fault_at : {t : Text} {kind : FaultKind} {left place : ℕ} → Right IsScriptLine Always AtEnd t (Err (Fault kind left))
+    → place + left ≡ length t → IsFirstFault IsScriptLine Always t Unexpected place
+fault_at right sum = always_unexpected (refused refl right sum)
 
--- a front of longest bytes of more
-module _ (longest : ℕ) (t : Text) (over : longest < length t) where
-  pub bad_front : (place : ℕ) → IsFirstFault IsScriptLine Always (take longest t) Unexpected place → IsBadLine longest t place
-  bad_front place fault = record {
-    front = fault.front;
-    back = fault.back ++ drop longest t;
-    split = sym (take-append-drop longest t) ∙ ap (λ l. l ++ drop longest t) fault.split
-        ∙ append_assoc fault.front fault.back (drop longest t);
-    at = fault.at;
-    begins = (
-      let all = ap length fault.split in let both = length-append fault.front fault.back in
-          let long = length-take-le longest t (omega (arith, over)) in omega (arith, long, all, both),
-      fault.begins some_line,
-    );
-    stops = go fault.back (drop longest t) fault.split fault.stops;
-  }
-    where
-      go : (back more : Text) → take longest t ≡ fault.front ++ back → IsFault IsScriptLine Always fault.front back Unexpected
-          → IsStuck longest fault.front (back ++ more)
-      go [] [] split stops = stops
-      go [] (byte ∷ more) split stops = λ begins.
-          let long = length-take-le longest t (omega (arith, over)) in
-          let same = ap length split in
-          let one = length-append fault.front (byte ∷ []) in
-          let none = length-append fault.front [] in
-          let le = begins.0 in
-          omega (arith, over, long, same, one, none, le)
-      go (byte ∷ back) more split stops = λ begins. stops begins.1
+front_of : {t : Text} {place : ℕ} (fault : IsFirstFault IsScriptLine Always t Unexpected place) → take place t ≡ fault.front
+front_of {place = place} fault =
+    let at = fault.at in
+    ap (take place) fault.split ∙ take-append-le place fault.front fault.back (omega (arith, at))
+    ∙ take_all place fault.front (omega (arith, at))
 
-  pub bad_line : (l : LineTerm) → IsScriptLine (take longest t) l → IsBadLine longest t longest
-  bad_line l is = record {
-    front = take longest t;
-    back = drop longest t;
-    split = sym (take-append-drop longest t);
-    at = let long = length-take-le longest t (omega (arith, over)) in omega (arith, over, long);
-    begins = (
-      let long = length-take-le longest t (omega (arith, over)) in omega (arith, long),
-      ([], l, subst (λ s. IsScriptLine s l) (sym (append_nil (take longest t))) is, tt),
-    );
-    stops = go (drop longest t) (let all = ap length (take-append-drop longest t) in
-        let both = length-append (take longest t) (drop longest t) in
-        let long = length-take-le longest t (omega (arith, over)) in
-        omega (arith, over, all, both, long));
-  }
-    where
-      go : (back : Text) → 0 < length back → IsStuck longest (take longest t) back
-      go [] some = absurd (omega (arith, some))
-      go (byte ∷ back) some = λ begins.
-          let long = length-take-le longest t (omega (arith, over)) in
-          let one = length-append (take longest t) (byte ∷ []) in
-          let le = begins.0 in
-          omega (arith, over, long, one, le)
+pub fault_begins : {t : Text} {place : ℕ} → IsFirstFault IsScriptLine Always t Unexpected place
+    → IsViablePrefix IsScriptLine Always (take place t)
+fault_begins fault = subst (IsViablePrefix IsScriptLine Always) (sym (front_of fault)) (fault.begins some_line)
 
--- ---- columns
-column_within : (longest : ℕ) (t : Text) → length t ≤ longest → (e : LineStop) → IsFaultColumn t e → IsBadColumn longest t e
-column_within longest t le (Bad column) (place, fault, is) = (place, bad_within longest t place le fault, is)
-column_within longest t le Memory h = tt
+-- the column behind the longest front of a front behind which nothing goes on within the limit
+column_of : (longest : ℕ) (t front rest : Text) (e : LineStop) → t ≡ front ++ rest
+    → IsFault (IsLineWithin longest) Always front rest Unexpected → IsFrontColumn longest front e → IsBadColumn longest t e
+column_of longest t front rest (Bad column) split stops (place, is, at) = (place, bad_line longest t front rest place split is stops, at)
+column_of longest t front rest Memory split stops is = tt
 
-pub err_within : {X : Type 0} (longest : ℕ) (t : Text) → length t ≤ longest → (r : Result X LineStop) → IfErr r (λ e. IsFaultColumn t e)
-    → IfErr r (λ e. IsBadColumn longest t e)
-err_within longest t le (Ok x) h = h
-err_within longest t le (Err e) h = column_within longest t le e h
+-- ---- the first bytes of all
+module _ (longest : ℕ) (t : Text) {front : Text} (cut : front ≡ take longest t) where
+  all_of : length t ≤ longest → front ≡ t
+  all_of le = cut ∙ take_all longest t le
 
-pub column_beyond : (longest : ℕ) (t front : Text) → longest < length t → front ≡ take longest t → (e : LineStop) → IsFaultColumn front e
-    → IsBadColumn longest t e
-column_beyond longest t front over same (Bad column) (place, fault, is) =
-    (place, bad_front longest t over place (subst (λ s. IsFirstFault IsScriptLine Always s Unexpected place) same fault), is)
-column_beyond longest t front over same Memory h = tt
+  split_of : t ≡ front ++ drop longest t
+  split_of = sym (take-append-drop longest t) ∙ ap (λ l. l ++ drop longest t) (sym cut)
 
-pub line_beyond : (longest : ℕ) (t front : Text) {l : LineTerm} → longest < length t → front ≡ take longest t → IsScriptLine front l
-    → IsBadLine longest t longest
-line_beyond longest t front {l = l} over same is = bad_line longest t over l (subst (λ s. IsScriptLine s l) same is)
+  -- a line within the limit is what was read
+  pub line_only : {m : LineTerm} → Right IsScriptLine Always AtEnd front (Ok (m, [])) → (l : LineTerm) → IsScriptLine t l
+      → length t ≤ longest → m ≡ l
+  line_only {m} right l is le = sym (whole_only {y = l} refl right (subst (λ s. IsScriptLine s l) (sym (all_of le)) is)).1
+
+  -- where they are at fault, all are no line within the limit
+  pub fault_no_line : {place : ℕ} → IsFirstFault IsScriptLine Always front Unexpected place → (l : LineTerm) → IsScriptLine t l
+      → length t ≤ longest → ⊥
+  fault_no_line fault l is le = no_word fault (subst (λ s. IsScriptLine s l) (sym (all_of le)) is) tt
+
+  pub fault_column : {place : ℕ} (e : LineStop) → IsFirstFault IsScriptLine Always front Unexpected place
+      → IsFrontColumn longest (take place front) e → IsBadColumn longest t e
+  fault_column e fault is = column_of longest t fault.front (fault.back ++ drop longest t) e
+      (split_of ∙ ap (λ l. l ++ drop longest t) fault.split ∙ append_assoc fault.front fault.back (drop longest t))
+      (fault_cut longest t fault.front fault.back (sym cut ∙ fault.split) fault.stops)
+      (subst (λ f. IsFrontColumn longest f e) (front_of fault) is)
+
+  pub over_column : (e : LineStop) → longest < length t → IsFrontColumn longest front e → IsBadColumn longest t e
+  over_column e over is = column_of longest t front (drop longest t) e split_of
+      (subst (λ f. IsFault (IsLineWithin longest) Always f (drop longest t) Unexpected) (sym cut) (line_over_long longest t over)) is

@@ -3,15 +3,20 @@
 #![tactic(auto)]
 
 mod acts;
+mod bracket;
+mod brackets;
 mod ends;
 mod laws;
 mod line;
+mod next;
 mod parse;
 mod paths;
 mod print;
 mod reading;
+mod room;
 mod seats;
 mod soak;
+mod standing;
 
 pub use laws::{one_line, printed_entry};
 pub use line::Line;

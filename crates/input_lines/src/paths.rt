@@ -5,19 +5,20 @@ ghost use Rattle.input_lines.specs.LineReading.{PathLetters, NoLetter};
 
 use exact_reading::{ParseStop, expect, strip};
 use std::alloc::Global;
-use task_model::{Path, Row, Turn};
+use task_model::{Path, Turn, Turns};
 
 /// A path: a dot, and a letter for each turn.
 pub(crate) fn path(alloc: Global, bytes: &[u8]) -> Result<(Path, &[u8]), ParseStop>
-    ensures { Right PathLetters Always NoLetter bytes.now (seen (λ r. (r.0.turns.list, r.1.now)) result) }
+    ensures { Right PathLetters Always NoLetter bytes.now (seen (λ r. (r.0.turns, r.1.now)) result) }
 {
-    let mut turns = Vec::new(alloc);
+    let mut turns = Turns::new(alloc);
     let mut rest = expect(bytes, b'.')?;
     while let Some((turn, after)) = turn(rest) {
-        turns.push(turn)?;
-        rest = after;
+        match turns.push(turn) {
+            Ok(()) => rest = after,
+            Err(_) => return Err(ParseStop::Memory),
+        }
     }
-    let turns = Row::of_vec(turns);
     Ok((Path { turns }, rest))
 }
 

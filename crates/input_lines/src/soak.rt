@@ -4,7 +4,7 @@ ghost use Rattle.input_lines.specs.Soak.{soak_text, soak_type, soak_part, soak_p
 
 use crate::print::{push, push_number};
 use std::alloc::Global;
-use task_model::{Act, Entry, Input, OutOfMemory, Path, Row, TaskText, Turn, Value};
+use task_model::{Act, Entry, Input, OutOfMemory, Path, TaskText, Turn, Turns, Value};
 
 /// The program of a soak.
 pub fn soak_program(alloc: Global) -> Result<TaskText, OutOfMemory>
@@ -93,16 +93,15 @@ fn drawn(alloc: Global, draw: u64) -> Result<Entry, OutOfMemory>
 /// The path of a part.
 fn path(alloc: Global, part: usize) -> Result<Path, OutOfMemory>
     requires { part < 32 }
-    ensures { IfOk result (λ p. p.turns.list ≡ soak_path part) }
+    ensures { IfOk result (λ p. p.turns ≡ soak_path part) }
 {
-    let mut turns = Vec::new(alloc);
+    let mut turns = Turns::new(alloc);
     for _ in part..31 {
         turns.push(Turn::First)?;
     }
     if part > 0 {
         turns.push(Turn::Second)?;
     }
-    let turns = Row::of_vec(turns);
     Ok(Path { turns })
 }
 

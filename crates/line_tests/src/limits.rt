@@ -41,6 +41,67 @@ fn literals_of_the_longest_line(rt: HostRuntime) -> Result<(), Fail> {
     Ok(())
 }
 
+// Asserts what comes of so many bytes: the first 1,048,560 of these, then a byte as often as it takes, and then the back.
+fn assert_ended(
+    rt: &(impl Abort + AllocGlobal),
+    line: &mut Vec<u8>,
+    byte: u8,
+    back: &[u8],
+    length: usize,
+    want: &Want,
+) -> Result<(), OutOfMemory> {
+    line.truncate(1_048_560);
+    for _ in line.len() + back.len()..length {
+        line.push(byte)?;
+    }
+    line.extend_from_slice(back)?;
+    assert_line(rt, line.as_slice(), want)
+}
+
+// What there is no room for within the limit is bad where it begins, and not at the limit.
+#[test]
+fn literals_with_no_room_for_their_rest(rt: HostRuntime) -> Result<(), Fail> {
+    let mut line = filled(rt.alloc(), b"1 . set ", b' ', 1_048_552)?;
+    let table: &[(&[u8], usize, Want)] = &[
+        (b"[]\r", 1_048_576, Want::Act("1 . set []\n")),
+        (b"(1,2)", 1_048_577, Want::Bad(1_048_574)),
+        (b"[(1", 1_048_576, Want::Bad(1_048_575)),
+        (b"true", 1_048_577, Want::Bad(1_048_574)),
+    ];
+    for (back, length, want) in table {
+        assert_ended(&rt, &mut line, b' ', back, *length, want)?;
+    }
+    Ok(())
+}
+
+#[test]
+fn texts_with_no_room_for_their_rest(rt: HostRuntime) -> Result<(), Fail> {
+    let mut line = filled(rt.alloc(), b"1 . set ", b' ', 1_048_552)?;
+    let table: &[(&[u8], usize, Want)] = &[
+        (b"\"\\x41\"", 1_048_576, Want::Act("1 . set \"A\"\n")),
+        (b"\"\\x41\"", 1_048_577, Want::Bad(1_048_574)),
+        (b"\"a", 1_048_576, Want::Bad(1_048_576)),
+        (b"\"\xf0\x9f\x98\x80\"", 1_048_577, Want::Bad(1_048_573)),
+    ];
+    for (back, length, want) in table {
+        assert_ended(&rt, &mut line, b' ', back, *length, want)?;
+    }
+    Ok(())
+}
+
+#[test]
+fn paths_with_no_room_for_an_act(rt: HostRuntime) -> Result<(), Fail> {
+    let mut line = filled(rt.alloc(), b"1 .", b'F', 1_048_557)?;
+    let table: &[(&[u8], usize, u64)] = &[
+        (b"", 1_048_577, 1_048_572),
+        (b" next\r", 1_048_577, 1_048_577),
+    ];
+    for (back, length, column) in table {
+        assert_ended(&rt, &mut line, b'F', back, *length, &Want::Bad(*column))?;
+    }
+    Ok(())
+}
+
 #[test]
 fn levels_elements_and_texts(rt: HostRuntime) -> Result<(), Fail> {
     let deep = filled(rt.alloc(), b"1 . set ", b'[', 65)?;

@@ -6,7 +6,7 @@ use std::test::Fail;
 use task_model::{
     Act, Basic, Body, Cont, Def, DefBody, Entry, HEIGHT_LIMIT, Host, Input, LIST_ELEMENT_LIMIT,
     OutOfMemory, Path, Program, Purse, Row, Scope, Slot, Stop, TEXT_BYTE_LIMIT, Task, TaskText,
-    Tree, Turn, Value, boxed, copy_basic, copy_entry, copy_program, copy_scope, copy_text,
+    Tree, Turn, Turns, Value, boxed, copy_basic, copy_entry, copy_program, copy_scope, copy_text,
     copy_tree, copy_value, shared, value_has,
 };
 
@@ -148,8 +148,7 @@ fn a_copy_of_a_program(rt: HostRuntime) -> Result<(), Fail> {
 #[test]
 fn a_copy_of_an_entry(rt: HostRuntime) -> Result<(), Fail> {
     let alloc = rt.alloc();
-    let mut turns = Row::new(alloc);
-    turns.push(Turn::Second)?;
+    let turns = Turns::of(alloc, &[Turn::Second])?;
     let entry = Entry {
         seat: 64,
         input: Input {

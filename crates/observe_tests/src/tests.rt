@@ -7,7 +7,7 @@ use std::sync::Arc;
 use std::test::Fail;
 use task_model::{
     Answer, Basic, Cont, Delay, Offer, OfferKind, OutOfMemory, Path, Reads, Row, Shape, Sign, Tree,
-    Turn, Value, Widget, copy_turns, shared,
+    Turn, Turns, Value, Widget, shared,
 };
 
 /// A store that holds one value at each of its places.
@@ -60,7 +60,7 @@ fn offer(
     kind: OfferKind,
     answer: Answer,
 ) -> Result<(), OutOfMemory> {
-    let turns = copy_turns(alloc, turns)?;
+    let turns = Turns::of(alloc, turns)?;
     offers.push(Offer {
         path: Path { turns },
         kind,

@@ -9,12 +9,12 @@ use std::process::Abort;
 use std::sync::ledger::{Blank, Ledger};
 use std::test::Fail;
 use task_model::{
-    Basic, Face, OutOfMemory, Path, Row, Shape, Sign, Steps, TaskText, Turn, Value, Widget,
+    Basic, Face, OutOfMemory, Path, Row, Shape, Sign, Steps, TaskText, Turn, Turns, Value, Widget,
 };
 use terminal_view::{draw_line, draw_terminal};
 
 fn path(alloc: Global, letters: &str) -> Result<Path, OutOfMemory> {
-    let mut turns = Row::new(alloc);
+    let mut turns = Turns::new(alloc);
     for letter in letters.as_bytes() {
         turns.push(if *letter == b'F' {
             Turn::First

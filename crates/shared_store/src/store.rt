@@ -198,7 +198,8 @@ fn overwrite<T: Drop>(
 ) -> Result<(), OutOfMemory>
     requires { place < vec_len values.old }
     ensures ok { OnOk result (values.new.items ≡ slice_set values.old.items place value) }
-    ensures logged { OnOk result (log.new.items ≡ log.old.items ++ (record { place = place; value = slice_index_or values.old.items place value }) ∷ []) }
+    ensures logged { OnOk result (log.new.items ≡ log.old.items ++
+        (record { place = place; value = slice_index_or values.old.items place value }) ∷ []) }
     ensures err { OnErr result (values.new.items ≡ values.old.items) }
     ensures unlogged { OnErr result (log.new.items ≡ log.old.items) }
 {

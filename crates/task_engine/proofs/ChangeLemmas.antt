@@ -106,18 +106,22 @@ module _ (seen : List (Overwritten Value)) (w : Overwritten Value) (ys xs : List
       by_get (Some v) h = let lt = get_some zs n v h in absurd (get_none xs n e (omega (arith, l, lt)))
 
   -- what it put back
-  there : (o : Option Value) → slice_get xs w.place ≡ o → IsSame o w.value → term_at (slice_set ys w.place w.value) w.place ≡ term_at xs w.place
+  there : (o : Option Value) → slice_get xs w.place ≡ o → IsSame o w.value
+      → term_at (slice_set ys w.place w.value) w.place ≡ term_at xs w.place
   there None e h =
       ap (option_map value_term) (get_out (slice_set ys w.place w.value) w.place (set_long ys w.place w.value ∙ long) e ∙ sym e)
   there (Some u) e h =
       let lt = get_some xs w.place u e in
-      ap (option_map value_term) (set_there ys w.place w.value (omega (arith, long, lt))) ∙ ap Some (sym h) ∙ ap (option_map value_term) (sym e)
+      ap (option_map value_term) (set_there ys w.place w.value (omega (arith, long, lt))) ∙ ap Some (sym h)
+      ∙ ap (option_map value_term) (sym e)
 
-  back : (o : Option Value) → slice_get xs w.place ≡ o → term_at (slice_set ys w.place w.value) w.place ≡ term_at xs w.place → IsSame o w.value
+  back : (o : Option Value) → slice_get xs w.place ≡ o → term_at (slice_set ys w.place w.value) w.place ≡ term_at xs w.place
+      → IsSame o w.value
   back None e h = tt
   back (Some u) e h =
       let lt = get_some xs w.place u e in
-      let q = sym (ap (option_map value_term) (set_there ys w.place w.value (omega (arith, long, lt)))) ∙ h ∙ ap (option_map value_term) e in
+      let q = sym (ap (option_map value_term) (set_there ys w.place w.value (omega (arith, long, lt)))) ∙ h
+      ∙ ap (option_map value_term) e in
       let same : value_term u ≡ value_term w.value = cc in
       same
 
@@ -166,7 +170,8 @@ start_up ws xs e = same_lists (rewound ws xs) xs (λ n. e n refl)
 pub start_down : (ws : List (Overwritten Value)) (xs : List Value) → map value_term (rewound ws xs) ≡ map value_term xs → Remains ws xs 0
 start_down ws xs e = λ n un. same_at (rewound ws xs) xs n e
 
-module _ (ws : List (Overwritten Value)) (xs : List Value) (i : ℕ) (w : Overwritten Value) (lt : i < length ws) (is : w ≡ get_or ws i w) where
+module _ (ws : List (Overwritten Value)) (xs : List Value) (i : ℕ) (w : Overwritten Value) (lt : i < length ws)
+    (is : w ≡ get_or ws i w) where
   abbrev ys : List Value
   ys = rewound (drop (suc i) ws) xs
 
@@ -176,7 +181,8 @@ module _ (ws : List (Overwritten Value)) (xs : List Value) (i : ℕ) (w : Overwr
   pub walk_up : IsRight w (take i ws) xs → Remains ws xs (suc i) → Remains ws xs i
   walk_up right e =
       subst (λ l. SameElsewhere (take i ws) (rewound l xs) xs) (sym front)
-      (write_up (take i ws) w ys xs (rewound_long (drop (suc i) ws) xs) right (subst (λ l. SameElsewhere l ys xs) (take_more ws i w lt is) e))
+      (write_up (take i ws) w ys xs (rewound_long (drop (suc i) ws) xs) right
+      (subst (λ l. SameElsewhere l ys xs) (take_more ws i w lt is) e))
 
   whole : Remains ws xs i → SameElsewhere (take i ws) (slice_set ys w.place w.value) xs
   whole e = subst (λ l. SameElsewhere (take i ws) (rewound l xs) xs) front e
@@ -212,7 +218,8 @@ same_some : {A : Type 0} {x y : A} {o : Option A} → o ≡ Some x → o ≡ Som
 same_some e f = cc
 
 -- where places were added the lists differ
-pub layer_short : (o : Option (List Value)) (σ list : List Value) (ws : List (Overwritten Value)) (count : ℕ) → o ≡ Some (take count (rewound ws list))
+pub layer_short : (o : Option (List Value)) (σ list : List Value) (ws : List (Overwritten Value)) (count : ℕ)
+    → o ≡ Some (take count (rewound ws list))
     → o ≡ Some σ → count ≤ length list → (count ≡ length list → ⊥) → map value_term list ≡ map value_term σ → ⊥
 layer_short o σ list ws count e f le other same =
     let is = same_some e f in

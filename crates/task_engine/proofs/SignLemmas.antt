@@ -5,6 +5,7 @@ use Rattle.task_model.specs.Spends.{Spends}
 use Rattle.task_model.specs.Checked.{CheckedTerm}
 use Rattle.task_model.specs.Plan.{Plan, plan_work, derives_at, Derives}
 use Rattle.task_model.specs.Rules.{rule_of}
+use Rattle.task_model.specs.Judgements.{IsWithinBudget}
 use Rattle.task_model.specs.Sign.{IsSign, Test}
 use Rattle.task_model.specs.Calls.{RunsPlan}
 use Rattle.task_model.specs.declared.purse.Stop.{Stop}
@@ -29,35 +30,29 @@ ran_spends {c = c} {p = p} {old = old} {r = Err Over} a = λ v n h d le lh.
     a.runs v n h ((low_work H (Derives step) (derives_at step H) (low_derives step H) p).by v n h d lh) le
 ran_spends {r = Err Memory} a = tt
 
+-- a test that ends within a purse of the budget
+within_purse : {c : CheckedTerm} (budget : ℕ) (p : Plan Bool) {old new : Left} (failing : Bool) → old.units ≡ budget → old.height ≡ 1000
+    → RunsPlan c p (λ b. b) old new (Ok failing) → (n : ℕ) × (h : ℕ) × Test c p failing n h × IsWithinBudget budget n h
+within_purse budget p failing u h a =
+    let q = ran_spends a in
+    let le = q.3 in
+    let spent = q.4 in (
+      q.0,
+      q.1,
+      q.2,
+      record {
+        units = omega (arith, u, spent);
+        height = omega (arith, h, le);
+      },
+    )
+
 -- the sign of a test that has a purse of its own
 pub sign_is : {c : CheckedTerm} (budget : ℕ) (p : Plan Bool) {old new : Left} (r : Result Bool Stop) (s : Result Sign OutOfMemory)
     → old.units ≡ budget → old.height ≡ 1000 → RunsPlan c p (λ b. b) old new r → TellsSign r s → IfOk s (λ z. IsSign budget (Test c p) z)
-sign_is {c = c} budget p {old = old} (Ok true) s u h a e =
-    let q = ran_spends a in
-    let le = q.3 in
-    let spent = q.4 in
-    subst (λ x. IfOk x (λ z. IsSign budget (Test c p) z)) (sym e) (
-      q.0,
-      q.1,
-      q.2,
-      record {
-        units = omega (arith, u, spent);
-        height = omega (arith, h, le);
-      },
-    )
-sign_is {c = c} budget p {old = old} (Ok false) s u h a e =
-    let q = ran_spends a in
-    let le = q.3 in
-    let spent = q.4 in
-    subst (λ x. IfOk x (λ z. IsSign budget (Test c p) z)) (sym e) (
-      q.0,
-      q.1,
-      q.2,
-      record {
-        units = omega (arith, u, spent);
-        height = omega (arith, h, le);
-      },
-    )
+sign_is {c = c} budget p (Ok true) s u h a e =
+    subst (λ x. IfOk x (λ z. IsSign budget (Test c p) z)) (sym e) (within_purse budget p true u h a)
+sign_is {c = c} budget p (Ok false) s u h a e =
+    subst (λ x. IfOk x (λ z. IsSign budget (Test c p) z)) (sym e) (within_purse budget p false u h a)
 sign_is {c = c} budget p {old = old} (Err Over) s u h a e =
     let q = ran_spends a in
     subst (λ x. IfOk x (λ z. IsSign budget (Test c p) z)) (sym e) (λ b n g d w. let wu = w.units in let wh = w.height in

@@ -61,7 +61,8 @@ binds_one : (s : List ParamTerm) (o : Option Text) (a : BasicTerm) (inner : List
 binds_one s None a inner h = absurd h
 binds_one s (Some x) a inner h = refl
 
-pub side_binds : (c : CheckedTerm) (Σ : List BasicTerm) (k : LaterTerm) (b : BasicTerm) → IsAccepted c → LaterHas c Σ k None b → BindsNone c k.body
+pub side_binds : (c : CheckedTerm) (Σ : List BasicTerm) (k : LaterTerm) (b : BasicTerm) → IsAccepted c → LaterHas c Σ k None b
+    → BindsNone c k.body
 side_binds c Σ k b accepted h d e =
     let there = (facts_of c accepted).bodies k.body h.body h.is in
     let is = there.is in
@@ -115,13 +116,15 @@ abbrev applied_env : CheckedTerm → LaterTerm → ValueTerm → BodyTerm → En
 applied_env c k v b = opened_env c k.body b (k.slots ++ plain_slot v ∷ [])
 
 -- an internal step at a value is the trial, and then what becomes of the step by it
-pub fired_is : (c : CheckedTerm) (k : LaterTerm) (v : ValueTerm) (s : State) → fired c (Some v) k s ≡ after (attempt c k v s.store) (after_attempt k s)
+pub fired_is : (c : CheckedTerm) (k : LaterTerm) (v : ValueTerm) (s : State)
+    → fired c (Some v) k s ≡ after (attempt c k v s.store) (after_attempt k s)
 fired_is c k v s = by_body (slice_get c.program.bodies k.body)
   where
     by_body : (o : Option BodyTerm)
         → known o (λ b. ask (evaluates b.task (applied_env c k v b) s.store)
         (λ s'. ask (fails s') (λ no. branch no (give (at (then_tree s.tree k) s.store)) (give s'))))
-        ≡ after (known o (λ b. ask (evaluates b.task (applied_env c k v b) s.store) (λ s'. ask (fails s') (λ no. branch no (give None) (give (Some s')))))) (after_attempt k s)
+        ≡ after (known o (λ b. ask (evaluates b.task (applied_env c k v b) s.store)
+        (λ s'. ask (fails s') (λ no. branch no (give None) (give (Some s')))))) (after_attempt k s)
     by_body None = refl
     by_body (Some b) = sym (λ i. ask (evaluates b.task (applied_env c k v b) s.store)
         (λ s'. ask (fails s') (λ no. branch_after no (give None) (give (Some s')) (after_attempt k s) i)))
@@ -133,7 +136,8 @@ attempt_is c k v σ = by_body (slice_get c.program.bodies k.body)
   where
     by_body : (o : Option BodyTerm)
         → known o (λ b. ask (evaluates b.task (applied_env c k v b) σ) (λ s. ask (fails s) (λ no. branch no (give None) (give (Some s)))))
-        ≡ after (known o (λ b. ask (evaluates b.task (applied_env c k v b) σ) give)) (λ s. ask (fails s) (λ no. branch no (give None) (give (Some s))))
+        ≡ after (known o (λ b. ask (evaluates b.task (applied_env c k v b) σ) give))
+        (λ s. ask (fails s) (λ no. branch no (give None) (give (Some s))))
     by_body None = refl
     by_body (Some b) = refl
 
@@ -153,7 +157,8 @@ pub well_stride_on : {c : CheckedTerm} {A : Type 0} {s : State} {f : State → P
 well_stride_on w = record { typing = w.good.0; supposed = w.good.1 }
 
 -- ---- the end of a stride's layer
-pub asked_judged : {c : CheckedTerm} {s : State} {old new : Left} (t : TreeTerm) (σ τ τ' : List Value) (strode r : Result (Option tree.Tree) Stop)
+pub asked_judged : {c : CheckedTerm} {s : State} {old new : Left} (t : TreeTerm) (σ τ τ' : List Value)
+    (strode r : Result (Option tree.Tree) Stop)
     → AnswersStride t σ τ strode r → IfOk r (λ o. τ' ≡ τ)
     → RunsJudgement c (strides s) (λ o. at (after_stride t o) (map value_term τ)) old new strode
     → RunsJudgement c (strides s) (λ o. at (after_stride t o) (map value_term τ')) old new r
@@ -189,7 +194,8 @@ asked_judged {c = c} {s = s} {old = old} {new = new} t σ τ τ' (Ok (Some u)) r
 pub judged_none : (t : TreeTerm) (σ τ : List Value) (strode r : Result (Option tree.Tree) Stop) → AnswersStride t σ τ strode r
     → IfOk strode (λ o. o ≡ None → τ ≡ σ) → IfOk r (λ o. o ≡ None → map value_term τ ≡ map value_term σ)
 judged_none t σ τ (Err e) r j k = subst (λ z. IfOk z (λ o. o ≡ None → map value_term τ ≡ map value_term σ)) (sym j) tt
-judged_none t σ τ (Ok None) r j k = subst (λ z. IfOk z (λ o. o ≡ None → map value_term τ ≡ map value_term σ)) (sym j) (λ e. ap (map value_term) (k refl))
+judged_none t σ τ (Ok None) r j k =
+    subst (λ z. IfOk z (λ o. o ≡ None → map value_term τ ≡ map value_term σ)) (sym j) (λ e. ap (map value_term) (k refl))
 judged_none t σ τ (Ok (Some u)) r (inl q) k =
     subst (λ z. IfOk z (λ o. o ≡ None → map value_term τ ≡ map value_term σ)) (sym q.0) (λ e. ap (λ (x : State). x.store) q.1)
 judged_none t σ τ (Ok (Some u)) r (inr q) k =
@@ -197,8 +203,10 @@ judged_none t σ τ (Ok (Some u)) r (inr q) k =
 
 pub judged_some : (t : TreeTerm) (σ τ : List Value) (strode r : Result (Option tree.Tree) Stop) → AnswersStride t σ τ strode r
     → IfOk r (λ o. IfSome o (λ u. at (tree_term u) (map value_term τ) ≡ at t (map value_term σ) → ⊥))
-judged_some t σ τ (Err e) r j = subst (λ z. IfOk z (λ o. IfSome o (λ u. at (tree_term u) (map value_term τ) ≡ at t (map value_term σ) → ⊥))) (sym j) tt
-judged_some t σ τ (Ok None) r j = subst (λ z. IfOk z (λ o. IfSome o (λ u. at (tree_term u) (map value_term τ) ≡ at t (map value_term σ) → ⊥))) (sym j) tt
+judged_some t σ τ (Err e) r j =
+    subst (λ z. IfOk z (λ o. IfSome o (λ u. at (tree_term u) (map value_term τ) ≡ at t (map value_term σ) → ⊥))) (sym j) tt
+judged_some t σ τ (Ok None) r j =
+    subst (λ z. IfOk z (λ o. IfSome o (λ u. at (tree_term u) (map value_term τ) ≡ at t (map value_term σ) → ⊥))) (sym j) tt
 judged_some t σ τ (Ok (Some u)) r (inl q) =
     subst (λ z. IfOk z (λ o. IfSome o (λ u. at (tree_term u) (map value_term τ) ≡ at t (map value_term σ) → ⊥))) (sym q.0) tt
 judged_some t σ τ (Ok (Some u)) r (inr q) =
@@ -215,7 +223,8 @@ ran_kept τ τ' (Err Over) e a = record { runs = a.runs }
 ran_kept τ τ' (Err Memory) e a = record { runs = tt }
 
 -- ---- what may be applied and tested
-pub cont_tested : {c : CheckedTerm} {k : LaterTerm} {v : ValueTerm} {σ : List ValueTerm} → IsAccepted c → ContFits c k v σ → Well c (trial c k v σ)
+pub cont_tested : {c : CheckedTerm} {k : LaterTerm} {v : ValueTerm} {σ : List ValueTerm} → IsAccepted c → ContFits c k v σ
+    → Well c (trial c k v σ)
 cont_tested {c = c} {k = k} {v = v} {σ = σ} accepted f = record {
   good = good_trial c (facts_of c accepted) f.places k v σ f.takes f.gives (λ s no. give no) (λ x. Unit {0}) f.cont f.value f.store
       (λ s no kept. tt);

@@ -5,3 +5,5 @@ pub mod Strides
 pub mod Writes
 pub mod Fitting
 pub mod TestAnswers
+pub mod Kinds
+pub mod Stores

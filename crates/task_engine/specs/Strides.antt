@@ -15,7 +15,8 @@ abbrev pub after_stride : TreeTerm → Option Tree → TreeTerm
 after_stride t None = t
 after_stride t (Some u) = tree_term u
 
--- No choice has a value that a tree's value is asked of. So it is where a stride fired nothing, for a choice with a value is no choice then.
+-- No choice has a value that a tree's value is asked of. So it is where a stride fired nothing, for a choice with a value is no choice
+-- then.
 abbrev pub Calm : TreeTerm → List ValueTerm → Type 0
 Calm (edit_tree b v) σ = Unit {0}
 Calm (enter_tree b) σ = Unit {0}

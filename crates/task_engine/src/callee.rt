@@ -19,7 +19,8 @@ pub struct Callee<'c> {
 /// The task of a name, where the first of these definitions of that name is one.
 pub(crate) fn callee_in<'c>(defs: &'c [Def], firsts: &[u64], name: &TaskText) -> Option<Callee<'c>>
     requires { length firsts.now ≡ length defs.now }
-    ensures { (p : ProgramTerm) (n : ℕ) → firsts.now ≡ definition_firsts p n (map def_term defs.now) → checked.def_in p as_callee n (map def_term defs.now) name.now ≡ option_map seen_callee result }
+    ensures { (p : ProgramTerm) (n : ℕ) → firsts.now ≡ definition_firsts p n (map def_term defs.now)
+        → checked.def_in p as_callee n (map def_term defs.now) name.now ≡ option_map seen_callee result }
 {
     let mut i = 0;
     while i < defs.len() {

@@ -66,8 +66,10 @@ pub(crate) fn nodes_in(counts: &[u64], from: usize, t: &Task) -> Result<u64, Out
 
 #[cycle(nodes)]
 fn nodes_both(counts: &[u64], from: usize, a: &Task, b: &Task) -> Result<u64, OutOfMemory>
-    ensures sum { IfOk result (λ n. n ≡ checked.nodes_in counts.now from (task_term a.now) + checked.nodes_in counts.now from (task_term b.now)) }
-    ensures fits { checked.nodes_in counts.now from (task_term a.now) + checked.nodes_in counts.now from (task_term b.now) < 18446744073709551616 → IsOk result }
+    ensures sum { IfOk result
+        (λ n. n ≡ checked.nodes_in counts.now from (task_term a.now) + checked.nodes_in counts.now from (task_term b.now)) }
+    ensures fits { checked.nodes_in counts.now from (task_term a.now) + checked.nodes_in counts.now from (task_term b.now)
+        < 18446744073709551616 → IsOk result }
 {
     let n = nodes_in(counts, from, a)?;
     let m = nodes_in(counts, from, b)?;
@@ -77,7 +79,8 @@ fn nodes_both(counts: &[u64], from: usize, a: &Task, b: &Task) -> Result<u64, Ou
 #[cycle(nodes)]
 fn nodes_then(counts: &[u64], from: usize, t: &Task, body: u32) -> Result<u64, OutOfMemory>
     ensures sum { IfOk result (λ n. n ≡ checked.nodes_in counts.now from (task_term t.now) + checked.body_nodes counts.now from body) }
-    ensures fits { checked.nodes_in counts.now from (task_term t.now) + checked.body_nodes counts.now from body < 18446744073709551616 → IsOk result }
+    ensures fits { checked.nodes_in counts.now from (task_term t.now) + checked.body_nodes counts.now from body
+        < 18446744073709551616 → IsOk result }
 {
     let n = nodes_in(counts, from, t)?;
     added(n, body_nodes(counts, from, body))

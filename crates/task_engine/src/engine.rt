@@ -123,3 +123,14 @@ impl Engine {
         }
     }
 }
+
+/// The name that a step's body binds.
+pub fn binder_of(own: &Body) -> &TaskText
+    requires { IsSome (body_term own.now).binder }
+    ensures { (body_term own.now).binder ≡ Some result.now }
+{
+    match &own.binder {
+        Some(name) => name,
+        None => unreachable!(),
+    }
+}

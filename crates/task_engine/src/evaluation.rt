@@ -16,11 +16,14 @@ ghost use Rattle.task_model.specs.Calls.{RunsJudgement, RunsPlan};
 ghost use Rattle.typing_laws.specs.Well.{MayAsk, Well};
 ghost use Rattle.host_eval.specs.NamesTerm.{IsPaired, names_term};
 ghost use Rattle.task_engine.specs.Called.{task_call_plan, seen_callee};
+ghost use Rattle.task_engine.specs.Kinds.{step_task, pair_task};
 ghost use Rattle.task_engine.specs.Steps.{share_tree_at};
+ghost use Rattle.task_engine.specs.Stores.{values_in, state_in, MayEvaluate, RunsEvaluation};
 
 use crate::callee::Callee;
 use crate::engine::Engine;
-use crate::kept::{and_tree, enter_tree, next_later, or_tree, then_later, xor_later};
+use crate::kept::{enter_tree, paired, step_later, xor_later};
+use crate::kinds::{PairKind, StepKind};
 use host_eval::{HeadAndTail, Names, place_named, slots_at, truth, value_at};
 use shared_store::Store;
 use task_model::{Host, OutOfMemory, Param, Purse, Row, Slot, Stop, Task, TaskText, Tree, Value};
@@ -36,7 +39,8 @@ pub fn evaluate(
 ) -> Result<Tree, Stop>
     requires may { MayAsk (checked_term engine.now) (evaluates (task_term t.now) (names_term names.now) (map value_term store.old.list)) }
     ensures layers { store.new.layers ≡ store.old.layers }
-    ensures spends { Spends (Evaluates (checked_term engine.now) (task_term t.now) (names_term names.now) (map value_term store.old.list)) (λ u. at (tree_term u) (map value_term store.new.list)) purse.old purse.new result }
+    ensures spends { Spends (Evaluates (checked_term engine.now) (task_term t.now) (names_term names.now) (map value_term store.old.list))
+        (λ u. at (tree_term u) (map value_term store.new.list)) purse.old purse.new result }
 {
     // The program of an engine is accepted.
     let _accepted = engine.checked().program();
@@ -52,10 +56,11 @@ pub(crate) fn evaluate_at(
     purse: &mut Purse,
 ) -> Result<Tree, Stop>
     requires accepted { IsAccepted (checked_term engine.now) }
-    requires may { MayAsk (checked_term engine.now) (evaluates (task_term t.now) (names_term names.now) (map value_term store.old.list)) }
+    requires may { MayEvaluate engine.now (task_term t.now) names.now store.old }
     ensures height { OnOk result (purse.new.height ≡ purse.old.height) }
     ensures layers { store.new.layers ≡ store.old.layers }
-    ensures asked { RunsJudgement (checked_term engine.now) (evaluates (task_term t.now) (names_term names.now) (map value_term store.old.list)) (λ u. at (tree_term u) (map value_term store.new.list)) purse.old purse.new result }
+    ensures asked { RunsJudgement (checked_term engine.now) (evaluates (task_term t.now) (names_term names.now) (values_in store.old))
+        (state_in store.new) purse.old purse.new result }
 {
     let height = purse.height_left();
     purse.enter()?;
@@ -74,10 +79,10 @@ fn evaluate_form(
     purse: &mut Purse,
 ) -> Result<Tree, Stop>
     requires accepted { IsAccepted (checked_term engine.now) }
-    requires may { MayAsk (checked_term engine.now) (evaluates (task_term t.now) (names_term names.now) (map value_term store.old.list)) }
+    requires may { MayEvaluate engine.now (task_term t.now) names.now store.old }
     ensures height { OnOk result (purse.new.height ≡ purse.old.height) }
     ensures layers { store.new.layers ≡ store.old.layers }
-    ensures ran { RunsPlan (checked_term engine.now) (evaluate_rule (checked_term engine.now) (task_term t.now) (names_term names.now) (map value_term store.old.list)) (λ u. at (tree_term u) (map value_term store.new.list)) purse.old purse.new result }
+    ensures ran { RunsEvaluation engine.now (task_term t.now) names.now store.old store.new purse.old purse.new result }
 {
     match t {
         Task::Edit(e) => edit_form(engine, e, names, store, purse),
@@ -87,10 +92,14 @@ fn evaluate_form(
         Task::Call { name, args } => {
             call_form(engine, name, args.as_slice(), names, store, purse)
         }
-        Task::Then { left, body } => then_form(engine, left, *body, names, store, purse),
-        Task::Next { left, body } => next_form(engine, left, *body, names, store, purse),
-        Task::And(a, b) => and_form(engine, a, b, names, store, purse),
-        Task::Or(a, b) => or_form(engine, a, b, names, store, purse),
+        Task::Then { left, body } => {
+            step_form(engine, StepKind::Then, left, *body, names, store, purse)
+        }
+        Task::Next { left, body } => {
+            step_form(engine, StepKind::Next, left, *body, names, store, purse)
+        }
+        Task::And(a, b) => pair_form(engine, PairKind::And, a, b, names, store, purse),
+        Task::Or(a, b) => pair_form(engine, PairKind::Or, a, b, names, store, purse),
         Task::Xor { left, right } => Ok(xor_later(engine.alloc(), *left, *right, names)?),
         Task::Let { name, bound, rest } => let_form(engine, name, bound, rest, names, store, purse),
         Task::If { test, yes, no } => if_form(engine, test, yes, no, names, store, purse),
@@ -115,9 +124,10 @@ fn host_value(
     purse: &mut Purse,
 ) -> Result<Value, Stop>
     requires accepted { IsAccepted (checked_term engine.now) }
-    requires may { MayAsk (checked_term engine.now) (gives_value (host_term e.now) (names_term names.now) (map value_term store.now.list)) }
+    requires may { MayAsk (checked_term engine.now) (gives_value (host_term e.now) (names_term names.now) (values_in store.now)) }
     ensures height { OnOk result (purse.new.height ≡ purse.old.height) }
-    ensures asked { RunsJudgement (checked_term engine.now) (gives_value (host_term e.now) (names_term names.now) (map value_term store.now.list)) value_term purse.old purse.new result }
+    ensures asked { RunsJudgement (checked_term engine.now) (gives_value (host_term e.now) (names_term names.now) (values_in store.now))
+        value_term purse.old purse.new result }
 {
     value_at(engine.alloc(), engine.checked(), e, names, store, purse)
 }
@@ -132,10 +142,13 @@ fn argument_slots(
     purse: &mut Purse,
 ) -> Result<Row<Slot>, Stop>
     requires accepted { IsAccepted (checked_term engine.now) }
-    requires well { Well (checked_term engine.now) (slots_for (names_term names.now) (map value_term store.now.list) [] (map host_term args.now) (map param_term params.now)) }
+    requires well { Well (checked_term engine.now)
+        (slots_for (names_term names.now) (values_in store.now) [] (map host_term args.now) (map param_term params.now)) }
     requires paired { IsPaired (names_term names.now) }
     ensures height { OnOk result (purse.new.height ≡ purse.old.height) }
-    ensures ran { RunsPlan (checked_term engine.now) (slots_for (names_term names.now) (map value_term store.now.list) [] (map host_term args.now) (map param_term params.now)) (λ r. map slot_term r.list) purse.old purse.new result }
+    ensures ran { RunsPlan (checked_term engine.now)
+        (slots_for (names_term names.now) (values_in store.now) [] (map host_term args.now) (map param_term params.now))
+        (λ r. map slot_term r.list) purse.old purse.new result }
 {
     slots_at(
         engine.alloc(),
@@ -150,7 +163,8 @@ fn argument_slots(
 
 // The environment of what follows a task.
 fn names_after<'e>(engine: &Engine, t: &Task, names: &Names<'e>) -> Names<'e>
-    requires within { nodes_of (checked_term engine.now).program (task_term t.now) ≤ length (checked_term engine.now).types - (names_term names.now).first }
+    requires within { nodes_of (checked_term engine.now).program (task_term t.now)
+        ≤ length (checked_term engine.now).types - (names_term names.now).first }
     ensures { names_term result ≡ later_by (nodes_of (checked_term engine.now).program (task_term t.now)) (names_term names.now) }
 {
     // So many types fit 64 bits.
@@ -170,9 +184,9 @@ fn edit_form(
     purse: &mut Purse,
 ) -> Result<Tree, Stop>
     requires accepted { IsAccepted (checked_term engine.now) }
-    requires may { MayAsk (checked_term engine.now) (evaluates (tasks.edit (host_term e.now)) (names_term names.now) (map value_term store.now.list)) }
+    requires may { MayEvaluate engine.now (tasks.edit (host_term e.now)) names.now store.now }
     ensures height { OnOk result (purse.new.height ≡ purse.old.height) }
-    ensures ran { RunsPlan (checked_term engine.now) (evaluate_rule (checked_term engine.now) (tasks.edit (host_term e.now)) (names_term names.now) (map value_term store.now.list)) (λ u. at (tree_term u) (map value_term store.now.list)) purse.old purse.new result }
+    ensures ran { RunsEvaluation engine.now (tasks.edit (host_term e.now)) names.now store.now store.now purse.old purse.new result }
 {
     let b = engine.node_type(names.first)?;
     let v = host_value(engine, e, names, store, purse)?;
@@ -181,16 +195,21 @@ fn edit_form(
 
 fn share_form(engine: &Engine, name: &TaskText, names: &Names) -> Result<Tree, OutOfMemory>
     requires paired { IsPaired (names_term names.now) }
-    requires known { IsSome (share_tree_at (slice_get (checked_term engine.now).types (names_term names.now).first) (names_term names.now) name.now) }
-    ensures { IfOk result (λ t. share_tree_at (slice_get (checked_term engine.now).types (names_term names.now).first) (names_term names.now) name.now ≡ Some (tree_term t)) }
+    requires known { IsSome
+        (share_tree_at (slice_get (checked_term engine.now).types (names_term names.now).first) (names_term names.now) name.now) }
+    ensures { IfOk result
+        (λ t. share_tree_at (slice_get (checked_term engine.now).types (names_term names.now).first) (names_term names.now) name.now
+        ≡ Some (tree_term t)) }
 {
     let b = engine.node_type(names.first)?;
     Ok(Tree::Share(b, place_named(names, name)))
 }
 
+// A step of a kind.
 #[cycle(evaluate)]
-fn then_form(
+fn step_form(
     engine: &Engine,
+    kind: StepKind,
     left: &Task,
     body: u32,
     names: &Names,
@@ -198,37 +217,21 @@ fn then_form(
     purse: &mut Purse,
 ) -> Result<Tree, Stop>
     requires accepted { IsAccepted (checked_term engine.now) }
-    requires may { MayAsk (checked_term engine.now) (evaluates (tasks.then_task (task_term left.now) body) (names_term names.now) (map value_term store.old.list)) }
+    requires may { MayEvaluate engine.now (step_task kind (task_term left.now) body) names.now store.old }
     ensures height { OnOk result (purse.new.height ≡ purse.old.height) }
     ensures layers { store.new.layers ≡ store.old.layers }
-    ensures ran { RunsPlan (checked_term engine.now) (evaluate_rule (checked_term engine.now) (tasks.then_task (task_term left.now) body) (names_term names.now) (map value_term store.old.list)) (λ u. at (tree_term u) (map value_term store.new.list)) purse.old purse.new result }
+    ensures ran { RunsEvaluation engine.now (step_task kind (task_term left.now) body) names.now store.old store.new purse.old purse.new
+        result }
 {
     let left = evaluate_at(engine, left, names, store, purse)?;
-    Ok(then_later(engine.alloc(), left, body, names)?)
+    Ok(step_later(engine.alloc(), kind, left, body, names)?)
 }
 
+// A pair of a kind.
 #[cycle(evaluate)]
-fn next_form(
+fn pair_form(
     engine: &Engine,
-    left: &Task,
-    body: u32,
-    names: &Names,
-    store: &mut Store<Value>,
-    purse: &mut Purse,
-) -> Result<Tree, Stop>
-    requires accepted { IsAccepted (checked_term engine.now) }
-    requires may { MayAsk (checked_term engine.now) (evaluates (tasks.next_task (task_term left.now) body) (names_term names.now) (map value_term store.old.list)) }
-    ensures height { OnOk result (purse.new.height ≡ purse.old.height) }
-    ensures layers { store.new.layers ≡ store.old.layers }
-    ensures ran { RunsPlan (checked_term engine.now) (evaluate_rule (checked_term engine.now) (tasks.next_task (task_term left.now) body) (names_term names.now) (map value_term store.old.list)) (λ u. at (tree_term u) (map value_term store.new.list)) purse.old purse.new result }
-{
-    let left = evaluate_at(engine, left, names, store, purse)?;
-    Ok(next_later(engine.alloc(), left, body, names)?)
-}
-
-#[cycle(evaluate)]
-fn and_form(
-    engine: &Engine,
+    kind: PairKind,
     a: &Task,
     b: &Task,
     names: &Names,
@@ -236,36 +239,16 @@ fn and_form(
     purse: &mut Purse,
 ) -> Result<Tree, Stop>
     requires accepted { IsAccepted (checked_term engine.now) }
-    requires may { MayAsk (checked_term engine.now) (evaluates (tasks.and_task (task_term a.now) (task_term b.now)) (names_term names.now) (map value_term store.old.list)) }
+    requires may { MayEvaluate engine.now (pair_task kind (task_term a.now) (task_term b.now)) names.now store.old }
     ensures height { OnOk result (purse.new.height ≡ purse.old.height) }
     ensures layers { store.new.layers ≡ store.old.layers }
-    ensures ran { RunsPlan (checked_term engine.now) (evaluate_rule (checked_term engine.now) (tasks.and_task (task_term a.now) (task_term b.now)) (names_term names.now) (map value_term store.old.list)) (λ u. at (tree_term u) (map value_term store.new.list)) purse.old purse.new result }
+    ensures ran { RunsEvaluation engine.now (pair_task kind (task_term a.now) (task_term b.now)) names.now store.old store.new purse.old
+        purse.new result }
 {
     let after = names_after(engine, a, names);
     let t = evaluate_at(engine, a, names, store, purse)?;
     let u = evaluate_at(engine, b, &after, store, purse)?;
-    Ok(and_tree(engine.alloc(), t, u)?)
-}
-
-#[cycle(evaluate)]
-fn or_form(
-    engine: &Engine,
-    a: &Task,
-    b: &Task,
-    names: &Names,
-    store: &mut Store<Value>,
-    purse: &mut Purse,
-) -> Result<Tree, Stop>
-    requires accepted { IsAccepted (checked_term engine.now) }
-    requires may { MayAsk (checked_term engine.now) (evaluates (tasks.or_task (task_term a.now) (task_term b.now)) (names_term names.now) (map value_term store.old.list)) }
-    ensures height { OnOk result (purse.new.height ≡ purse.old.height) }
-    ensures layers { store.new.layers ≡ store.old.layers }
-    ensures ran { RunsPlan (checked_term engine.now) (evaluate_rule (checked_term engine.now) (tasks.or_task (task_term a.now) (task_term b.now)) (names_term names.now) (map value_term store.old.list)) (λ u. at (tree_term u) (map value_term store.new.list)) purse.old purse.new result }
-{
-    let after = names_after(engine, a, names);
-    let t = evaluate_at(engine, a, names, store, purse)?;
-    let u = evaluate_at(engine, b, &after, store, purse)?;
-    Ok(or_tree(engine.alloc(), t, u)?)
+    Ok(paired(engine.alloc(), kind, t, u)?)
 }
 
 #[cycle(evaluate)]
@@ -279,10 +262,11 @@ fn let_form(
     purse: &mut Purse,
 ) -> Result<Tree, Stop>
     requires accepted { IsAccepted (checked_term engine.now) }
-    requires may { MayAsk (checked_term engine.now) (evaluates (tasks.let_task name.now (host_term e.now) (task_term rest.now)) (names_term names.now) (map value_term store.old.list)) }
+    requires may { MayEvaluate engine.now (tasks.let_task name.now (host_term e.now) (task_term rest.now)) names.now store.old }
     ensures height { OnOk result (purse.new.height ≡ purse.old.height) }
     ensures layers { store.new.layers ≡ store.old.layers }
-    ensures ran { RunsPlan (checked_term engine.now) (evaluate_rule (checked_term engine.now) (tasks.let_task name.now (host_term e.now) (task_term rest.now)) (names_term names.now) (map value_term store.old.list)) (λ u. at (tree_term u) (map value_term store.new.list)) purse.old purse.new result }
+    ensures ran { RunsEvaluation engine.now (tasks.let_task name.now (host_term e.now) (task_term rest.now)) names.now store.old store.new
+        purse.old purse.new result }
 {
     let v = host_value(engine, e, names, store, purse)?;
     let slot = Slot::Plain(v);
@@ -301,10 +285,11 @@ fn if_form(
     purse: &mut Purse,
 ) -> Result<Tree, Stop>
     requires accepted { IsAccepted (checked_term engine.now) }
-    requires may { MayAsk (checked_term engine.now) (evaluates (tasks.if_task (host_term test.now) (task_term yes.now) (task_term no.now)) (names_term names.now) (map value_term store.old.list)) }
+    requires may { MayEvaluate engine.now (tasks.if_task (host_term test.now) (task_term yes.now) (task_term no.now)) names.now store.old }
     ensures height { OnOk result (purse.new.height ≡ purse.old.height) }
     ensures layers { store.new.layers ≡ store.old.layers }
-    ensures ran { RunsPlan (checked_term engine.now) (evaluate_rule (checked_term engine.now) (tasks.if_task (host_term test.now) (task_term yes.now) (task_term no.now)) (names_term names.now) (map value_term store.old.list)) (λ u. at (tree_term u) (map value_term store.new.list)) purse.old purse.new result }
+    ensures ran { RunsEvaluation engine.now (tasks.if_task (host_term test.now) (task_term yes.now) (task_term no.now)) names.now store.old
+        store.new purse.old purse.new result }
 {
     let v = host_value(engine, test, names, store, purse)?;
     let holds = truth(&v);
@@ -329,10 +314,13 @@ fn case_form(
     purse: &mut Purse,
 ) -> Result<Tree, Stop>
     requires accepted { IsAccepted (checked_term engine.now) }
-    requires may { MayAsk (checked_term engine.now) (evaluates (tasks.case_task (host_term list.now) (task_term empty.now) head.now tail.now (task_term more.now)) (names_term names.now) (map value_term store.old.list)) }
+    requires may { MayEvaluate engine.now
+        (tasks.case_task (host_term list.now) (task_term empty.now) head.now tail.now (task_term more.now)) names.now store.old }
     ensures height { OnOk result (purse.new.height ≡ purse.old.height) }
     ensures layers { store.new.layers ≡ store.old.layers }
-    ensures ran { RunsPlan (checked_term engine.now) (evaluate_rule (checked_term engine.now) (tasks.case_task (host_term list.now) (task_term empty.now) head.now tail.now (task_term more.now)) (names_term names.now) (map value_term store.old.list)) (λ u. at (tree_term u) (map value_term store.new.list)) purse.old purse.new result }
+    ensures ran { RunsEvaluation engine.now
+        (tasks.case_task (host_term list.now) (task_term empty.now) head.now tail.now (task_term more.now)) names.now store.old store.new
+        purse.old purse.new result }
 {
     let v = host_value(engine, list, names, store, purse)?;
     let parts = HeadAndTail::of(engine.alloc(), &v)?;
@@ -360,10 +348,11 @@ fn new_form(
     purse: &mut Purse,
 ) -> Result<Tree, Stop>
     requires accepted { IsAccepted (checked_term engine.now) }
-    requires may { MayAsk (checked_term engine.now) (evaluates (tasks.new_task name.now (host_term e.now) (task_term rest.now)) (names_term names.now) (map value_term store.old.list)) }
+    requires may { MayEvaluate engine.now (tasks.new_task name.now (host_term e.now) (task_term rest.now)) names.now store.old }
     ensures height { OnOk result (purse.new.height ≡ purse.old.height) }
     ensures layers { store.new.layers ≡ store.old.layers }
-    ensures ran { RunsPlan (checked_term engine.now) (evaluate_rule (checked_term engine.now) (tasks.new_task name.now (host_term e.now) (task_term rest.now)) (names_term names.now) (map value_term store.old.list)) (λ u. at (tree_term u) (map value_term store.new.list)) purse.old purse.new result }
+    ensures ran { RunsEvaluation engine.now (tasks.new_task name.now (host_term e.now) (task_term rest.now)) names.now store.old store.new
+        purse.old purse.new result }
 {
     let v = host_value(engine, e, names, store, purse)?;
     let place = store.grow(v)?;
@@ -383,10 +372,11 @@ fn put_form(
     purse: &mut Purse,
 ) -> Result<Tree, Stop>
     requires accepted { IsAccepted (checked_term engine.now) }
-    requires may { MayAsk (checked_term engine.now) (evaluates (tasks.put_task name.now (host_term e.now) (task_term rest.now)) (names_term names.now) (map value_term store.old.list)) }
+    requires may { MayEvaluate engine.now (tasks.put_task name.now (host_term e.now) (task_term rest.now)) names.now store.old }
     ensures height { OnOk result (purse.new.height ≡ purse.old.height) }
     ensures layers { store.new.layers ≡ store.old.layers }
-    ensures ran { RunsPlan (checked_term engine.now) (evaluate_rule (checked_term engine.now) (tasks.put_task name.now (host_term e.now) (task_term rest.now)) (names_term names.now) (map value_term store.old.list)) (λ u. at (tree_term u) (map value_term store.new.list)) purse.old purse.new result }
+    ensures ran { RunsEvaluation engine.now (tasks.put_task name.now (host_term e.now) (task_term rest.now)) names.now store.old store.new
+        purse.old purse.new result }
 {
     let place = place_named(names, name);
     let v = host_value(engine, e, names, store, purse)?;
@@ -404,10 +394,11 @@ fn call_form(
     purse: &mut Purse,
 ) -> Result<Tree, Stop>
     requires accepted { IsAccepted (checked_term engine.now) }
-    requires may { MayAsk (checked_term engine.now) (evaluates (tasks.call_task name.now (map host_term args.now)) (names_term names.now) (map value_term store.old.list)) }
+    requires may { MayEvaluate engine.now (tasks.call_task name.now (map host_term args.now)) names.now store.old }
     ensures height { OnOk result (purse.new.height ≡ purse.old.height) }
     ensures layers { store.new.layers ≡ store.old.layers }
-    ensures ran { RunsPlan (checked_term engine.now) (evaluate_rule (checked_term engine.now) (tasks.call_task name.now (map host_term args.now)) (names_term names.now) (map value_term store.old.list)) (λ u. at (tree_term u) (map value_term store.new.list)) purse.old purse.new result }
+    ensures ran { RunsEvaluation engine.now (tasks.call_task name.now (map host_term args.now)) names.now store.old store.new purse.old
+        purse.new result }
 {
     let callee = engine.task_named(name);
     call_at(engine, &callee, args, names, store, purse)
@@ -424,11 +415,14 @@ fn call_at(
     purse: &mut Purse,
 ) -> Result<Tree, Stop>
     requires accepted { IsAccepted (checked_term engine.now) }
-    requires well { Well (checked_term engine.now) (task_call_plan (seen_callee callee.now) (map host_term args.now) (names_term names.now) (map value_term store.old.list)) }
+    requires well { Well (checked_term engine.now)
+        (task_call_plan (seen_callee callee.now) (map host_term args.now) (names_term names.now) (values_in store.old)) }
     requires paired { IsPaired (names_term names.now) }
     ensures height { OnOk result (purse.new.height ≡ purse.old.height) }
     ensures layers { store.new.layers ≡ store.old.layers }
-    ensures ran { RunsPlan (checked_term engine.now) (task_call_plan (seen_callee callee.now) (map host_term args.now) (names_term names.now) (map value_term store.old.list)) (λ u. at (tree_term u) (map value_term store.new.list)) purse.old purse.new result }
+    ensures ran { RunsPlan (checked_term engine.now)
+        (task_call_plan (seen_callee callee.now) (map host_term args.now) (names_term names.now) (values_in store.old)) (state_in store.new)
+        purse.old purse.new result }
 {
     purse.spend()?;
     let params = callee.params;

@@ -6,7 +6,9 @@ ghost use Rattle.task_model.specs.Tree as trees;
 ghost use Rattle.task_model.specs.Tree.{tree_term};
 ghost use Rattle.task_model.specs.Rules as rules;
 ghost use Rattle.host_eval.specs.NamesTerm.{names_term, slots_in};
+ghost use Rattle.task_engine.specs.Kinds as kinds;
 
+use crate::kinds::{PairKind, StepKind, pair_tree, step_tree};
 use host_eval::{Links, Names};
 use std::alloc::Global;
 use std::sync::Arc;
@@ -51,32 +53,19 @@ pub(crate) fn enter_tree(b: &Basic) -> Result<Tree, OutOfMemory>
     Ok(Tree::Enter(copy_basic(b)?))
 }
 
-/// An internal step to a body of the program.
-pub(crate) fn then_later(
+/// A step to a body of the program.
+pub(crate) fn step_later(
     alloc: Global,
+    kind: StepKind,
     left: Tree,
     body: u32,
     names: &Names,
 ) -> Result<Tree, OutOfMemory>
-    ensures { IfOk result (λ t. tree_term t ≡ trees.then_tree (tree_term left) (rules.later body (names_term names.now))) }
+    ensures { IfOk result (λ t. tree_term t ≡ kinds.step_tree kind (tree_term left) (rules.later body (names_term names.now))) }
 {
     let slots = kept_slots(alloc, names)?;
     let left = shared(alloc, left)?;
-    Ok(Tree::Then(left, Cont { body, slots }))
-}
-
-/// A user step to a body of the program.
-pub(crate) fn next_later(
-    alloc: Global,
-    left: Tree,
-    body: u32,
-    names: &Names,
-) -> Result<Tree, OutOfMemory>
-    ensures { IfOk result (λ t. tree_term t ≡ trees.next_tree (tree_term left) (rules.later body (names_term names.now))) }
-{
-    let slots = kept_slots(alloc, names)?;
-    let left = shared(alloc, left)?;
-    Ok(Tree::Next(left, Cont { body, slots }))
+    Ok(step_tree(kind, left, Cont { body, slots }))
 }
 
 /// An external choice between two bodies of the program, which share their slots.
@@ -86,7 +75,8 @@ pub(crate) fn xor_later(
     right: u32,
     names: &Names,
 ) -> Result<Tree, OutOfMemory>
-    ensures { IfOk result (λ t. tree_term t ≡ trees.xor_tree (rules.later left (names_term names.now)) (rules.later right (names_term names.now))) }
+    ensures { IfOk result
+        (λ t. tree_term t ≡ trees.xor_tree (rules.later left (names_term names.now)) (rules.later right (names_term names.now))) }
 {
     let slots = kept_slots(alloc, names)?;
     let same = share(&slots)?;
@@ -98,16 +88,10 @@ pub(crate) fn xor_later(
     Ok(Tree::Xor(left, right))
 }
 
-pub(crate) fn and_tree(alloc: Global, a: Tree, b: Tree) -> Result<Tree, OutOfMemory>
-    ensures { IfOk result (λ t. tree_term t ≡ trees.and_tree (tree_term a) (tree_term b)) }
+/// A pair of trees.
+pub(crate) fn paired(alloc: Global, kind: PairKind, a: Tree, b: Tree) -> Result<Tree, OutOfMemory>
+    ensures { IfOk result (λ t. tree_term t ≡ kinds.pair_tree kind (tree_term a) (tree_term b)) }
 {
     let a = shared(alloc, a)?;
-    Ok(Tree::And(a, shared(alloc, b)?))
-}
-
-pub(crate) fn or_tree(alloc: Global, a: Tree, b: Tree) -> Result<Tree, OutOfMemory>
-    ensures { IfOk result (λ t. tree_term t ≡ trees.or_tree (tree_term a) (tree_term b)) }
-{
-    let a = shared(alloc, a)?;
-    Ok(Tree::Or(a, shared(alloc, b)?))
+    Ok(pair_tree(kind, a, shared(alloc, b)?))
 }

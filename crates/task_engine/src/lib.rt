@@ -7,6 +7,7 @@ mod counts;
 mod engine;
 mod evaluation;
 mod kept;
+mod kinds;
 mod signs;
 mod states;
 mod strode;
@@ -16,7 +17,8 @@ mod unchanged;
 mod walk;
 
 pub use callee::Callee;
-pub use engine::Engine;
+pub use engine::{Engine, binder_of};
 pub use evaluation::evaluate;
+pub use kinds::{PairKind, StepKind, pair_tree, step_tree};
 pub use signs::{test_next, test_side};
 pub use states::{apply, failing, normalise, settle, stride};

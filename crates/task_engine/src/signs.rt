@@ -26,7 +26,10 @@ pub fn test_next<L: Ledger>(
     requires fits { ContFits (checked_term engine.now) (cont_term k.now) (value_term v) (map value_term store.old.list) }
     ensures store { store.new ≡ store.old }
     ensures steps { steps.new ≡ steps.old + 1 }
-    ensures sign { IfOk result (λ s. IsSign budget (Test (checked_term engine.now) (trial (checked_term engine.now) (cont_term k.now) (value_term v) (map value_term store.old.list))) s) }
+    ensures sign { IfOk result
+        (λ s. IsSign budget
+        (Test (checked_term engine.now) (trial (checked_term engine.now) (cont_term k.now) (value_term v) (map value_term store.old.list)))
+        s) }
 {
     // The program of an engine is accepted.
     let _accepted = engine.checked().program();

@@ -26,7 +26,8 @@ pub fn failing(
 ) -> Result<bool, Stop>
     requires may { MayAsk (checked_term engine.now) (fails (at (tree_term t.now) (map value_term store.old.list))) }
     ensures store { store.new ≡ store.old }
-    ensures spends { Spends (judgements.Fails (checked_term engine.now) (at (tree_term t.now) (map value_term store.old.list))) (λ b. b) purse.old purse.new result }
+    ensures spends { Spends (judgements.Fails (checked_term engine.now) (at (tree_term t.now) (map value_term store.old.list))) (λ b. b)
+        purse.old purse.new result }
 {
     // The program of an engine is accepted.
     let _accepted = engine.checked().program();
@@ -43,7 +44,8 @@ pub fn stride(
     requires may { MayAsk (checked_term engine.now) (strides (at (tree_term t.now) (map value_term store.old.list))) }
     ensures layers { store.new.layers ≡ store.old.layers }
     ensures kept { IfOk result (λ o. o ≡ None → store.new.list ≡ store.old.list) }
-    ensures spends { Spends (judgements.Strides (checked_term engine.now) (at (tree_term t.now) (map value_term store.old.list))) (λ o. at (after_stride (tree_term t.now) o) (map value_term store.new.list)) purse.old purse.new result }
+    ensures spends { Spends (judgements.Strides (checked_term engine.now) (at (tree_term t.now) (map value_term store.old.list)))
+        (λ o. at (after_stride (tree_term t.now) o) (map value_term store.new.list)) purse.old purse.new result }
 {
     // The program of an engine is accepted.
     let _accepted = engine.checked().program();
@@ -59,7 +61,8 @@ pub fn settle(
 ) -> Result<Tree, Stop>
     requires may { MayAsk (checked_term engine.now) (settles (at (tree_term t) (map value_term store.old.list))) }
     ensures layers { store.new.layers ≡ store.old.layers }
-    ensures spends { Spends (judgements.Settles (checked_term engine.now) (at (tree_term t) (map value_term store.old.list))) (λ u. at (tree_term u) (map value_term store.new.list)) purse.old purse.new result }
+    ensures spends { Spends (judgements.Settles (checked_term engine.now) (at (tree_term t) (map value_term store.old.list)))
+        (λ u. at (tree_term u) (map value_term store.new.list)) purse.old purse.new result }
 {
     // The program of an engine is accepted.
     let _accepted = engine.checked().program();
@@ -76,7 +79,9 @@ pub fn normalise(
 ) -> Result<Tree, Stop>
     requires may { MayAsk (checked_term engine.now) (normal (task_term t.now) (names_term names.now) (map value_term store.old.list)) }
     ensures layers { store.new.layers ≡ store.old.layers }
-    ensures spends { Spends (judgements.Normal (checked_term engine.now) (task_term t.now) (names_term names.now) (map value_term store.old.list)) (λ u. at (tree_term u) (map value_term store.new.list)) purse.old purse.new result }
+    ensures spends { Spends
+        (judgements.Normal (checked_term engine.now) (task_term t.now) (names_term names.now) (map value_term store.old.list))
+        (λ u. at (tree_term u) (map value_term store.new.list)) purse.old purse.new result }
 {
     // The program of an engine is accepted.
     let _accepted = engine.checked().program();
@@ -93,7 +98,8 @@ pub fn apply(
 ) -> Result<Tree, Stop>
     requires fits { ContFits (checked_term engine.now) (cont_term k.now) (value_term v) (map value_term store.old.list) }
     ensures layers { store.new.layers ≡ store.old.layers }
-    ensures spends { Spends (judgements.Applies (checked_term engine.now) (cont_term k.now) (value_term v) (map value_term store.old.list)) (λ u. at (tree_term u) (map value_term store.new.list)) purse.old purse.new result }
+    ensures spends { Spends (judgements.Applies (checked_term engine.now) (cont_term k.now) (value_term v) (map value_term store.old.list))
+        (λ u. at (tree_term u) (map value_term store.new.list)) purse.old purse.new result }
 {
     // The program of an engine is accepted.
     let _accepted = engine.checked().program();

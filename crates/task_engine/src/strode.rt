@@ -1,31 +1,20 @@
-ghost use Rattle.std.specs.Prelude.{◌≡◌, map, IfOk, IsSome, None, Some};
+ghost use Rattle.std.specs.Prelude.{◌≡◌, IfOk, None};
 ghost use Rattle.std.specs.Option.{is_some, option_map};
 ghost use Rattle.std.specs.Arc.{arc_value};
 ghost use Rattle.task_model.specs.Value.{value_term};
-ghost use Rattle.task_model.specs.Task.{body_term};
 ghost use Rattle.task_model.specs.Tree as trees;
 ghost use Rattle.task_model.specs.Tree.{TreeTerm, cont_term, tree_term};
 ghost use Rattle.task_model.specs.Rules as rules;
+ghost use Rattle.task_engine.specs.Kinds as kinds;
+ghost use Rattle.task_engine.specs.Stores.{values_in};
 ghost use Rattle.task_engine.specs.Strides.{after_stride, Calm};
 
+use crate::kinds::{PairKind, StepKind, pair_tree, step_tree};
 use shared_store::Store;
 use std::alloc::Global;
 use std::sync::Arc;
-use task_model::{
-    Body, Cont, OutOfMemory, Reads, TaskText, Tree, Value, copy_cont, copy_tree, share, shared,
-};
+use task_model::{Cont, OutOfMemory, Reads, Tree, Value, copy_cont, copy_tree, share, shared};
 use task_tree::{has_value, value};
-
-/// The name that a step's body binds.
-pub(crate) fn binder_of(own: &Body) -> &TaskText
-    requires { IsSome (body_term own.now).binder }
-    ensures { (body_term own.now).binder ≡ Some result.now }
-{
-    match &own.binder {
-        Some(name) => name,
-        None => unreachable!(),
-    }
-}
 
 /// The tree after a stride.
 pub(crate) fn strode_tree(strode: Option<Tree>, old: &Tree) -> Result<Tree, OutOfMemory>
@@ -53,8 +42,8 @@ fn strode_part(
 
 /// Whether the tree after a stride has a value. Where it is as it was, no choice in it has one, so none is walked again.
 pub(crate) fn strode_has_value(strode: &Option<Tree>, old: &Tree, store: &Store<Value>) -> bool
-    requires calm { strode.now ≡ None → Calm (tree_term old.now) (map value_term store.now.list) }
-    ensures { result ≡ is_some (rules.value_of (after_stride (tree_term old.now) strode.now) (map value_term store.now.list)) }
+    requires calm { strode.now ≡ None → Calm (tree_term old.now) (values_in store.now) }
+    ensures { result ≡ is_some (rules.value_of (after_stride (tree_term old.now) strode.now) (values_in store.now)) }
 {
     match strode {
         Some(t) => has_value(t, store),
@@ -64,8 +53,8 @@ pub(crate) fn strode_has_value(strode: &Option<Tree>, old: &Tree, store: &Store<
 
 // Whether a tree has a value in which no choice has one.
 fn calm_has_value(t: &Tree, store: &Store<Value>) -> bool
-    requires { Calm (tree_term t.now) (map value_term store.now.list) }
-    ensures { result ≡ is_some (rules.value_of (tree_term t.now) (map value_term store.now.list)) }
+    requires { Calm (tree_term t.now) (values_in store.now) }
+    ensures { result ≡ is_some (rules.value_of (tree_term t.now) (values_in store.now)) }
 {
     match t {
         Tree::Edit(..) => true,
@@ -87,7 +76,8 @@ pub(crate) fn strode_value(
     old: &Tree,
     store: &Store<Value>,
 ) -> Result<Option<Value>, OutOfMemory>
-    ensures { IfOk result (λ v. option_map value_term v ≡ rules.value_of (after_stride (tree_term old.now) strode.now) (map value_term store.now.list)) }
+    ensures { IfOk result
+        (λ v. option_map value_term v ≡ rules.value_of (after_stride (tree_term old.now) strode.now) (values_in store.now)) }
 {
     match strode {
         Some(t) => value(alloc, t, store),
@@ -95,59 +85,45 @@ pub(crate) fn strode_value(
     }
 }
 
-/// An internal step whose left was strided.
-pub(crate) fn then_of(
+/// A step whose left was strided.
+pub(crate) fn step_of(
     alloc: Global,
+    kind: StepKind,
     strode: Option<Tree>,
     k: &Cont,
 ) -> Result<Option<Tree>, OutOfMemory>
-    ensures tree { IfOk result (λ o. (t : TreeTerm) → after_stride (trees.then_tree t (cont_term k.now)) o ≡ trees.then_tree (after_stride t strode) (cont_term k.now)) }
+    ensures tree { IfOk result
+        (λ o. (t : TreeTerm) → after_stride (kinds.step_tree kind t (cont_term k.now)) o
+        ≡ kinds.step_tree kind (after_stride t strode) (cont_term k.now)) }
     ensures none { IfOk result (λ o. o ≡ None → strode ≡ None) }
 {
     match strode {
         None => Ok(None),
         Some(left) => {
             let left = shared(alloc, left)?;
-            Ok(Some(Tree::Then(left, copy_cont(k)?)))
+            Ok(Some(step_tree(kind, left, copy_cont(k)?)))
         }
     }
 }
 
-/// A user step whose left was strided.
-pub(crate) fn next_of(
+/// A pair whose parts were both strided.
+pub(crate) fn pair_of(
     alloc: Global,
-    strode: Option<Tree>,
-    k: &Cont,
-) -> Result<Option<Tree>, OutOfMemory>
-    ensures tree { IfOk result (λ o. (t : TreeTerm) → after_stride (trees.next_tree t (cont_term k.now)) o ≡ trees.next_tree (after_stride t strode) (cont_term k.now)) }
-    ensures none { IfOk result (λ o. o ≡ None → strode ≡ None) }
-{
-    match strode {
-        None => Ok(None),
-        Some(left) => {
-            let left = shared(alloc, left)?;
-            Ok(Some(Tree::Next(left, copy_cont(k)?)))
-        }
-    }
-}
-
-/// Two parts that were both strided.
-pub(crate) fn and_of(
-    alloc: Global,
+    kind: PairKind,
     t: Option<Tree>,
     a: &Arc<Tree>,
     u: Option<Tree>,
     b: &Arc<Tree>,
 ) -> Result<Option<Tree>, OutOfMemory>
-    ensures tree { IfOk result (λ o. after_stride (trees.and_tree (tree_term (arc_value a.now)) (tree_term (arc_value b.now))) o
-        ≡ trees.and_tree (after_stride (tree_term (arc_value a.now)) t) (after_stride (tree_term (arc_value b.now)) u)) }
+    ensures tree { IfOk result (λ o. after_stride (kinds.pair_tree kind (tree_term (arc_value a.now)) (tree_term (arc_value b.now))) o
+        ≡ kinds.pair_tree kind (after_stride (tree_term (arc_value a.now)) t) (after_stride (tree_term (arc_value b.now)) u)) }
     ensures none { IfOk result (λ o. o ≡ None → (t ≡ None) × (u ≡ None)) }
 {
     match (t, u) {
         (None, None) => Ok(None),
         (t, u) => {
             let a = strode_part(alloc, t, a)?;
-            Ok(Some(Tree::And(a, strode_part(alloc, u, b)?)))
+            Ok(Some(pair_tree(kind, a, strode_part(alloc, u, b)?)))
         }
     }
 }
@@ -161,36 +137,17 @@ pub(crate) fn or_of(
     b: &Arc<Tree>,
     store: &Store<Value>,
 ) -> Result<Option<Tree>, OutOfMemory>
-    requires calm { u ≡ None → Calm (tree_term (arc_value b.now)) (map value_term store.now.list) }
+    requires calm { u ≡ None → Calm (tree_term (arc_value b.now)) (values_in store.now) }
     ensures tree { IfOk result (λ o. after_stride (trees.or_tree (tree_term (arc_value a.now)) (tree_term (arc_value b.now))) o
-        ≡ rules.or_of (rules.value_of (after_stride (tree_term (arc_value b.now)) u) (map value_term store.now.list))
+        ≡ rules.or_of (rules.value_of (after_stride (tree_term (arc_value b.now)) u) (values_in store.now))
         (after_stride (tree_term (arc_value a.now)) t) (after_stride (tree_term (arc_value b.now)) u)) }
     ensures none { IfOk result (λ o. o ≡ None → (t ≡ None) × (u ≡ None)) }
-    ensures valueless { IfOk result (λ o. o ≡ None → rules.value_of (after_stride (tree_term (arc_value b.now)) u) (map value_term store.now.list) ≡ None) }
+    ensures valueless { IfOk result
+        (λ o. o ≡ None → rules.value_of (after_stride (tree_term (arc_value b.now)) u) (values_in store.now) ≡ None) }
 {
     if strode_has_value(&u, b, store) {
         Ok(Some(strode_tree(u, b)?))
     } else {
-        both_of(alloc, t, a, u, b)
-    }
-}
-
-fn both_of(
-    alloc: Global,
-    t: Option<Tree>,
-    a: &Arc<Tree>,
-    u: Option<Tree>,
-    b: &Arc<Tree>,
-) -> Result<Option<Tree>, OutOfMemory>
-    ensures tree { IfOk result (λ o. after_stride (trees.or_tree (tree_term (arc_value a.now)) (tree_term (arc_value b.now))) o
-        ≡ trees.or_tree (after_stride (tree_term (arc_value a.now)) t) (after_stride (tree_term (arc_value b.now)) u)) }
-    ensures none { IfOk result (λ o. o ≡ None → (t ≡ None) × (u ≡ None)) }
-{
-    match (t, u) {
-        (None, None) => Ok(None),
-        (t, u) => {
-            let a = strode_part(alloc, t, a)?;
-            Ok(Some(Tree::Or(a, strode_part(alloc, u, b)?)))
-        }
+        pair_of(alloc, PairKind::Or, t, a, u, b)
     }
 }

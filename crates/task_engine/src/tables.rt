@@ -51,7 +51,8 @@ pub(crate) fn definitions_of(
     counts: &[u64],
     defs: &[Def],
 ) -> Result<Row<u64>, OutOfMemory>
-    ensures { IfOk result (λ r. (p : ProgramTerm) → counts.now ≡ checked.counts_of p → r.list ≡ definition_firsts p 0 (map def_term defs.now)) }
+    ensures { IfOk result
+        (λ r. (p : ProgramTerm) → counts.now ≡ checked.counts_of p → r.list ≡ definition_firsts p 0 (map def_term defs.now)) }
 {
     let mut firsts = Row::new(alloc);
     let mut first = 0;
@@ -72,7 +73,8 @@ fn walk_what(
     starts: &mut Row<u64>,
 ) -> Result<u64, OutOfMemory>
     ensures next { IfOk result (λ n. n ≡ first + placed.what_edits (program_term program.now) (def_body_term what.now)) }
-    ensures starts { OnOk result (starts.new.list ≡ starts.old.list ++ placed.what_firsts (program_term program.now) first (def_body_term what.now)) }
+    ensures starts { OnOk result
+        (starts.new.list ≡ starts.old.list ++ placed.what_firsts (program_term program.now) first (def_body_term what.now)) }
 {
     match what {
         DefBody::Fun(_) => Ok(first),

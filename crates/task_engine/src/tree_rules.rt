@@ -12,13 +12,13 @@ ghost use Rattle.task_model.specs.Rules as rules;
 ghost use Rattle.task_model.specs.Calls.{RunsJudgement, RunsPlan};
 ghost use Rattle.typing_laws.specs.Well.{MayAsk, Well};
 ghost use Rattle.host_eval.specs.NamesTerm.{names_term};
+ghost use Rattle.task_engine.specs.Stores.{values_in, state_in, state_after};
 ghost use Rattle.task_engine.specs.Strides.{Calm, after_stride, state_at, attempt, Binds, BindsNone, AnswersStride};
 
-use crate::engine::Engine;
+use crate::engine::{Engine, binder_of};
 use crate::evaluation::evaluate_at;
-use crate::strode::{
-    and_of, binder_of, next_of, or_of, strode_has_value, strode_tree, strode_value, then_of,
-};
+use crate::kinds::{PairKind, StepKind};
+use crate::strode::{or_of, pair_of, step_of, strode_has_value, strode_tree, strode_value};
 use crate::unchanged::is_unchanged;
 use host_eval::Names;
 use shared_store::Store;
@@ -35,10 +35,10 @@ pub(crate) fn fails_at(
     purse: &mut Purse,
 ) -> Result<bool, Stop>
     requires accepted { IsAccepted (checked_term engine.now) }
-    requires may { MayAsk (checked_term engine.now) (fails (at (tree_term t.now) (map value_term store.old.list))) }
+    requires may { MayAsk (checked_term engine.now) (fails (state_in store.old t.now)) }
     ensures height { OnOk result (purse.new.height ≡ purse.old.height) }
     ensures store { store.new ≡ store.old }
-    ensures asked { RunsJudgement (checked_term engine.now) (fails (at (tree_term t.now) (map value_term store.old.list))) (λ b. b) purse.old purse.new result }
+    ensures asked { RunsJudgement (checked_term engine.now) (fails (state_in store.old t.now)) (λ b. b) purse.old purse.new result }
 {
     let height = purse.height_left();
     purse.enter()?;
@@ -56,10 +56,11 @@ fn fails_form(
     purse: &mut Purse,
 ) -> Result<bool, Stop>
     requires accepted { IsAccepted (checked_term engine.now) }
-    requires may { MayAsk (checked_term engine.now) (fails (at (tree_term t.now) (map value_term store.old.list))) }
+    requires may { MayAsk (checked_term engine.now) (fails (state_in store.old t.now)) }
     ensures height { OnOk result (purse.new.height ≡ purse.old.height) }
     ensures store { store.new ≡ store.old }
-    ensures ran { RunsPlan (checked_term engine.now) (rules.fail_rule (checked_term engine.now) (tree_term t.now) (map value_term store.old.list)) (λ b. b) purse.old purse.new result }
+    ensures ran { RunsPlan (checked_term engine.now) (rules.fail_rule (checked_term engine.now) (tree_term t.now) (values_in store.old))
+        (λ b. b) purse.old purse.new result }
 {
     match t {
         Tree::Edit(..) => Ok(false),
@@ -83,10 +84,13 @@ fn both_fail(
     purse: &mut Purse,
 ) -> Result<bool, Stop>
     requires accepted { IsAccepted (checked_term engine.now) }
-    requires well { Well (checked_term engine.now) (rules.fail_rule (checked_term engine.now) (trees.and_tree (tree_term a.now) (tree_term b.now)) (map value_term store.old.list)) }
+    requires well { Well (checked_term engine.now)
+        (rules.fail_rule (checked_term engine.now) (trees.and_tree (tree_term a.now) (tree_term b.now)) (values_in store.old)) }
     ensures height { OnOk result (purse.new.height ≡ purse.old.height) }
     ensures store { store.new ≡ store.old }
-    ensures ran { RunsPlan (checked_term engine.now) (rules.fail_rule (checked_term engine.now) (trees.and_tree (tree_term a.now) (tree_term b.now)) (map value_term store.old.list)) (λ b. b) purse.old purse.new result }
+    ensures ran { RunsPlan (checked_term engine.now)
+        (rules.fail_rule (checked_term engine.now) (trees.and_tree (tree_term a.now) (tree_term b.now)) (values_in store.old)) (λ b. b)
+        purse.old purse.new result }
 {
     let first = fails_at(engine, a, store, purse)?;
     if first {
@@ -105,12 +109,15 @@ fn sides_fail(
     purse: &mut Purse,
 ) -> Result<bool, Stop>
     requires accepted { IsAccepted (checked_term engine.now) }
-    requires well { Well (checked_term engine.now) (rules.fail_rule (checked_term engine.now) (trees.xor_tree (delay_term a.now) (delay_term b.now)) (map value_term store.old.list)) }
+    requires well { Well (checked_term engine.now)
+        (rules.fail_rule (checked_term engine.now) (trees.xor_tree (delay_term a.now) (delay_term b.now)) (values_in store.old)) }
     requires first { BindsNone (checked_term engine.now) (delay_term a.now).body }
     requires second { BindsNone (checked_term engine.now) (delay_term b.now).body }
     ensures height { OnOk result (purse.new.height ≡ purse.old.height) }
     ensures store { store.new ≡ store.old }
-    ensures ran { RunsPlan (checked_term engine.now) (rules.fail_rule (checked_term engine.now) (trees.xor_tree (delay_term a.now) (delay_term b.now)) (map value_term store.old.list)) (λ b. b) purse.old purse.new result }
+    ensures ran { RunsPlan (checked_term engine.now)
+        (rules.fail_rule (checked_term engine.now) (trees.xor_tree (delay_term a.now) (delay_term b.now)) (values_in store.old)) (λ b. b)
+        purse.old purse.new result }
 {
     let first = side_fails(engine, a, store, purse)?;
     if first {
@@ -129,11 +136,12 @@ pub(crate) fn side_fails(
     purse: &mut Purse,
 ) -> Result<bool, Stop>
     requires accepted { IsAccepted (checked_term engine.now) }
-    requires well { Well (checked_term engine.now) (rules.side (checked_term engine.now) (delay_term k.now) (map value_term store.old.list)) }
+    requires well { Well (checked_term engine.now) (rules.side (checked_term engine.now) (delay_term k.now) (values_in store.old)) }
     requires unbound { BindsNone (checked_term engine.now) (delay_term k.now).body }
     ensures height { OnOk result (purse.new.height ≡ purse.old.height) }
     ensures store { store.new ≡ store.old }
-    ensures ran { RunsPlan (checked_term engine.now) (rules.side (checked_term engine.now) (delay_term k.now) (map value_term store.old.list)) (λ b. b) purse.old purse.new result }
+    ensures ran { RunsPlan (checked_term engine.now) (rules.side (checked_term engine.now) (delay_term k.now) (values_in store.old))
+        (λ b. b) purse.old purse.new result }
 {
     let own = engine.body(k.body);
     let names = Names::of_scope(&own.scope, k.slots.as_slice(), engine.body_first(k.body));
@@ -149,11 +157,13 @@ pub(crate) fn step_fails(
     purse: &mut Purse,
 ) -> Result<bool, Stop>
     requires accepted { IsAccepted (checked_term engine.now) }
-    requires well { Well (checked_term engine.now) (rules.trial (checked_term engine.now) (cont_term k.now) (value_term v) (map value_term store.old.list)) }
+    requires well { Well (checked_term engine.now)
+        (rules.trial (checked_term engine.now) (cont_term k.now) (value_term v) (values_in store.old)) }
     requires bound { Binds (checked_term engine.now) (cont_term k.now).body }
     ensures height { OnOk result (purse.new.height ≡ purse.old.height) }
     ensures store { store.new ≡ store.old }
-    ensures ran { RunsPlan (checked_term engine.now) (rules.trial (checked_term engine.now) (cont_term k.now) (value_term v) (map value_term store.old.list)) (λ b. b) purse.old purse.new result }
+    ensures ran { RunsPlan (checked_term engine.now)
+        (rules.trial (checked_term engine.now) (cont_term k.now) (value_term v) (values_in store.old)) (λ b. b) purse.old purse.new result }
 {
     let own = engine.body(k.body);
     let slot = Slot::Plain(v);
@@ -172,10 +182,13 @@ fn tested(
     purse: &mut Purse,
 ) -> Result<bool, Stop>
     requires accepted { IsAccepted (checked_term engine.now) }
-    requires well { Well (checked_term engine.now) (ask (normal (task_term t.now) (names_term names.now) (map value_term store.old.list)) (λ s. ask (fails s) give)) }
+    requires well { Well (checked_term engine.now)
+        (ask (normal (task_term t.now) (names_term names.now) (values_in store.old)) (λ s. ask (fails s) give)) }
     ensures height { OnOk result (purse.new.height ≡ purse.old.height) }
     ensures store { store.new ≡ store.old }
-    ensures ran { RunsPlan (checked_term engine.now) (ask (normal (task_term t.now) (names_term names.now) (map value_term store.old.list)) (λ s. ask (fails s) give)) (λ b. b) purse.old purse.new result }
+    ensures ran { RunsPlan (checked_term engine.now)
+        (ask (normal (task_term t.now) (names_term names.now) (values_in store.old)) (λ s. ask (fails s) give)) (λ b. b)
+        purse.old purse.new result }
 {
     store.begin()?;
     let failing = normal_fails(engine, t, names, store, purse);
@@ -192,10 +205,13 @@ fn normal_fails(
     purse: &mut Purse,
 ) -> Result<bool, Stop>
     requires accepted { IsAccepted (checked_term engine.now) }
-    requires well { Well (checked_term engine.now) (ask (normal (task_term t.now) (names_term names.now) (map value_term store.old.list)) (λ s. ask (fails s) give)) }
+    requires well { Well (checked_term engine.now)
+        (ask (normal (task_term t.now) (names_term names.now) (values_in store.old)) (λ s. ask (fails s) give)) }
     ensures height { OnOk result (purse.new.height ≡ purse.old.height) }
     ensures layers { store.new.layers ≡ store.old.layers }
-    ensures ran { RunsPlan (checked_term engine.now) (ask (normal (task_term t.now) (names_term names.now) (map value_term store.old.list)) (λ s. ask (fails s) give)) (λ b. b) purse.old purse.new result }
+    ensures ran { RunsPlan (checked_term engine.now)
+        (ask (normal (task_term t.now) (names_term names.now) (values_in store.old)) (λ s. ask (fails s) give)) (λ b. b)
+        purse.old purse.new result }
 {
     let u = normal_at(engine, t, names, store, purse)?;
     fails_at(engine, &u, store, purse)
@@ -210,10 +226,11 @@ pub(crate) fn normal_at(
     purse: &mut Purse,
 ) -> Result<Tree, Stop>
     requires accepted { IsAccepted (checked_term engine.now) }
-    requires may { MayAsk (checked_term engine.now) (normal (task_term t.now) (names_term names.now) (map value_term store.old.list)) }
+    requires may { MayAsk (checked_term engine.now) (normal (task_term t.now) (names_term names.now) (values_in store.old)) }
     ensures height { OnOk result (purse.new.height ≡ purse.old.height) }
     ensures layers { store.new.layers ≡ store.old.layers }
-    ensures asked { RunsJudgement (checked_term engine.now) (normal (task_term t.now) (names_term names.now) (map value_term store.old.list)) (λ u. at (tree_term u) (map value_term store.new.list)) purse.old purse.new result }
+    ensures asked { RunsJudgement (checked_term engine.now) (normal (task_term t.now) (names_term names.now) (values_in store.old))
+        (state_in store.new) purse.old purse.new result }
 {
     let height = purse.height_left();
     purse.enter()?;
@@ -231,10 +248,13 @@ fn normal_form(
     purse: &mut Purse,
 ) -> Result<Tree, Stop>
     requires accepted { IsAccepted (checked_term engine.now) }
-    requires well { Well (checked_term engine.now) (ask (evaluates (task_term t.now) (names_term names.now) (map value_term store.old.list)) (λ s. stride_on s give)) }
+    requires well { Well (checked_term engine.now)
+        (ask (evaluates (task_term t.now) (names_term names.now) (values_in store.old)) (λ s. stride_on s give)) }
     ensures height { OnOk result (purse.new.height ≡ purse.old.height) }
     ensures layers { store.new.layers ≡ store.old.layers }
-    ensures ran { RunsPlan (checked_term engine.now) (ask (evaluates (task_term t.now) (names_term names.now) (map value_term store.old.list)) (λ s. stride_on s give)) (λ u. at (tree_term u) (map value_term store.new.list)) purse.old purse.new result }
+    ensures ran { RunsPlan (checked_term engine.now)
+        (ask (evaluates (task_term t.now) (names_term names.now) (values_in store.old)) (λ s. stride_on s give)) (state_in store.new)
+        purse.old purse.new result }
 {
     let u = evaluate_at(engine, t, names, store, purse)?;
     stride_all(engine, u, store, purse)
@@ -249,10 +269,11 @@ pub(crate) fn stride_all(
     purse: &mut Purse,
 ) -> Result<Tree, Stop>
     requires accepted { IsAccepted (checked_term engine.now) }
-    requires may { MayAsk (checked_term engine.now) (strides (at (tree_term t) (map value_term store.old.list))) }
+    requires may { MayAsk (checked_term engine.now) (strides (state_in store.old t)) }
     ensures height { OnOk result (purse.new.height ≡ purse.old.height) }
     ensures layers { store.new.layers ≡ store.old.layers }
-    ensures ran { RunsPlan (checked_term engine.now) (stride_on (at (tree_term t) (map value_term store.old.list)) give) (λ u. at (tree_term u) (map value_term store.new.list)) purse.old purse.new result }
+    ensures ran { RunsPlan (checked_term engine.now) (stride_on (state_in store.old t) give) (state_in store.new)
+        purse.old purse.new result }
 {
     let mut tree = t;
     'strides: loop {
@@ -272,10 +293,11 @@ pub(crate) fn settle_at(
     purse: &mut Purse,
 ) -> Result<Tree, Stop>
     requires accepted { IsAccepted (checked_term engine.now) }
-    requires may { MayAsk (checked_term engine.now) (settles (at (tree_term t) (map value_term store.old.list))) }
+    requires may { MayAsk (checked_term engine.now) (settles (state_in store.old t)) }
     ensures height { OnOk result (purse.new.height ≡ purse.old.height) }
     ensures layers { store.new.layers ≡ store.old.layers }
-    ensures asked { RunsJudgement (checked_term engine.now) (settles (at (tree_term t) (map value_term store.old.list))) (λ u. at (tree_term u) (map value_term store.new.list)) purse.old purse.new result }
+    ensures asked { RunsJudgement (checked_term engine.now) (settles (state_in store.old t)) (state_in store.new)
+        purse.old purse.new result }
 {
     let height = purse.height_left();
     purse.enter()?;
@@ -293,12 +315,14 @@ fn changing(
     purse: &mut Purse,
 ) -> Result<Option<Tree>, Stop>
     requires accepted { IsAccepted (checked_term engine.now) }
-    requires may { MayAsk (checked_term engine.now) (strides (at (tree_term t.now) (map value_term store.old.list))) }
+    requires may { MayAsk (checked_term engine.now) (strides (state_in store.old t.now)) }
     ensures height { OnOk result (purse.new.height ≡ purse.old.height) }
     ensures layers { store.new.layers ≡ store.old.layers }
-    ensures none { IfOk result (λ o. o ≡ None → (map value_term store.new.list) ≡ (map value_term store.old.list)) }
-    ensures other { IfOk result (λ o. IfSome o (λ u. at (tree_term u) (map value_term store.new.list) ≡ at (tree_term t.now) (map value_term store.old.list) → ⊥)) }
-    ensures asked { RunsJudgement (checked_term engine.now) (strides (at (tree_term t.now) (map value_term store.old.list))) (λ o. at (after_stride (tree_term t.now) o) (map value_term store.new.list)) purse.old purse.new result }
+    ensures none { IfOk result (λ o. o ≡ None → values_in store.new ≡ values_in store.old) }
+    ensures other { IfOk result
+        (λ o. IfSome o (λ u. at (tree_term u) (values_in store.new) ≡ at (tree_term t.now) (values_in store.old) → ⊥)) }
+    ensures asked { RunsJudgement (checked_term engine.now) (strides (state_in store.old t.now)) (state_after (tree_term t.now) store.new)
+        purse.old purse.new result }
 {
     store.begin()?;
     let strode = stride_at(engine, t, store, purse);
@@ -314,12 +338,13 @@ pub(crate) fn stride_at(
     purse: &mut Purse,
 ) -> Result<Option<Tree>, Stop>
     requires accepted { IsAccepted (checked_term engine.now) }
-    requires may { MayAsk (checked_term engine.now) (strides (at (tree_term t.now) (map value_term store.old.list))) }
+    requires may { MayAsk (checked_term engine.now) (strides (state_in store.old t.now)) }
     ensures height { OnOk result (purse.new.height ≡ purse.old.height) }
     ensures layers { store.new.layers ≡ store.old.layers }
     ensures kept { IfOk result (λ o. o ≡ None → store.new.list ≡ store.old.list) }
-    ensures calm { IfOk result (λ o. o ≡ None → Calm (tree_term t.now) (map value_term store.new.list)) }
-    ensures asked { RunsJudgement (checked_term engine.now) (strides (at (tree_term t.now) (map value_term store.old.list))) (λ o. at (after_stride (tree_term t.now) o) (map value_term store.new.list)) purse.old purse.new result }
+    ensures calm { IfOk result (λ o. o ≡ None → Calm (tree_term t.now) (values_in store.new)) }
+    ensures asked { RunsJudgement (checked_term engine.now) (strides (state_in store.old t.now)) (state_after (tree_term t.now) store.new)
+        purse.old purse.new result }
 {
     let height = purse.height_left();
     purse.enter()?;
@@ -337,12 +362,13 @@ fn stride_form(
     purse: &mut Purse,
 ) -> Result<Option<Tree>, Stop>
     requires accepted { IsAccepted (checked_term engine.now) }
-    requires may { MayAsk (checked_term engine.now) (strides (at (tree_term t.now) (map value_term store.old.list))) }
+    requires may { MayAsk (checked_term engine.now) (strides (state_in store.old t.now)) }
     ensures height { OnOk result (purse.new.height ≡ purse.old.height) }
     ensures layers { store.new.layers ≡ store.old.layers }
     ensures kept { IfOk result (λ o. o ≡ None → store.new.list ≡ store.old.list) }
-    ensures calm { IfOk result (λ o. o ≡ None → Calm (tree_term t.now) (map value_term store.new.list)) }
-    ensures ran { RunsPlan (checked_term engine.now) (rules.stride_rule (checked_term engine.now) (tree_term t.now) (map value_term store.old.list)) (λ o. at (after_stride (tree_term t.now) o) (map value_term store.new.list)) purse.old purse.new result }
+    ensures calm { IfOk result (λ o. o ≡ None → Calm (tree_term t.now) (values_in store.new)) }
+    ensures ran { RunsPlan (checked_term engine.now) (rules.stride_rule (checked_term engine.now) (tree_term t.now) (values_in store.old))
+        (state_after (tree_term t.now) store.new) purse.old purse.new result }
 {
     match t {
         Tree::Edit(..) => Ok(None),
@@ -366,14 +392,17 @@ fn next_form(
     purse: &mut Purse,
 ) -> Result<Option<Tree>, Stop>
     requires accepted { IsAccepted (checked_term engine.now) }
-    requires may { MayAsk (checked_term engine.now) (strides (at (trees.next_tree (tree_term left.now) (cont_term k.now)) (map value_term store.old.list))) }
+    requires may { MayAsk (checked_term engine.now)
+        (strides (at (trees.next_tree (tree_term left.now) (cont_term k.now)) (values_in store.old))) }
     ensures height { OnOk result (purse.new.height ≡ purse.old.height) }
     ensures layers { store.new.layers ≡ store.old.layers }
     ensures kept { IfOk result (λ o. o ≡ None → store.new.list ≡ store.old.list) }
-    ensures ran { RunsPlan (checked_term engine.now) (rules.stride_rule (checked_term engine.now) (trees.next_tree (tree_term left.now) (cont_term k.now)) (map value_term store.old.list)) (λ o. at (after_stride (trees.next_tree (tree_term left.now) (cont_term k.now)) o) (map value_term store.new.list)) purse.old purse.new result }
+    ensures ran { RunsPlan (checked_term engine.now)
+        (rules.stride_rule (checked_term engine.now) (trees.next_tree (tree_term left.now) (cont_term k.now)) (values_in store.old))
+        (state_after (trees.next_tree (tree_term left.now) (cont_term k.now)) store.new) purse.old purse.new result }
 {
     let strode = stride_at(engine, left, store, purse)?;
-    Ok(next_of(engine.alloc(), strode, k)?)
+    Ok(step_of(engine.alloc(), StepKind::Next, strode, k)?)
 }
 
 #[cycle(engine)]
@@ -385,16 +414,22 @@ fn and_form(
     purse: &mut Purse,
 ) -> Result<Option<Tree>, Stop>
     requires accepted { IsAccepted (checked_term engine.now) }
-    requires may { MayAsk (checked_term engine.now) (strides (at (trees.and_tree (tree_term (arc_value a.now)) (tree_term (arc_value b.now))) (map value_term store.old.list))) }
+    requires may { MayAsk (checked_term engine.now)
+        (strides (at (trees.and_tree (tree_term (arc_value a.now)) (tree_term (arc_value b.now))) (values_in store.old))) }
     ensures height { OnOk result (purse.new.height ≡ purse.old.height) }
     ensures layers { store.new.layers ≡ store.old.layers }
     ensures kept { IfOk result (λ o. o ≡ None → store.new.list ≡ store.old.list) }
-    ensures calm { IfOk result (λ o. o ≡ None → Calm (trees.and_tree (tree_term (arc_value a.now)) (tree_term (arc_value b.now))) (map value_term store.new.list)) }
-    ensures ran { RunsPlan (checked_term engine.now) (rules.stride_rule (checked_term engine.now) (trees.and_tree (tree_term (arc_value a.now)) (tree_term (arc_value b.now))) (map value_term store.old.list)) (λ o. at (after_stride (trees.and_tree (tree_term (arc_value a.now)) (tree_term (arc_value b.now))) o) (map value_term store.new.list)) purse.old purse.new result }
+    ensures calm { IfOk result
+        (λ o. o ≡ None → Calm (trees.and_tree (tree_term (arc_value a.now)) (tree_term (arc_value b.now))) (values_in store.new)) }
+    ensures ran { RunsPlan (checked_term engine.now)
+        (rules.stride_rule (checked_term engine.now) (trees.and_tree (tree_term (arc_value a.now)) (tree_term (arc_value b.now)))
+        (values_in store.old))
+        (state_after (trees.and_tree (tree_term (arc_value a.now)) (tree_term (arc_value b.now))) store.new)
+        purse.old purse.new result }
 {
     let t = stride_at(engine, a, store, purse)?;
     let u = stride_at(engine, b, store, purse)?;
-    Ok(and_of(engine.alloc(), t, a, u, b)?)
+    Ok(pair_of(engine.alloc(), PairKind::And, t, a, u, b)?)
 }
 
 #[cycle(engine)]
@@ -406,12 +441,18 @@ fn or_form(
     purse: &mut Purse,
 ) -> Result<Option<Tree>, Stop>
     requires accepted { IsAccepted (checked_term engine.now) }
-    requires may { MayAsk (checked_term engine.now) (strides (at (trees.or_tree (tree_term (arc_value a.now)) (tree_term (arc_value b.now))) (map value_term store.old.list))) }
+    requires may { MayAsk (checked_term engine.now)
+        (strides (at (trees.or_tree (tree_term (arc_value a.now)) (tree_term (arc_value b.now))) (values_in store.old))) }
     ensures height { OnOk result (purse.new.height ≡ purse.old.height) }
     ensures layers { store.new.layers ≡ store.old.layers }
     ensures kept { IfOk result (λ o. o ≡ None → store.new.list ≡ store.old.list) }
-    ensures calm { IfOk result (λ o. o ≡ None → Calm (trees.or_tree (tree_term (arc_value a.now)) (tree_term (arc_value b.now))) (map value_term store.new.list)) }
-    ensures ran { RunsPlan (checked_term engine.now) (rules.stride_rule (checked_term engine.now) (trees.or_tree (tree_term (arc_value a.now)) (tree_term (arc_value b.now))) (map value_term store.old.list)) (λ o. at (after_stride (trees.or_tree (tree_term (arc_value a.now)) (tree_term (arc_value b.now))) o) (map value_term store.new.list)) purse.old purse.new result }
+    ensures calm { IfOk result
+        (λ o. o ≡ None → Calm (trees.or_tree (tree_term (arc_value a.now)) (tree_term (arc_value b.now))) (values_in store.new)) }
+    ensures ran { RunsPlan (checked_term engine.now)
+        (rules.stride_rule (checked_term engine.now) (trees.or_tree (tree_term (arc_value a.now)) (tree_term (arc_value b.now)))
+        (values_in store.old))
+        (state_after (trees.or_tree (tree_term (arc_value a.now)) (tree_term (arc_value b.now))) store.new)
+        purse.old purse.new result }
 {
     let t = stride_at(engine, a, store, purse)?;
     if strode_has_value(&t, a, store) {
@@ -431,11 +472,14 @@ fn then_form(
     purse: &mut Purse,
 ) -> Result<Option<Tree>, Stop>
     requires accepted { IsAccepted (checked_term engine.now) }
-    requires may { MayAsk (checked_term engine.now) (strides (at (trees.then_tree (tree_term left.now) (cont_term k.now)) (map value_term store.old.list))) }
+    requires may { MayAsk (checked_term engine.now)
+        (strides (at (trees.then_tree (tree_term left.now) (cont_term k.now)) (values_in store.old))) }
     ensures height { OnOk result (purse.new.height ≡ purse.old.height) }
     ensures layers { store.new.layers ≡ store.old.layers }
     ensures kept { IfOk result (λ o. o ≡ None → store.new.list ≡ store.old.list) }
-    ensures ran { RunsPlan (checked_term engine.now) (rules.stride_rule (checked_term engine.now) (trees.then_tree (tree_term left.now) (cont_term k.now)) (map value_term store.old.list)) (λ o. at (after_stride (trees.then_tree (tree_term left.now) (cont_term k.now)) o) (map value_term store.new.list)) purse.old purse.new result }
+    ensures ran { RunsPlan (checked_term engine.now)
+        (rules.stride_rule (checked_term engine.now) (trees.then_tree (tree_term left.now) (cont_term k.now)) (values_in store.old))
+        (state_after (trees.then_tree (tree_term left.now) (cont_term k.now)) store.new) purse.old purse.new result }
 {
     let strode = stride_at(engine, left, store, purse)?;
     fired(engine, left, strode, k, store, purse)
@@ -452,16 +496,21 @@ fn fired(
     purse: &mut Purse,
 ) -> Result<Option<Tree>, Stop>
     requires accepted { IsAccepted (checked_term engine.now) }
-    requires well { Well (checked_term engine.now) (rules.fired (checked_term engine.now) (rules.value_of (after_stride (tree_term left.now) strode) (map value_term store.old.list)) (cont_term k.now) (at (after_stride (tree_term left.now) strode) (map value_term store.old.list))) }
+    requires well { Well (checked_term engine.now)
+        (rules.fired (checked_term engine.now) (rules.value_of (after_stride (tree_term left.now) strode) (values_in store.old))
+        (cont_term k.now) (at (after_stride (tree_term left.now) strode) (values_in store.old))) }
     requires bound { Binds (checked_term engine.now) (cont_term k.now).body }
-    requires calm { strode ≡ None → Calm (tree_term left.now) (map value_term store.old.list) }
+    requires calm { strode ≡ None → Calm (tree_term left.now) (values_in store.old) }
     ensures height { OnOk result (purse.new.height ≡ purse.old.height) }
     ensures layers { store.new.layers ≡ store.old.layers }
     ensures kept { IfOk result (λ o. o ≡ None → (strode ≡ None) × (store.new.list ≡ store.old.list)) }
-    ensures ran { RunsPlan (checked_term engine.now) (rules.fired (checked_term engine.now) (rules.value_of (after_stride (tree_term left.now) strode) (map value_term store.old.list)) (cont_term k.now) (at (after_stride (tree_term left.now) strode) (map value_term store.old.list))) (λ o. at (after_stride (trees.then_tree (tree_term left.now) (cont_term k.now)) o) (map value_term store.new.list)) purse.old purse.new result }
+    ensures ran { RunsPlan (checked_term engine.now)
+        (rules.fired (checked_term engine.now) (rules.value_of (after_stride (tree_term left.now) strode) (values_in store.old))
+        (cont_term k.now) (at (after_stride (tree_term left.now) strode) (values_in store.old)))
+        (state_after (trees.then_tree (tree_term left.now) (cont_term k.now)) store.new) purse.old purse.new result }
 {
     if !strode_has_value(&strode, left, store) {
-        return Ok(then_of(engine.alloc(), strode, k)?);
+        return Ok(step_of(engine.alloc(), StepKind::Then, strode, k)?);
     }
     let value = strode_value(engine.alloc(), &strode, left, store)?;
     match value {
@@ -482,17 +531,22 @@ fn fired_at(
     purse: &mut Purse,
 ) -> Result<Option<Tree>, Stop>
     requires accepted { IsAccepted (checked_term engine.now) }
-    requires well { Well (checked_term engine.now) (rules.fired (checked_term engine.now) (Some (value_term v)) (cont_term k.now) (at (after_stride (tree_term left.now) strode) (map value_term store.old.list))) }
+    requires well { Well (checked_term engine.now)
+        (rules.fired (checked_term engine.now) (Some (value_term v)) (cont_term k.now)
+        (at (after_stride (tree_term left.now) strode) (values_in store.old))) }
     requires bound { Binds (checked_term engine.now) (cont_term k.now).body }
     ensures height { OnOk result (purse.new.height ≡ purse.old.height) }
     ensures layers { store.new.layers ≡ store.old.layers }
     ensures kept { IfOk result (λ o. o ≡ None → (strode ≡ None) × (store.new.list ≡ store.old.list)) }
-    ensures ran { RunsPlan (checked_term engine.now) (rules.fired (checked_term engine.now) (Some (value_term v)) (cont_term k.now) (at (after_stride (tree_term left.now) strode) (map value_term store.old.list))) (λ o. at (after_stride (trees.then_tree (tree_term left.now) (cont_term k.now)) o) (map value_term store.new.list)) purse.old purse.new result }
+    ensures ran { RunsPlan (checked_term engine.now)
+        (rules.fired (checked_term engine.now) (Some (value_term v)) (cont_term k.now)
+        (at (after_stride (tree_term left.now) strode) (values_in store.old)))
+        (state_after (trees.then_tree (tree_term left.now) (cont_term k.now)) store.new) purse.old purse.new result }
 {
     let tried = tried(engine, k, v, store, purse)?;
     match tried {
         Some(t) => Ok(Some(t)),
-        None => Ok(then_of(engine.alloc(), strode, k)?),
+        None => Ok(step_of(engine.alloc(), StepKind::Then, strode, k)?),
     }
 }
 
@@ -506,12 +560,15 @@ fn tried(
     purse: &mut Purse,
 ) -> Result<Option<Tree>, Stop>
     requires accepted { IsAccepted (checked_term engine.now) }
-    requires well { Well (checked_term engine.now) (attempt (checked_term engine.now) (cont_term k.now) (value_term v) (map value_term store.old.list)) }
+    requires well { Well (checked_term engine.now)
+        (attempt (checked_term engine.now) (cont_term k.now) (value_term v) (values_in store.old)) }
     requires bound { Binds (checked_term engine.now) (cont_term k.now).body }
     ensures height { OnOk result (purse.new.height ≡ purse.old.height) }
     ensures layers { store.new.layers ≡ store.old.layers }
     ensures dropped { IfOk result (λ o. o ≡ None → store.new.list ≡ store.old.list) }
-    ensures ran { RunsPlan (checked_term engine.now) (attempt (checked_term engine.now) (cont_term k.now) (value_term v) (map value_term store.old.list)) (state_at (map value_term store.new.list)) purse.old purse.new result }
+    ensures ran { RunsPlan (checked_term engine.now)
+        (attempt (checked_term engine.now) (cont_term k.now) (value_term v) (values_in store.old)) (state_at (values_in store.new))
+        purse.old purse.new result }
 {
     store.begin()?;
     let attempted = attempted(engine, k, v, store, purse);
@@ -528,11 +585,14 @@ fn attempted(
     purse: &mut Purse,
 ) -> Result<Option<Tree>, Stop>
     requires accepted { IsAccepted (checked_term engine.now) }
-    requires well { Well (checked_term engine.now) (attempt (checked_term engine.now) (cont_term k.now) (value_term v) (map value_term store.old.list)) }
+    requires well { Well (checked_term engine.now)
+        (attempt (checked_term engine.now) (cont_term k.now) (value_term v) (values_in store.old)) }
     requires bound { Binds (checked_term engine.now) (cont_term k.now).body }
     ensures height { OnOk result (purse.new.height ≡ purse.old.height) }
     ensures layers { store.new.layers ≡ store.old.layers }
-    ensures ran { RunsPlan (checked_term engine.now) (attempt (checked_term engine.now) (cont_term k.now) (value_term v) (map value_term store.old.list)) (state_at (map value_term store.new.list)) purse.old purse.new result }
+    ensures ran { RunsPlan (checked_term engine.now)
+        (attempt (checked_term engine.now) (cont_term k.now) (value_term v) (values_in store.old)) (state_at (values_in store.new))
+        purse.old purse.new result }
 {
     let t = apply_at(engine, k, v, store, purse)?;
     let failing = fails_at(engine, &t, store, purse)?;
@@ -548,11 +608,14 @@ pub(crate) fn apply_at(
     purse: &mut Purse,
 ) -> Result<Tree, Stop>
     requires accepted { IsAccepted (checked_term engine.now) }
-    requires well { Well (checked_term engine.now) (rules.applied (checked_term engine.now) (cont_term k.now) (value_term v) (map value_term store.old.list) give) }
+    requires well { Well (checked_term engine.now)
+        (rules.applied (checked_term engine.now) (cont_term k.now) (value_term v) (values_in store.old) give) }
     requires bound { Binds (checked_term engine.now) (cont_term k.now).body }
     ensures height { OnOk result (purse.new.height ≡ purse.old.height) }
     ensures layers { store.new.layers ≡ store.old.layers }
-    ensures ran { RunsPlan (checked_term engine.now) (rules.applied (checked_term engine.now) (cont_term k.now) (value_term v) (map value_term store.old.list) give) (λ u. at (tree_term u) (map value_term store.new.list)) purse.old purse.new result }
+    ensures ran { RunsPlan (checked_term engine.now)
+        (rules.applied (checked_term engine.now) (cont_term k.now) (value_term v) (values_in store.old) give) (state_in store.new)
+        purse.old purse.new result }
 {
     let own = engine.body(k.body);
     let slot = Slot::Plain(v);
@@ -570,7 +633,8 @@ fn judged(
     requires { 0 < length store.old.layers }
     ensures layers { (σ : List values.Value) (below : List (List values.Value)) → store.old.layers ≡ σ ∷ below → store.new.layers ≡ below }
     ensures list { IfOk result (λ o. store.new.list ≡ store.old.list) }
-    ensures judged { (σ : List values.Value) (below : List (List values.Value)) → store.old.layers ≡ σ ∷ below → AnswersStride (tree_term t.now) σ store.old.list strode result }
+    ensures judged { (σ : List values.Value) (below : List (List values.Value)) → store.old.layers ≡ σ ∷ below
+        → AnswersStride (tree_term t.now) σ store.old.list strode result }
 {
     match strode {
         Ok(None) => {
@@ -594,7 +658,8 @@ fn end_trial(attempted: &Result<Option<Tree>, Stop>, store: &mut Store<Value>)
     requires { 0 < length store.old.layers }
     ensures layers { (σ : List values.Value) (below : List (List values.Value)) → store.old.layers ≡ σ ∷ below → store.new.layers ≡ below }
     ensures kept { IfOk attempted.now (λ o. IfSome o (λ u. store.new.list ≡ store.old.list)) }
-    ensures dropped { (σ : List values.Value) (below : List (List values.Value)) → store.old.layers ≡ σ ∷ below → IfOk attempted.now (λ o. o ≡ None → store.new.list ≡ σ) }
+    ensures dropped { (σ : List values.Value) (below : List (List values.Value)) → store.old.layers ≡ σ ∷ below
+        → IfOk attempted.now (λ o. o ≡ None → store.new.list ≡ σ) }
 {
     match attempted {
         Ok(Some(_)) => store.keep(),
@@ -605,7 +670,8 @@ fn end_trial(attempted: &Result<Option<Tree>, Stop>, store: &mut Store<Value>)
 
 fn is_same_state(t: &Tree, u: &Tree, store: &Store<Value>) -> bool
     requires { 0 < length store.now.layers }
-    ensures { (σ : List values.Value) → slice_get store.now.layers 0 ≡ Some σ → IsTrue result ↔ (at (tree_term u.now) (map value_term store.now.list) ≡ at (tree_term t.now) (map value_term σ)) }
+    ensures { (σ : List values.Value) → slice_get store.now.layers 0 ≡ Some σ → IsTrue result
+        ↔ (at (tree_term u.now) (values_in store.now) ≡ at (tree_term t.now) (map value_term σ)) }
 {
     is_unchanged(store) && same(u, t)
 }

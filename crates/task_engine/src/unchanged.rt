@@ -12,7 +12,8 @@ use task_model::Value;
 /// Whether the values are those of the newest layer. It takes no memory.
 pub(crate) fn is_unchanged(store: &Store<Value>) -> bool
     requires { 0 < length store.now.layers }
-    ensures { (σ : List Value) → slice_get store.now.layers 0 ≡ Some σ → IsTrue result ↔ (map value_term store.now.list ≡ map value_term σ) }
+    ensures { (σ : List Value) → slice_get store.now.layers 0 ≡ Some σ → IsTrue result
+        ↔ (map value_term store.now.list ≡ map value_term σ) }
 {
     let changes = store.changes();
     let values = store.as_slice();

@@ -46,8 +46,11 @@ fn walk_both(
     first: u64,
     starts: &mut Row<u64>,
 ) -> Result<u64, OutOfMemory>
-    ensures next { IfOk result (λ n. n ≡ first + edit_nodes (full_and (full_task later.now (task_term a.now)) (full_task later.now (task_term b.now)))) }
-    ensures starts { OnOk result (starts.new.list ≡ starts.old.list ++ task_firsts first (full_and (full_task later.now (task_term a.now)) (full_task later.now (task_term b.now)))) }
+    ensures next { IfOk result
+        (λ n. n ≡ first + edit_nodes (full_and (full_task later.now (task_term a.now)) (full_task later.now (task_term b.now)))) }
+    ensures starts { OnOk result
+        (starts.new.list ≡ starts.old.list ++ task_firsts first
+        (full_and (full_task later.now (task_term a.now)) (full_task later.now (task_term b.now)))) }
 {
     let middle = walk(later, a, first, starts)?;
     walk(later, b, middle, starts)
@@ -61,8 +64,13 @@ fn walk_step(
     first: u64,
     starts: &mut Row<u64>,
 ) -> Result<u64, OutOfMemory>
-    ensures next { IfOk result (λ n. n ≡ first + edit_nodes (step_over (full_task later.now (task_term left.now)) (full_body_numbered later.now.first (later_bodies later.now) body))) }
-    ensures starts { OnOk result (starts.new.list ≡ starts.old.list ++ task_firsts first (step_over (full_task later.now (task_term left.now)) (full_body_numbered later.now.first (later_bodies later.now) body))) }
+    ensures next { IfOk result
+        (λ n. n ≡ first
+        + edit_nodes
+        (step_over (full_task later.now (task_term left.now)) (full_body_numbered later.now.first (later_bodies later.now) body))) }
+    ensures starts { OnOk result
+        (starts.new.list ≡ starts.old.list ++ task_firsts first
+        (step_over (full_task later.now (task_term left.now)) (full_body_numbered later.now.first (later_bodies later.now) body))) }
 {
     match later.numbered(body) {
         None => Ok(first),
@@ -85,8 +93,14 @@ fn walk_sides(
     first: u64,
     starts: &mut Row<u64>,
 ) -> Result<u64, OutOfMemory>
-    ensures next { IfOk result (λ n. n ≡ first + edit_nodes (sides_of (full_body_numbered later.now.first (later_bodies later.now) left) (full_body_numbered later.now.first (later_bodies later.now) right))) }
-    ensures starts { OnOk result (starts.new.list ≡ starts.old.list ++ task_firsts first (sides_of (full_body_numbered later.now.first (later_bodies later.now) left) (full_body_numbered later.now.first (later_bodies later.now) right))) }
+    ensures next { IfOk result
+        (λ n. n ≡ first
+        + edit_nodes (sides_of (full_body_numbered later.now.first (later_bodies later.now) left)
+        (full_body_numbered later.now.first (later_bodies later.now) right))) }
+    ensures starts { OnOk result
+        (starts.new.list ≡ starts.old.list ++ task_firsts first
+        (sides_of (full_body_numbered later.now.first (later_bodies later.now) left)
+        (full_body_numbered later.now.first (later_bodies later.now) right))) }
 {
     match later.numbered(left) {
         None => Ok(first),
@@ -106,7 +120,8 @@ fn walk_sides(
 #[cycle(walk)]
 fn walk_body(own: &NumberedBody, first: u64, starts: &mut Row<u64>) -> Result<u64, OutOfMemory>
     ensures next { IfOk result (λ n. n ≡ first + edit_nodes (full_task own.now.later (task_term own.now.body.now.task))) }
-    ensures starts { OnOk result (starts.new.list ≡ starts.old.list ++ task_firsts first (full_task own.now.later (task_term own.now.body.now.task))) }
+    ensures starts { OnOk result
+        (starts.new.list ≡ starts.old.list ++ task_firsts first (full_task own.now.later (task_term own.now.body.now.task))) }
 {
     let task = &own.body.task;
     walk(&own.later, task, first, starts)

@@ -25,7 +25,7 @@ pub record InputTerm : Type 0 where
   pub act : ActTerm
 
 abbrev pub input_term : Input → InputTerm
-input_term i = record { path = i.path.turns.list; act = act_term i.act }
+input_term i = record { path = i.path.turns; act = act_term i.act }
 
 pub record EntryTerm : Type 0 where
   pub seat : ℕ

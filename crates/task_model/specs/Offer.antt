@@ -36,7 +36,7 @@ pub record OfferTerm : Type 0 where
   pub answer : Answer
 
 abbrev pub offer_term : Offer → OfferTerm
-offer_term o = record { path = o.path.turns.list; kind = offer_kind_term o.kind; answer = o.answer }
+offer_term o = record { path = o.path.turns; kind = offer_kind_term o.kind; answer = o.answer }
 
 abbrev pub offer_here : OfferKindTerm → Answer → OfferTerm
 offer_here k a = record { path = []; kind = k; answer = a }

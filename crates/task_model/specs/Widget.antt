@@ -40,7 +40,7 @@ pub record WidgetTerm : Type 0 where
   pub shape : ShapeTerm
 
 abbrev pub widget_term : Widget → WidgetTerm
-widget_term w = record { path = w.path.turns.list; shape = shape_term w.shape }
+widget_term w = record { path = w.path.turns; shape = shape_term w.shape }
 
 -- the store's value at a place; unit where there is no such place, which no state of a program has
 abbrev pub stored : List ValueTerm → ℕ → ValueTerm

@@ -1,9 +1,10 @@
-use crate::row::Row;
+use crate::turns::Turns;
 use crate::value::Value;
 
 /// A step of a path, into a part of a pair or of an internal choice.
-#[derive(Clone, Copy, Debug, PartialEq, Eq)]
+#[derive(Clone, Copy, Debug, Default, PartialEq, Eq)]
 pub enum Turn {
+    #[default]
     First,
     Second,
 }
@@ -11,7 +12,7 @@ pub enum Turn {
 /// Where in a tree an input goes.
 #[derive(Drop)]
 pub struct Path {
-    pub turns: Row<Turn>,
+    pub turns: Turns,
 }
 
 /// What an input does at its place.

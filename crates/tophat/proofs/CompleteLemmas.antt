@@ -104,7 +104,8 @@ completes (Some (run name budget)) (Some (Some bytes)) (Some script) (Some befor
     (complete_report name budget bytes script c s r.0 h r.1) r.2
 
 -- the same by how a command went
-pub went_complete : (command : Option CommandTerm) (holds : Option (Option Text)) (left_old left_new taken_old taken_new said_old said_new : Option Text)
+pub went_complete : (command : Option CommandTerm) (holds : Option (Option Text))
+    (left_old left_new taken_old taken_new said_old said_new : Option Text)
     (files input out err : Counted) (unread unwritten : Type 0) (status : ℕ)
     → Went limits command holds left_old left_new taken_old taken_new said_old said_new files input out err unread unwritten status
     → Completes limits command holds left_old taken_old taken_new

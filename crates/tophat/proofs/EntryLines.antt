@@ -50,7 +50,10 @@ escaped_line byte = go (byte == 34) (byte == 92) (byte == 10) (byte == 9) (byte 
     go false false false false true g h is = (λ e. omega arith, (λ e. omega arith, tt))
     go false false false false false true h is = (λ e. omega arith, (λ e. omega arith, (hex_line (byte / 16), (hex_line (byte % 16), tt))))
     go false false false false false false true is = (λ e. omega arith, (λ e. omega arith, (λ e. omega arith, (λ e. omega arith, tt))))
-    go false false false false false false false is = (λ e. elim (eqb_tells byte 10) [ inl p ↦ absurd (cc (p.0)) | inr q ↦ absurd (q.1 e) ], tt)
+    go false false false false false false false is = (
+      λ e. elim (eqb_tells byte 10) [ inl p ↦ absurd (cc (p.0)) | inr q ↦ absurd (q.1 e) ],
+      tt,
+    )
 
 escaped_all_line : (t : Text) → IsLine (escaped_all t)
 escaped_all_line [] = tt

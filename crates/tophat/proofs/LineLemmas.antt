@@ -4,10 +4,9 @@ use Rattle.std.proofs.lemmas.Bool.Decides.{leb_tells}
 use Rattle.std.proofs.lemmas.List.{take_all}
 use Rattle.task_model.specs.Text.{Text}
 use Rattle.input_lines.specs.ScriptLines.{LineTerm, IsScriptLine}
-use Rattle.input_lines.specs.LinePlaces.{IsBadLine}
+use Rattle.input_lines.specs.LinePlaces.{IsLineWithin, IsBadLine}
 use Rattle.input_lines.proofs.Decisions.{one_line_meaning, line_or_place}
 use Rattle.input_lines.proofs.LawLemmas.{one_place, line_is_good, of_front}
-use Rattle.tophat.specs.Session.{IsLineWithin}
 
 pub line_once : (line : Text) (m n : LineTerm) → IsScriptLine line m → IsScriptLine line n → m ≡ n
 line_once line m n p q = one_line_meaning line m n p q

@@ -9,6 +9,7 @@ use Rattle.tophat.specs.declared.ending.Ending.{Ending}
 use Rattle.tophat.specs.declared.ending.Ending.TheVariants.{Usage, FileFault, Unopened, Ran, WriteFault}
 use Rattle.tophat.specs.declared.no_world.NoWorld.TheVariants.{Memory}
 use Rattle.command_words.specs.Commands.{CommandTerm, command_term, IsAsked}
+use Rattle.command_words.specs.Commands as commands
 use Rattle.command_words.specs.declared.command.Command.{Command}
 use Rattle.command_words.specs.declared.stop.WordStop.{WordStop}
 use Rattle.command_words.specs.declared.stop.WordStop.TheVariants as words
@@ -16,7 +17,7 @@ use Rattle.command_words.specs.declared.stop.WordStop.TheVariants.{Outside}
 use Rattle.tophat.specs.Ending.{status_of, text_of}
 use Rattle.tophat.specs.Promise.{IsCutShort, WritesReport, Promised, HasVerdictBy}
 use Rattle.tophat.specs.Verdict.{IsVerdictOf}
-use Rattle.tophat.specs.Top.{Limits, Report, named, source_of, Reports}
+use Rattle.tophat.specs.Top.{Limits, Report, named, NeedsMore, source_of, Reports}
 use Rattle.tophat.specs.Worked.{HasVerdictAt, IfNotRun, IfSilent, Writes}
 use Rattle.tophat.specs.Went.{Counted, Went}
 use Rattle.tophat.proofs.ReportLemmas.{report_exists}
@@ -59,26 +60,28 @@ pub promised : (l : Limits) (command : Option CommandTerm) (holds : Option (Opti
 promised l command None left_old left_new taken_old taken_new said_old said_new files input out err unread unwritten status w = tt
 promised l command (Some file) None left_new taken_old taken_new said_old said_new files input out err unread unwritten status w = tt
 promised l command (Some file) (Some script) left_new None taken_new said_old said_new files input out err unread unwritten status w = tt
-promised l command (Some file) (Some script) left_new (Some first) taken_new said_old said_new files input out err unread unwritten status w = (
-  subst (λ (f : Option Text). HasVerdictBy status (source_of command f)) (sym w.worked.file_told)
-      (readable_by (source_of command w.worked.file) w.ending status w.status_is w.worked.verdict_is),
-  λ verdict h.
-      let d = w.worked in
-      let r = report_exists l command file verdict script in
-      let known : IsVerdictOf (source_of command d.file) verdict =
-      subst (λ (f : Option Text). IsVerdictOf (source_of command f) verdict) d.file_told h in
-      let reports : Reports l command d.file verdict d.script r.0 =
-      subst (λ (z : Text). Reports l command d.file verdict z r.0) d.script_told
-      (subst (λ (f : Option Text). Reports l command f verdict script r.0) d.file_told r.1) in (
-        r.0,
-        r.1,
-        writes_report r.0 first d.written taken_new w.ending status w.status_is (took_is first taken_new d.written d.took)
-            (d.comes verdict known r.0 reports),
-      ),
-)
+promised l command (Some file) (Some script) left_new (Some first) taken_new said_old said_new files input out err unread unwritten status w
+    = (
+      subst (λ (f : Option Text). HasVerdictBy status (source_of command f)) (sym w.worked.file_told)
+          (readable_by (source_of command w.worked.file) w.ending status w.status_is w.worked.verdict_is),
+      λ verdict h.
+          let d = w.worked in
+          let r = report_exists l command file verdict script in
+          let known : IsVerdictOf (source_of command d.file) verdict =
+          subst (λ (f : Option Text). IsVerdictOf (source_of command f) verdict) d.file_told h in
+          let reports : Reports l command d.file verdict d.script r.0 =
+          subst (λ (z : Text). Reports l command d.file verdict z r.0) d.script_told
+          (subst (λ (f : Option Text). Reports l command f verdict script r.0) d.file_told r.1) in (
+            r.0,
+            r.1,
+            writes_report r.0 first d.written taken_new w.ending status w.status_is (took_is first taken_new d.written d.took)
+                (d.comes verdict known r.0 reports),
+          ),
+    )
 
 -- status 2 comes where the words are outside the grammar, unless memory ran out, and nowhere else
-pub usage_is : (asked : Result Command WordStop) (command : Option CommandTerm) (ending : Ending) (status : ℕ) (no_file no_read no_write : Type 0)
+pub usage_is : (asked : Result Command WordStop) (command : Option CommandTerm) (ending : Ending) (status : ℕ)
+    (no_file no_read no_write : Type 0)
     → IsAsked command asked → status ≡ status_of ending → IfOk asked (λ _. ending ≡ Usage → ⊥)
     → (asked ≡ Err Outside → ending ≡ Usage) → (asked ≡ Err words.Memory → ending ≡ Unopened Memory) → IfErr asked (λ _. no_file)
     → IfNotRun ending no_read → IfSilent ending no_write
@@ -113,3 +116,10 @@ named_text (Err Outside) command ending name g is outside memory =
     subst (λ (z : Ending). text_of name z ≡ text_of (named command) z) (sym (outside refl)) refl
 named_text (Err words.Memory) command ending name g is outside memory =
     subst (λ (z : Ending). text_of name z ≡ text_of (named command) z) (sym (memory refl)) refl
+
+-- no command of today needs more
+pub needs_no_more : (c : Option CommandTerm) → NeedsMore c → ⊥
+needs_no_more None h = h
+needs_no_more (Some (commands.run name budget)) h = h
+needs_no_more (Some (commands.check name)) h = h
+needs_no_more (Some (commands.soak count seed)) h = h

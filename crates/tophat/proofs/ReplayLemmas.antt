@@ -45,7 +45,8 @@ script_framed [] seat = refl
 script_framed (opened p budget ∷ items) seat = script_framed items seat
 script_framed (took e ∷ items) seat =
     let last : Text = show_line seat ++ codes "\n" in
-    append_assoc (entry_line e ++ codes "\n") (entries_text items) last ∙ append_assoc (entry_line e) (codes "\n") (entries_text items ++ last)
+    append_assoc (entry_line e ++ codes "\n") (entries_text items) last
+    ∙ append_assoc (entry_line e) (codes "\n") (entries_text items ++ last)
     ∙ ap (λ (z : Text). entry_line e ++ 10 ∷ z) (script_framed items seat)
 
 are_lines : (items : List ItemTerm) (seat : ℕ) → AreEntries items → IsSeat seat → AreLines (replay_lines items seat)
@@ -77,9 +78,11 @@ version_more (took d ∷ items) e = ap suc (version_more items e)
 
 module _ (longest seat : ℕ) (room : 7 ≤ longest) (is : IsSeat seat) (t : State) (ws : List WidgetTerm) (n : ℕ) where
   tells_items : (w : WorldTerm) (number : ℕ) (items : List ItemTerm) (k : ℕ) → AreEntries items → AskAgain items
-      → AreShort longest items → LeadTo w.checked w.budget w.state items t → AreWidgets w.checked w.budget t.tree t.store ws → version_of w.history ≡ k
+      → AreShort longest items → LeadTo w.checked w.budget w.state items t → AreWidgets w.checked w.budget t.tree t.store ws
+      → version_of w.history ≡ k
       → k + version_of items ≡ n
-      → Tells longest w number (replay_lines items seat) Done (record { output = taken_after k items ++ page_text n seat ws; finish = Done })
+      → Tells longest w number (replay_lines items seat) Done (record
+      { output = taken_after k items ++ page_text n seat ws; finish = Done })
   tells_items w number [] k h again short lead shown version all =
       let here : k ≡ n = omega (arith, all) in
       let le = show_within seat is in
@@ -137,7 +140,8 @@ script_taken longest limit w items seat t ws room is h again short lead shown no
     let told : Told = record { output = taken_lines n ++ page; finish = Done } in
     let framing : script ≡ framed lines ++ [] = script_framed items seat ∙ sym (append-nil (framed lines)) in
     let cut : lines_in limit script ≡ lines =
-    ap (lines_in limit) framing ∙ lines_all limit lines [] (are_lines items seat h is) tt (subst (λ (z : Text). length z ≤ limit) framing le)
+    ap (lines_in limit) framing ∙ lines_all limit lines [] (are_lines items seat h is) tt
+    (subst (λ (z : Text). length z ≤ limit) framing le)
     ∙ append-nil lines in
     let sum : 0 + n ≡ n = omega arith in
     let all : taken_after 0 items ≡ taken_lines n = taken_sum 0 items h ∙ ap taken_lines sum in
@@ -164,6 +168,7 @@ history_replayed name p budget items seat page h (ws, (t, program, (s, opening, 
     let n : ℕ = version_of items in
     let told : Told = record { output = taken_lines n ++ page_text n seat ws; finish = Done } in
     let tells : TellsScript (Tells limits.line w 1) limits.script (replay_script items seat) told =
-    script_taken limits.line limits.script w items seat t ws (omega arith) h.seat_is h.legal.1 (legal_again p budget items h.legal) h.lines lead
+    script_taken limits.line limits.script w items seat t ws (omega arith) h.seat_is h.legal.1 (legal_again p budget items h.legal) h.lines
+    lead
     widgets refl h.script in
     inl (h.program, (world w, (s, opening, refl), (told, tells, ap (λ (z : Text). replayed items z) is)))

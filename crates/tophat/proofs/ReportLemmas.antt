@@ -113,7 +113,8 @@ command_once l (Some (check name)) file verdict TellsAt one r s d e =
     file_once l.file file (λ z. z ≡ checks verdict) (λ a b p q. p ∙ sym q) r s d e
 command_once l (Some (soak count seed)) file verdict TellsAt one r s d e = soak_verdict_once count seed verdict r s d e
 
-command_reported : (l : Limits) (command : Option CommandTerm) (file : Option Text) (verdict : Verdict) (TellsAt : WorldTerm → Told → Type 0)
+command_reported : (l : Limits) (command : Option CommandTerm) (file : Option Text) (verdict : Verdict)
+    (TellsAt : WorldTerm → Told → Type 0)
     → ((w : WorldTerm) → (t : Told) × TellsAt w t) → There (ReportsCommand l command file verdict TellsAt)
 command_reported l None file verdict TellsAt some = (ends Usage, refl)
 command_reported l (Some (run name budget)) file verdict TellsAt some =

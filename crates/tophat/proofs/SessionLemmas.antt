@@ -22,8 +22,7 @@ use Rattle.line_frame.specs.Script.{TellsScript, lines_in, end_of}
 use Rattle.line_frame.specs.declared.finish.Finish.{Finish}
 use Rattle.line_frame.specs.declared.finish.Finish.TheVariants as finishes
 use Rattle.input_lines.specs.ScriptLines.{LineTerm, nothing, shows, gives}
-use Rattle.input_lines.specs.LinePlaces.{IsBadLine, IsBadColumn}
-use Rattle.tophat.specs.Session.{IsLineWithin}
+use Rattle.input_lines.specs.LinePlaces.{IsLineWithin, IsBadLine, IsBadColumn}
 use Rattle.tophat.proofs.LineLemmas.{line_once, bad_once, line_apart, cut_bad, line_decided}
 use Rattle.tophat.specs.Session.{Answers, Tells, answer_text, world_after}
 
@@ -99,7 +98,8 @@ told_once longest w number (line ∷ lines) finish t u (inl p) (inl q) =
 told_once longest w number (line ∷ lines) finish t u (inl p) (inr q) = absurd (line_apart longest line p.asked q.place p.is q.bad)
 told_once longest w number (line ∷ lines) finish t u (inr p) (inl q) = absurd (line_apart longest line q.asked p.place q.is p.bad)
 told_once longest w number (line ∷ lines) finish t u (inr p) (inr q) =
-    p.all ∙ ap (λ (n : ℕ). record { output = []; finish = finishes.Bad number (n + 1) }) (bad_once longest line p.place q.place p.bad q.bad) ∙ sym q.all
+    p.all ∙ ap (λ (n : ℕ). record { output = []; finish = finishes.Bad number (n + 1) }) (bad_once longest line p.place q.place p.bad q.bad)
+    ∙ sym q.all
 
 pub script_exists : (longest limit : ℕ) (w : WorldTerm) (script : Text) → (told : Told) × TellsScript (Tells longest w 1) limit script told
 unfolding TellsScript
@@ -152,6 +152,7 @@ outside_stop longest w line (Bad column) (place, bad, is) = λ whole cut number 
         absurd (line_apart longest whole t.asked place t.is known)
     by whole cut number lines finish told (inr t) =
         let known = cut_bad longest whole place (subst (λ (z : Text). IsBadLine longest z place) cut bad) in
-        t.all ∙ ap (λ (n : ℕ). record { output = []; finish = finishes.Bad number (n + 1) }) (bad_once longest whole t.place place t.bad known)
+        t.all ∙ ap (λ (n : ℕ). record { output = []; finish = finishes.Bad number (n + 1) })
+        (bad_once longest whole t.place place t.bad known)
         ∙ ap (λ (n : ℕ). record { output = []; finish = finishes.Bad number n }) (sym is)
 outside_stop longest w line Memory h = tt

@@ -213,7 +213,8 @@ module _ (c : CheckedTerm) where
   Takes act None = Unit {0}
   Takes act (Some s) = SmallState s × ActSmall act
 
-  fine_editor : (b : BasicTerm) (path : List Turn) (act : ActTerm) (f : ValueTerm → State) → IsSmall b → ((w : ValueTerm) → SmallState (f w))
+  fine_editor : (b : BasicTerm) (path : List Turn) (act : ActTerm) (f : ValueTerm → State) → IsSmall b
+      → ((w : ValueTerm) → SmallState (f w))
       → Fine (at_editor b path act f) (Takes act)
   fine_editor b [] (set_act w) f h g = by_test (value_has w b) refl
     where
@@ -237,7 +238,8 @@ module _ (c : CheckedTerm) where
       fine_tested k.body (k.slots ++ plain_slot v ∷ []) σ _ (Takes next_act) h (λ s no hs. fine_branch no _ _ (Takes next_act) tt (hs, tt))
   fine_step path act o k σ p h g = g
 
-  fine_handled : (t : TreeTerm) (σ : List ValueTerm) (path : List Turn) (act : ActTerm) → SmallTree t → Fine (handled c t σ path act) (Takes act)
+  fine_handled : (t : TreeTerm) (σ : List ValueTerm) (path : List Turn) (act : ActTerm) → SmallTree t
+      → Fine (handled c t σ path act) (Takes act)
   fine_handled (edit_tree b v) σ path act h = fine_editor b path act _ h (λ w. h)
   fine_handled (enter_tree b) σ path act h = fine_editor b path act _ h (λ w. h)
   fine_handled (share_tree b n) σ path act h = fine_editor b path act _ h (λ w. h)
@@ -266,7 +268,8 @@ module _ (c : CheckedTerm) where
   fine_handled (xor_tree j k) σ (turn ∷ path) act h = tt
 
   fine_interacts : (s : State) (i : InputTerm) → SmallState s → Fine (interacts c s i) (Takes i.act)
-  fine_interacts s i h = fine_after (handles c s i) settled (Takes i.act) (Takes i.act) (fine_handled s.tree s.store i.path i.act h) by_result
+  fine_interacts s i h = fine_after (handles c s i) settled (Takes i.act) (Takes i.act) (fine_handled s.tree s.store i.path i.act h)
+      by_result
     where
       by_result : (r : Option State) → Takes i.act r → Fine (settled r) (Takes i.act)
       by_result None k = tt
@@ -321,7 +324,8 @@ module _ (c : CheckedTerm) where
     derives_small (suc k) (gives_value e env σ) g v n h d = tt
     derives_small (suc k) (fails s) g v n h d = tt
     derives_small (suc k) (evaluates t env σ) g v n h d =
-        work_keeps (derives_at (rule_of c) k) (derives_small k) (evaluate_rule c t env σ) SmallState (fine_evaluate t env σ g) v n d.below d.part
+        work_keeps (derives_at (rule_of c) k) (derives_small k) (evaluate_rule c t env σ) SmallState (fine_evaluate t env σ g) v n d.below
+        d.part
     derives_small (suc k) (strides s) g v n h d =
         work_keeps (derives_at (rule_of c) k) (derives_small k) (stride_rule c s.tree s.store) SmallState (fine_stride s.tree s.store g) v n
         d.below d.part
@@ -331,9 +335,11 @@ module _ (c : CheckedTerm) where
         work_keeps (derives_at (rule_of c) k) (derives_small k) (rule_of c (normal t env σ)) SmallState (g, λ s hs. (hs, λ r hr. hr)) v n
         d.below d.part
 
-    taken_small : (budget : ℕ) (s : State) (i : InputTerm) (t : State) → SmallState s → IsTaken c budget s i t → SmallState t × ActSmall i.act
+    taken_small : (budget : ℕ) (s : State) (i : InputTerm) (t : State) → SmallState s → IsTaken c budget s i t → SmallState t
+        × ActSmall i.act
     taken_small budget s i t h d =
-        work_keeps (Derives (rule_of c)) (λ q g v n k e. derives_small e.0 q g v n k e.1) (interacts c s i) (Takes i.act) (fine_interacts s i h)
+        work_keeps (Derives (rule_of c)) (λ q g v n k e. derives_small e.0 q g v n k e.1) (interacts c s i) (Takes i.act)
+        (fine_interacts s i h)
         (Some t) d.0 d.1 d.2
 
     opening_small : (budget : ℕ) (s : State) → IsOpening c budget s → SmallState s

@@ -160,7 +160,8 @@ module _ (p : ProgramTerm) where
   SmallWhat s (fun_body e) = Unit {0}
   SmallWhat s (task_body t) = Listed (calls_at p 0) s (task_in_place p t)
 
-  body_small : (i n : ℕ) (s : List ParamTerm) (b : BasicTerm) (w : DefBodyTerm) → SmallScope s → IsMet (body_demands p i s n b w) → SmallWhat s w
+  body_small : (i n : ℕ) (s : List ParamTerm) (b : BasicTerm) (w : DefBodyTerm) → SmallScope s → IsMet (body_demands p i s n b w)
+      → SmallWhat s w
   body_small i n s b (fun_body e) h m = tt
   body_small i n s b (task_body t) h m =
       let placed = task_in_place p t in

@@ -28,7 +28,8 @@ types_given : (c : CheckedTerm) → IsAccepted c → c ≡ typed_program c.progr
 types_given c a = ap (λ ts. record { program = c.program; types = ts }) a.types
 
 -- the bytes have no program, and this is their first fault
-pub read_refused : (bytes : Text) (kind : ReadKind) (place : ℕ) → IsFaultOf bytes kind place → IsOnlyVerdict bytes (refused place (Read kind))
+pub read_refused : (bytes : Text) (kind : ReadKind) (place : ℕ) → IsFaultOf bytes kind place
+    → IsOnlyVerdict bytes (refused place (Read kind))
 read_refused bytes kind place fault = record { is = fault; only = others }
   where
     others : (other : Verdict) → IsVerdict bytes other → other ≡ refused place (Read kind)
@@ -64,7 +65,8 @@ module _ (bytes : Text) (p : ProgramTerm) (places : List ℕ) (has : IsProgramTe
     only = others;
   }
     where
-      others : (other : Verdict) → IsVerdict bytes other → other ≡ refused (node_place bytes places fault.node) (Typed (type_fault_text fault.kind))
+      others : (other : Verdict) → IsVerdict bytes other → other ≡ refused (node_place bytes places fault.node)
+          (Typed (type_fault_text fault.kind))
       others (accepted d) (others_places, text, b) =
           let e : d.program ≡ p = (only d.program others_places text).0 in
           absurd (none_some fault (fault_of d.program) b.met (subst (λ (q : ProgramTerm). fault_of q ≡ Some fault) (sym e) first))
@@ -83,7 +85,8 @@ module _ (bytes : Text) (p : ProgramTerm) (places : List ℕ) (has : IsProgramTe
       → place ≡ node_place bytes places fault.node → Refuses place fault.kind why → Judges bytes (Err why)
   refused_judges fault place (Refused at (Typed text)) first is r =
       subst (λ (t : Text). IsOnlyVerdict bytes (refused at (Typed t))) (sym r.1)
-      (subst (λ (n : ℕ). IsOnlyVerdict bytes (refused n (Typed (type_fault_text fault.kind)))) (sym (r.0 ∙ is)) (program_refused fault first))
+      (subst (λ (n : ℕ). IsOnlyVerdict bytes (refused n (Typed (type_fault_text fault.kind)))) (sym (r.0 ∙ is))
+      (program_refused fault first))
   refused_judges fault place (Refused at (Read kind)) first is r = absurd r
   refused_judges fault place OverBudget first is r = absurd r
   refused_judges fault place Memory first is r = tt

@@ -216,12 +216,14 @@ why_writes Memory Says report t d = (report.output, refl)
 why_writes (Refused place refusal) Says report t d = t report d
 why_writes OverBudget Says report t d = t report d
 
-verdict_at : (A : Type 0) (why : NoWorld) (bytes : Text) → HasVerdictAfter {A = A} (Err why) bytes → HasVerdictAt (Unopened why) (Some bytes)
+verdict_at : (A : Type 0) (why : NoWorld) (bytes : Text) → HasVerdictAfter {A = A} (Err why) bytes
+    → HasVerdictAt (Unopened why) (Some bytes)
 verdict_at A Memory bytes h = tt
 verdict_at A (Refused place refusal) bytes h = h
 verdict_at A OverBudget bytes h = h
 
-module _ (l : Limits) (command : Option CommandTerm) (holds : Option (Option Text)) (file : Option Text) (bytes : Text) (Says : Report → Type 0)
+module _ (l : Limits) (command : Option CommandTerm) (holds : Option (Option Text)) (file : Option Text) (bytes : Text)
+    (Says : Report → Type 0)
     (is : IsFile holds file) (source : source_of command file ≡ Some bytes)
     (says : (verdict : Verdict) → IsVerdict bytes verdict → (script : Text) (report : Report) → Reports l command file verdict script report
     → Says report) where
@@ -276,7 +278,8 @@ module _ (l : Limits) (name : Text) (budget : ℕ) (holds : Option (Option Text)
       (opens_once budget verdict d.0 (none (Unopened (Refused place refusal))) d.1 o) d.2
   end_at OverBudget verdict script report o r =
       let d = bytes_reported l.file bytes.list (ReportsVerdict budget verdict (ReportsTold (TellsWhole l script))) report within r in
-      subst (λ (z : Opened). ReportsOpened (ReportsTold (TellsWhole l script)) z report) (opens_once budget verdict d.0 (none (Unopened OverBudget)) d.1 o) d.2
+      subst (λ (z : Opened). ReportsOpened (ReportsTold (TellsWhole l script)) z report)
+      (opens_once budget verdict d.0 (none (Unopened OverBudget)) d.1 o) d.2
 
   -- the bytes have no world
   pub worked_unopened : (left out : Option Text) (why : NoWorld) → OpensBytes budget bytes.list (Err why)

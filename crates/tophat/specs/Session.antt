@@ -11,8 +11,7 @@ use Rattle.line_frame.specs.Told.{Told, told_after}
 use Rattle.line_frame.specs.declared.finish.Finish.{Finish}
 use Rattle.line_frame.specs.declared.finish.Finish.TheVariants.{Bad}
 use Rattle.input_lines.specs.ScriptLines.{LineTerm, nothing, shows, gives}
-use Rattle.input_lines.specs.LinePlaces.{IsBadLine}
-use Rattle.input_lines.specs.ScriptLines.{IsScriptLine}
+use Rattle.input_lines.specs.LinePlaces.{IsLineWithin, IsBadLine}
 
 -- the world after an entry with this outcome
 abbrev pub world_after : WorldTerm → EntryTerm → Outcome → WorldTerm
@@ -32,10 +31,6 @@ Answers w nothing text next = (text ≡ []) × (next ≡ w)
 Answers w (shows seat) text next = IsWorldPage faces.Text w seat text × (next ≡ w)
 Answers w (gives e) text next =
     (o : Outcome) × IsOutcome w.checked w.budget w.state e.input o × (text ≡ answer_text w e o) × (next ≡ world_after w e o)
-
--- a line in the grammar, of at most so many bytes, asks for this
-abbrev pub IsLineWithin : ℕ → Text → LineTerm → Type 0
-IsLineWithin longest line asked = IsScriptLine line asked × (length line ≤ longest)
 
 -- a line in the grammar is answered, and then what is told of those behind it is told
 pub record TellsAnswer (longest : ℕ) (line : Text) (w : WorldTerm) (TellsRest : WorldTerm → Told → Type 0) (told : Told) : Type 0 where

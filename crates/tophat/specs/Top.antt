@@ -54,6 +54,13 @@ named (Some (run name budget)) = name
 named (Some (check name)) = name
 named (Some (soak count seed)) = []
 
+-- the words ask for a command that starts threads or opens sockets: none of today's does
+abbrev pub NeedsMore : Option CommandTerm → Type 0
+NeedsMore None = ⊥
+NeedsMore (Some (run name budget)) = ⊥
+NeedsMore (Some (check name)) = ⊥
+NeedsMore (Some (soak count seed)) = ⊥
+
 -- the source of a command's program, where it asks for this file: the file, and of `soak` the text of its own
 abbrev pub source_of : Option CommandTerm → Option Text → Option Text
 source_of (Some (soak count seed)) file = Some soak_text

@@ -73,12 +73,14 @@ pub record Worked (l : Limits) (command : Option CommandTerm) (holds : Option (O
   pub consumed : Consumes left_old left_new read
   pub took : Appends taken_old taken_new written
   pub verdict_is : HasVerdictAt ending (source_of command file)
-  pub comes : (verdict : Verdict) → IsVerdictOf (source_of command file) verdict → (report : Report) → Reports l command file verdict script report
+  pub comes : (verdict : Verdict) → IsVerdictOf (source_of command file) verdict → (report : Report)
+      → Reports l command file verdict script report
       → Writes report written ending
   pub answered : ending ≡ Ran finishes.ReadFault → (verdict : Verdict) → IsVerdictOf (source_of command file) verdict → (report : Report)
       → ReportsRead l command file verdict read report → report ≡ record { output = written; ending = ending }
   pub pieces : IfRan ending (λ finish. IsRead l.script read earlier last finish)
-  pub in_time : (verdict : Verdict) → IsVerdictOf (source_of command file) verdict → (report : Report) → ReportsRead l command file verdict earlier report
+  pub in_time : (verdict : Verdict) → IsVerdictOf (source_of command file) verdict → (report : Report)
+      → ReportsRead l command file verdict earlier report
       → IfRan ending (λ finish. (report.ending ≡ Ran finishes.ReadFault) × IsStart report.output written)
   pub ran_out : ending ≡ Ran finishes.Memory → RanOut (AreReported l command file written) l.script read
 

@@ -19,9 +19,11 @@ ghost use Rattle.line_frame.specs.declared.finish.Finish.{Finish};
 pub fn one_report()
     ensures some { (l : Limits) (command : Option CommandTerm) (file : Option Text) (verdict : Verdict) (script : Text) →
         (report : Report) × Reports l command file verdict script report }
-    ensures one { (l : Limits) (command : Option CommandTerm) (file : Option Text) (verdict : Verdict) (script : Text) (one other : Report) →
+    ensures one { (l : Limits) (command : Option CommandTerm) (file : Option Text) (verdict : Verdict) (script : Text) (one other : Report)
+        →
         Reports l command file verdict script one → Reports l command file verdict script other → one ≡ other }
-    ensures lines { (l : Limits) (command : Option CommandTerm) (file : Option Text) (verdict : Verdict) (lines : List Text) (finish : Finish) →
+    ensures lines { (l : Limits) (command : Option CommandTerm) (file : Option Text) (verdict : Verdict) (lines : List Text)
+        (finish : Finish) →
         (report : Report) × ReportsLines l command file verdict lines finish report }
 {}
 

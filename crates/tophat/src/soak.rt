@@ -40,7 +40,8 @@ impl Tally {
         requires rest { world.old.next ≡ None }
         requires room { all_inputs (tally_term self.old) < 2 ^ 32 - 1 }
         ensures rest { world.new.next ≡ None }
-        ensures given { OnOk result (CountsInput (world_term world.old) (tally_term self.old) (entry_term entry) (world_term world.new) (tally_term self.new)) }
+        ensures given { OnOk result (CountsInput (world_term world.old) (tally_term self.old) (entry_term entry) (world_term world.new)
+            (tally_term self.new)) }
     {
         match world.handle(alloc, entry.seat, entry.input, steps) {
             Ok(_) => self.taken += 1,
@@ -146,7 +147,8 @@ fn push_place(
     place: u64,
 ) -> Result<(), OutOfMemory>
     requires { world.now.next ≡ None }
-    ensures { OnOk result (string_bytes text.new ≡ string_bytes text.old ++ (word.now ++ value_text (stored (world_term world.now).state.store place))) }
+    ensures { OnOk result (string_bytes text.new ≡ string_bytes text.old
+        ++ (word.now ++ value_text (stored (world_term world.now).state.store place))) }
 {
     text.push_str(word)?;
     match world.at(place) {

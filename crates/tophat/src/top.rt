@@ -6,12 +6,9 @@ ghost use Rattle.tophat.specs.Went.{FailedBy, Went};
 ghost use Rattle.tophat.specs.Promise.{Promised};
 ghost use Rattle.tophat.specs.Complete.{Completes};
 
-use crate::work::{named_file, work};
-use command_words::read_command;
+use crate::commands::plain;
 use outer_io::{Files, Sink, Source};
 use std::alloc::Global;
-use std::marker::Brand;
-use std::sync::ledger::Blank;
 use task_model::TaskText;
 
 /// Does what the words of a command line ask for, without the program's own name, and answers the status.
@@ -27,15 +24,18 @@ pub fn tophat<F: Files, I: Source, O: Sink, E: Sink>(
     err: &mut E,
 ) -> u8
     // What was written to both sinks, and the status. Where no line was run the input is untouched, and where nothing was to be written the output.
-    ensures went { Went limits (command_of words.now) (F.holds files.old (named (command_of words.now))) (I.left input.old) (I.left input.new)
+    ensures went { Went limits (command_of words.now) (F.holds files.old (named (command_of words.now))) (I.left input.old)
+        (I.left input.new)
         (O.taken out.old) (O.taken out.new) (E.taken err.old) (E.taken err.new)
-        (record { before = F.faults files.old; now = F.faults files.new }) (record { before = I.faults input.old; now = I.faults input.new })
+        (record { before = F.faults files.old; now = F.faults files.new })
+        (record { before = I.faults input.old; now = I.faults input.new })
         (record { before = O.faults out.old; now = O.faults out.new }) (record { before = E.faults err.old; now = E.faults err.new })
         (input.new ≡ input.old) (out.new ≡ out.old) result }
 
     // Where the objects tell their bytes: the status and the output are the reported ones, or the status is 5, 6 or 8
     // and the output is the first part of that.
-    ensures told { Promised limits (command_of words.now) (F.holds files.old (named (command_of words.now))) (I.left input.old) (O.taken out.old) (O.taken out.new) result }
+    ensures told { Promised limits (command_of words.now) (F.holds files.old (named (command_of words.now))) (I.left input.old)
+        (O.taken out.old) (O.taken out.new) result }
 
     // Status 2 comes where the words are outside the grammar, unless memory runs out there, and nowhere else; all is then untouched.
     ensures usage { MatchOption (command_of words.now)
@@ -53,10 +53,12 @@ pub fn tophat<F: Files, I: Source, O: Sink, E: Sink>(
     // answers every line, at status 0, unless memory runs out.
     ensures complete { Completes limits (command_of words.now) (F.holds files.old (named (command_of words.now))) (I.left input.old)
         (O.taken out.old) (O.taken out.new)
-        (Rose (F.faults files.old) (F.faults files.new) ⊎ (Rose (I.faults input.old) (I.faults input.new) ⊎ Rose (O.faults out.old) (O.faults out.new))) result }
+        (Rose (F.faults files.old) (F.faults files.new) ⊎ (Rose (I.faults input.old) (I.faults input.new)
+        ⊎ Rose (O.faults out.old) (O.faults out.new))) result }
 {
-    let asked = read_command(alloc, words);
-    let ending = work::<F, I, O, Brand>(alloc, &asked, files, input, out, Blank::new(1));
-    let _ = ending.tell(err, named_file(&asked));
-    ending.status()
+    match plain(alloc, words, files, input, out, err) {
+        Some(status) => status,
+        // Every command of today is one of those.
+        None => unreachable!(),
+    }
 }

@@ -32,7 +32,8 @@ pub fn verdict_on(alloc: Global, bytes: &[u8]) -> Result<Checked, NoWorld>
 fn judge(alloc: Global, bytes: &[u8], read: Read) -> Result<Checked, NoWorld>
     requires written { IsWritten (program_term read.program) }
     requires found { IsProgramText bytes.now (program_term read.program) read.places.list }
-    requires only { (p : ProgramTerm) (places : List ℕ) → IsProgramText bytes.now p places → (p ≡ program_term read.program) × (places ≡ read.places.list) }
+    requires only { (p : ProgramTerm) (places : List ℕ) → IsProgramText bytes.now p places → (p ≡ program_term read.program)
+        × (places ≡ read.places.list) }
     ensures { Judges bytes.now result }
 {
     let Read { program, places } = read;

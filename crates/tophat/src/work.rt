@@ -101,7 +101,8 @@ pub(crate) fn named_file(asked: &Result<Command, WordStop>) -> &[u8]
 fn read_file<F: Files>(alloc: Global, name: &TaskText, files: &mut F) -> Result<Row<u8>, Ending>
     ensures file { FindsFile 1048576 (F.holds files.old name.now) result }
     ensures failed { result ≡ Err endings.FileFault → Rose (F.faults files.old) (F.faults files.new) }
-    ensures count { MatchResult result (λ _. F.faults files.new ≡ F.faults files.old) (λ ending. F.faults files.new ≡ file_faults_after (F.faults files.old) ending) }
+    ensures count { MatchResult result (λ _. F.faults files.new ≡ F.faults files.old)
+        (λ ending. F.faults files.new ≡ file_faults_after (F.faults files.old) ending) }
 {
     match files.read_whole(alloc, name, PROGRAM_BYTE_LIMIT as u64) {
         FileAnswer::Bytes(bytes) => Ok(bytes),

@@ -2,13 +2,13 @@ ghost use Rattle.std.specs.Prelude.{◌≡◌, ◌↔◌, ◌<◌, ◌-◌, [], 
 
 use std::alloc::Global;
 use std::marker::Model;
-use task_model::{OutOfMemory, Path, Row, Turn, copy_turns};
+use task_model::{OutOfMemory, Path, Turn, Turns};
 
 /// The path of the node where a walk through a tree is. Contracts see it as its turns.
 #[derive(Drop)]
 pub struct Trail {
     alloc: Global,
-    turns: Row<Turn>,
+    turns: Turns,
 }
 
 impl Model for Trail {
@@ -17,7 +17,7 @@ impl Model for Trail {
 
     ghost Value = { List Turn };
 
-    ghost view = { λ t. t.turns.list };
+    ghost view = { λ t. t.turns };
 }
 
 impl Trail {
@@ -27,7 +27,7 @@ impl Trail {
     {
         Trail {
             alloc,
-            turns: Row::new(alloc),
+            turns: Turns::new(alloc),
         }
     }
 
@@ -48,17 +48,17 @@ impl Trail {
         self.turns.truncate(most);
     }
 
-    /// The path, in memory of its own.
+    /// The path, in memory of its own where it is long.
     pub fn path(&self) -> Result<Path, OutOfMemory>
-        ensures { IfOk result (λ p. p.turns.list ≡ self.now) }
+        ensures { IfOk result (λ p. p.turns ≡ self.now) }
     {
-        let turns = copy_turns(self.alloc, self.turns.as_slice())?;
+        let turns = Turns::of(self.alloc, self.turns.as_slice())?;
         Ok(Path { turns })
     }
 
     /// Whether a path is this one. It takes no memory.
     pub fn is_at(&self, path: &Path) -> bool
-        ensures { IsTrue result ↔ (path.now.turns.list ≡ self.now) }
+        ensures { IsTrue result ↔ (path.now.turns ≡ self.now) }
     {
         path.turns.as_slice() == self.turns.as_slice()
     }

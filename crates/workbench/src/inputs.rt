@@ -1,6 +1,6 @@
 use input_lines::soak_entry;
 use std::alloc::Global;
-use task_model::{Act, Input, OutOfMemory, Path, Row, TaskText, Tree, Turn, Value};
+use task_model::{Act, Input, OutOfMemory, Path, TaskText, Tree, Turn, Turns, Value};
 
 /// Inputs for a program that was opened, one after the other.
 #[derive(Drop)]
@@ -44,7 +44,7 @@ fn message(alloc: Global, acts: u64) -> Result<Act, OutOfMemory> {
 }
 
 fn input_at(alloc: Global, first_turns: usize, act: Act) -> Result<Input, OutOfMemory> {
-    let mut turns = Row::new(alloc);
+    let mut turns = Turns::new(alloc);
     for _ in 0..first_turns {
         turns.push(Turn::First)?;
     }

@@ -57,7 +57,8 @@ module _ (c : SeenChecked) (budget : ℕ) (h : Rowed Item) (t : Tree) (s : Layer
   rest_fits (Some p) k e = absurd cc
 
   -- a page at rest is the world's
-  pub page_at_rest : {E : Type 0} (next : Option Prepared) (u : Tree) (face : Face) (version seat : ℕ) (r : Result Page E) → next ≡ None → u ≡ t
+  pub page_at_rest : {E : Type 0} (next : Option Prepared) (u : Tree) (face : Face) (version seat : ℕ) (r : Result Page E) → next ≡ None → u
+      ≡ t
       → version ≡ version_of (history_term h.list)
       → IfOk r (λ page. (ws : List WidgetTerm) × AreWidgets (checked_term c) budget (tree_term u) (map value_term s.list) ws
       × (page.text ≡ face_text face version seat ws))

@@ -61,7 +61,8 @@ standing_more w n s d = record {
 }
 
 -- what is prepared may be given up, and something else prepared
-pub standing_next : (w : WorldTerm) (o : Option NextTerm) → IsStanding w → MayFollow (record w { next = o }) o → IsStanding (record w { next = o })
+pub standing_next : (w : WorldTerm) (o : Option NextTerm) → IsStanding w → MayFollow (record w { next = o }) o
+    → IsStanding (record w { next = o })
 standing_next w o s d = record {
   accepted = s.accepted;
   budget = s.budget;

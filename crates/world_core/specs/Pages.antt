@@ -10,4 +10,5 @@ use Rattle.world_core.specs.World.{WorldTerm}
 -- the page of a world for a seat, in one of the faces
 abbrev pub IsWorldPage : Face → WorldTerm → ℕ → Text → Type 0
 IsWorldPage face w seat text =
-    (ws : List WidgetTerm) × AreWidgets w.checked w.budget w.state.tree w.state.store ws × (text ≡ face_text face (version_of w.history) seat ws)
+    (ws : List WidgetTerm) × AreWidgets w.checked w.budget w.state.tree w.state.store ws
+    × (text ≡ face_text face (version_of w.history) seat ws)

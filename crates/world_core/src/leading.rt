@@ -26,7 +26,8 @@ pub(crate) fn lead(
     ensures refused { OnErr result (store.new ≡ store.old) }
     ensures layer { OnOk result (store.new.layers ≡ store.old.list ∷ store.old.layers) }
     ensures held { OnOk result (IsHeldAct (input_term input.now).act) }
-    ensures outcome { TellsOutcome (checked_term engine.now) budget (at (tree_term t.now) (map value_term store.old.list)) (input_term input.now) (map value_term store.new.list) result }
+    ensures outcome { TellsOutcome (checked_term engine.now) budget (at (tree_term t.now) (map value_term store.old.list))
+        (input_term input.now) (map value_term store.new.list) result }
 {
     store.begin()?;
     match led_to(engine, t, store, input, budget) {
@@ -48,7 +49,8 @@ fn led_to(
     requires fits { Fits (checked_term engine.now) (at (tree_term t.now) (map value_term store.old.list)) }
     ensures layers { store.new.layers ≡ store.old.layers }
     ensures held { OnOk result (IsHeldAct (input_term input.now).act) }
-    ensures outcome { TellsOutcome (checked_term engine.now) budget (at (tree_term t.now) (map value_term store.old.list)) (input_term input.now) (map value_term store.new.list) result }
+    ensures outcome { TellsOutcome (checked_term engine.now) budget (at (tree_term t.now) (map value_term store.old.list))
+        (input_term input.now) (map value_term store.new.list) result }
 {
     let led = interact(engine, t, store, input, budget)?;
     Ok(CountedTree::of(led)?)

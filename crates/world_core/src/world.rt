@@ -49,7 +49,14 @@ impl Model for World {
 
     ghost Value = { SeenWorld };
 
-    ghost coded = { Prim.hlevel (codes, basics.the_row.coded, programs.the_row.coded, items.the_row.coded, trees.the_row.coded, values.the_row.coded) };
+    ghost coded = { Prim.hlevel (
+      codes,
+      basics.the_row.coded,
+      programs.the_row.coded,
+      items.the_row.coded,
+      trees.the_row.coded,
+      values.the_row.coded,
+    ) };
 
     ghost view = { λ w. seen_world w.engine w.budget w.history.list w.tree w.store w.next };
 

@@ -91,6 +91,30 @@ keep
 failing: 0 2 => fine (edit int 3 >>= 2(#0 1 2 #1)) [3 4] [1]
 next 0: 1 => no (edit int 3 >>= 2(#0 1 2 #1)) [3 4] [1]
 
+task main() : int = new r = 1 in edit 1 >>= x . (r := 2 ; (edit 2 >>= y . (r := 3 ; new q = 4 in fail int)) <?> fail int)
+evaluate main(): 1 5 => (edit int 1 >>= 0(#0)) [1]
+begin
+begin
+stride: 1 7 => (1(#0 1) <?> 3(#0 1)) [2] [1] [1]
+begin
+failing: 1 6 => fine (1(#0 1) <?> 3(#0 1)) [2] [2] [1] [1]
+left: 1 => yes (1(#0 1) <?> 3(#0 1)) [2] [2] [1] [1]
+settle: 1 2 => (1(#0 1) <?> 3(#0 1)) [2] [2] [1] [1]
+
+task main() : int = new r = 1 in ((edit 1 >>= x . (r := 5 ; new q = 6 in fail int)) <|> edit 2) >>= y . (r := !r + 1 ; edit y)
+evaluate main(): 1 7 => (((edit int 1 >>= 0(#0)) <|> edit int 2) >>= 1(#0)) [1]
+stride: 0 6 => edit int 2 [2]
+
+task main() : int = new r = 1 in edit 1 >>= x . (r := 2 ; edit x)
+begin
+begin
+evaluate main(): 1 5 => (edit int 1 >>= 0(#0)) [1] [] []
+stride: 0 4 => edit int 1 [2] [] []
+clear
+begin
+begin
+normalise main(): 3 6 => edit int 1 [2] [] []
+
 task count(r : ref int) : int = edit 1 >>= x . (r := !r + 1 ; if !r < 3 then count(r) else edit 9) task main() : int = new r = 0 in count(r)
 normalise main(): 8 8 => edit int 9 [3]
 clear

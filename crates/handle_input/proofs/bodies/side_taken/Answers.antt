@@ -24,7 +24,8 @@ body_first-requires c = well_found _ _ (side_well c.requires.accepted c.requires
 pub unless_failing-requires-clause-well : goal.unless_failing-requires-clause-well
 unless_failing-requires-clause-well c =
     let slots = ap (map slot_term) (c.as_slice.ensures ∙ ap (λ (r : Rowed Slot). r.list) c.deref.ensures) in
-    let env = side_env (checked_term c.args.engine.now) c.args.k.now.body (body_term c.body-own.result.now) _ (delay_term c.args.k.now).slots
+    let env = side_env (checked_term c.args.engine.now) c.args.k.now.body (body_term c.body-own.result.now) _
+    (delay_term c.args.k.now).slots
     _ _ c.of_scope-names.ensures (side_unbound c.requires.accepted c.requires.fits _ c.body-own.ensures) slots c.body_first.ensures in
     let f : BodyTerm → Plan (Option State) = λ b. ask (normal b.task (opened_env (checked_term c.args.engine.now) c.args.k.now.body b
     (delay_term c.args.k.now).slots) (map value_term c.args.store.now.list))
@@ -34,7 +35,8 @@ unless_failing-requires-clause-well c =
 pub returns-clause-ran : goal.returns-clause-ran
 returns-clause-ran c =
     let slots = ap (map slot_term) (c.as_slice.ensures ∙ ap (λ (r : Rowed Slot). r.list) c.deref.ensures) in
-    let env = side_env (checked_term c.args.engine.now) c.args.k.now.body (body_term c.body-own.result.now) _ (delay_term c.args.k.now).slots
+    let env = side_env (checked_term c.args.engine.now) c.args.k.now.body (body_term c.body-own.result.now) _
+    (delay_term c.args.k.now).slots
     _ _ c.of_scope-names.ensures (side_unbound c.requires.accepted c.requires.fits _ c.body-own.ensures) slots c.body_first.ensures in
     let f : BodyTerm → Plan (Option State) = λ b. ask (normal b.task (opened_env (checked_term c.args.engine.now) c.args.k.now.body b
     (delay_term c.args.k.now).slots) (map value_term c.args.store.now.list))

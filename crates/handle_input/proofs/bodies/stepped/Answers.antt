@@ -21,14 +21,15 @@ body-own-requires c = well_found _ _ (step_well c.requires.accepted c.requires.f
 pub body_first-requires : goal.body_first-requires
 body_first-requires c = well_found _ _ (step_well c.requires.accepted c.requires.fits)
 
-pub name_of-requires : goal.name_of-requires
-name_of-requires c = cont_binds c.requires.accepted c.requires.fits _ c.body-own.ensures
+pub binder_of-requires : goal.binder_of-requires
+binder_of-requires c = cont_binds c.requires.accepted c.requires.fits _ c.body-own.ensures
 
 pub unless_failing-requires-clause-well : goal.unless_failing-requires-clause-well
 unless_failing-requires-clause-well c =
     let slots = ap (map slot_term) (c.as_slice.ensures ∙ ap (λ (r : Rowed Slot). r.list) c.deref.ensures) in
-    let env = step_env (checked_term c.args.engine.now) c.args.k.now.body (body_term c.body-own.result.now) _ _ (cont_term c.args.k.now).slots
-    _ _ _ _ c.with-names.ensures c.of_scope-outer.ensures c.name_of.ensures slots c.body_first.ensures in
+    let env = step_env (checked_term c.args.engine.now) c.args.k.now.body (body_term c.body-own.result.now) _ _
+    (cont_term c.args.k.now).slots
+    _ _ _ _ c.with-names.ensures c.of_scope-outer.ensures c.binder_of.ensures slots c.body_first.ensures in
     let f : BodyTerm → Plan (Option State) = λ b. ask (normal b.task (opened_env (checked_term c.args.engine.now) c.args.k.now.body b
     ((cont_term c.args.k.now).slots ++ plain_slot (value_term c.args.v) ∷ [])) (map value_term c.args.store.now.list))
     (λ s. ask (fails s) (λ no. branch no (give None) (give (Some s)))) in
@@ -37,8 +38,9 @@ unless_failing-requires-clause-well c =
 pub returns-clause-ran : goal.returns-clause-ran
 returns-clause-ran c =
     let slots = ap (map slot_term) (c.as_slice.ensures ∙ ap (λ (r : Rowed Slot). r.list) c.deref.ensures) in
-    let env = step_env (checked_term c.args.engine.now) c.args.k.now.body (body_term c.body-own.result.now) _ _ (cont_term c.args.k.now).slots
-    _ _ _ _ c.with-names.ensures c.of_scope-outer.ensures c.name_of.ensures slots c.body_first.ensures in
+    let env = step_env (checked_term c.args.engine.now) c.args.k.now.body (body_term c.body-own.result.now) _ _
+    (cont_term c.args.k.now).slots
+    _ _ _ _ c.with-names.ensures c.of_scope-outer.ensures c.binder_of.ensures slots c.body_first.ensures in
     let f : BodyTerm → Plan (Option State) = λ b. ask (normal b.task (opened_env (checked_term c.args.engine.now) c.args.k.now.body b
     ((cont_term c.args.k.now).slots ++ plain_slot (value_term c.args.v) ∷ [])) (map value_term c.args.store.now.list))
     (λ s. ask (fails s) (λ no. branch no (give None) (give (Some s)))) in

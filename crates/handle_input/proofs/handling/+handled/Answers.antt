@@ -54,14 +54,14 @@ handled-returns-in_err-led-in-Then-clause-ran t c =
     rw (stopped _ c.in_err-led-in-Then.field-0.0 c.from_residual-in_err-led-in-Then.ensures.1, c.in-Then.is, ← c.deref.ensures)
     (ran_after_stops _ c.in_err-led-in-Then.ensures.ran)
 
-pub handled-returns-in_ok-in_then-in-Then-clause-ran : goal.handled-returns-in_ok-in_then-in-Then-clause-ran
-handled-returns-in_ok-in_then-in-Then-clause-ran t c =
+pub handled-returns-in_ok-in_step-in-Then-clause-ran : goal.handled-returns-in_ok-in_step-in-Then-clause-ran
+handled-returns-in_ok-in_step-in-Then-clause-ran t c =
     rw (c.in-Then.is, ← c.deref.ensures) (ran_after _ c.in_ok-led-in-Then.ensures.ran
-    (ran_rebuilt (λ (u : TreeTerm). then_tree u (cont_term c.in-Then.k)) _ c.in_ok-led-in-Then.led c.in_ok-in_then-in-Then.ensures))
+    (ran_rebuilt (λ (u : TreeTerm). then_tree u (cont_term c.in-Then.k)) _ c.in_ok-led-in-Then.led c.in_ok-in_step-in-Then.ensures))
 
-pub handled-returns-in_ok-in_then-in-Then-clause-held : goal.handled-returns-in_ok-in_then-in-Then-clause-held
-handled-returns-in_ok-in_then-in-Then-clause-held t c =
-    held_rebuilt _ _ c.in_ok-led-in-Then.led _ c.in_ok-in_then-in-Then.ensures c.in_ok-led-in-Then.ensures.held
+pub handled-returns-in_ok-in_step-in-Then-clause-held : goal.handled-returns-in_ok-in_step-in-Then-clause-held
+handled-returns-in_ok-in_step-in-Then-clause-held t c =
+    held_rebuilt _ _ c.in_ok-led-in-Then.led _ c.in_ok-in_step-in-Then.ensures c.in_ok-led-in-Then.ensures.held
 
 pub handled-returns-in-Next-clause-ran : goal.handled-returns-in-Next-clause-ran
 handled-returns-in-Next-clause-ran t c = rw c.in-Next.is c.at_next.ensures.ran
@@ -93,8 +93,8 @@ at_next-returns-in_err-led-in-None-clause-ran t c =
     (ran_is (ap (λ o. at_step checked o k σ (rebuilds (handled checked left σ path act) (λ t'. next_tree t' k))) (sym none))
     (ran_after_stops _ (rw c.deref-in-None.ensures at c.in_err-led-in-None.ensures.ran)))
 
-pub at_next-returns-in_ok-in_next-in-None-clause-ran : goal.at_next-returns-in_ok-in_next-in-None-clause-ran
-at_next-returns-in_ok-in_next-in-None-clause-ran t c =
+pub at_next-returns-in_ok-in_step-in-None-clause-ran : goal.at_next-returns-in_ok-in_step-in-None-clause-ran
+at_next-returns-in_ok-in_step-in-None-clause-ran t c =
     let checked = checked_term c.args.engine.now in
     let σ = map value_term c.args.store.now.list in
     let path = c.args.path.now in
@@ -104,7 +104,7 @@ at_next-returns-in_ok-in_next-in-None-clause-ran t c =
     let none = rw (c.in-None.is, c.deref.ensures) at c.in_ok-stopped.ensures.value in
     ran_is (ap (λ o. at_step checked o k σ (rebuilds (handled checked left σ path act) (λ t'. next_tree t' k))) (sym none))
     (ran_after _ (rw c.deref-in-None.ensures at c.in_ok-led-in-None.ensures.ran)
-    (ran_rebuilt (λ (u : TreeTerm). next_tree u k) _ c.in_ok-led-in-None.led c.in_ok-in_next-in-None.ensures))
+    (ran_rebuilt (λ (u : TreeTerm). next_tree u k) _ c.in_ok-led-in-None.led c.in_ok-in_step-in-None.ensures))
 
 -- ---- pairs
 pub handled-returns-in-empty-clause-ran : goal.handled-returns-in-empty-clause-ran
@@ -123,8 +123,8 @@ handled-returns-in_err-led-in-First-clause-ran t c =
     (ran_is (and_first checked left right σ path _ act c.in-len1-up.len_at_least c.in-First.is)
     (ran_after_stops _ (rw c.deref-in-First.ensures at c.in_err-led-in-First.ensures.ran)))
 
-pub handled-returns-in_ok-and_first-in-First-clause-ran : goal.handled-returns-in_ok-and_first-in-First-clause-ran
-handled-returns-in_ok-and_first-in-First-clause-ran t c =
+pub handled-returns-in_ok-in_first-in-First-clause-ran : goal.handled-returns-in_ok-in_first-in-First-clause-ran
+handled-returns-in_ok-in_first-in-First-clause-ran t c =
     let checked = checked_term c.args.engine.now in
     let σ = map value_term c.args.store.now.list in
     let path = c.args.path.now in
@@ -134,7 +134,7 @@ handled-returns-in_ok-and_first-in-First-clause-ran t c =
     rw c.in-And.is
     (ran_is (and_first checked left right σ path _ act c.in-len1-up.len_at_least c.in-First.is)
     (ran_after _ (rw c.deref-in-First.ensures at c.in_ok-led-in-First.ensures.ran)
-    (ran_rebuilt (λ (u : TreeTerm). and_tree u right) _ c.in_ok-led-in-First.led c.in_ok-and_first-in-First.ensures)))
+    (ran_rebuilt (λ (u : TreeTerm). and_tree u right) _ c.in_ok-led-in-First.led c.in_ok-in_first-in-First.ensures)))
 
 pub handled-returns-in_err-led-in-Second-clause-ran : goal.handled-returns-in_err-led-in-Second-clause-ran
 handled-returns-in_err-led-in-Second-clause-ran t c =
@@ -148,8 +148,8 @@ handled-returns-in_err-led-in-Second-clause-ran t c =
     (ran_is (and_second checked left right σ path _ act c.in-len1-up.len_at_least c.in-Second.is)
     (ran_after_stops _ (rw c.deref-in-Second.ensures at c.in_err-led-in-Second.ensures.ran)))
 
-pub handled-returns-in_ok-and_second-in-Second-clause-ran : goal.handled-returns-in_ok-and_second-in-Second-clause-ran
-handled-returns-in_ok-and_second-in-Second-clause-ran t c =
+pub handled-returns-in_ok-in_second-in-Second-clause-ran : goal.handled-returns-in_ok-in_second-in-Second-clause-ran
+handled-returns-in_ok-in_second-in-Second-clause-ran t c =
     let checked = checked_term c.args.engine.now in
     let σ = map value_term c.args.store.now.list in
     let path = c.args.path.now in
@@ -159,7 +159,7 @@ handled-returns-in_ok-and_second-in-Second-clause-ran t c =
     rw c.in-And.is
     (ran_is (and_second checked left right σ path _ act c.in-len1-up.len_at_least c.in-Second.is)
     (ran_after _ (rw c.deref-in-Second.ensures at c.in_ok-led-in-Second.ensures.ran)
-    (ran_rebuilt (λ (u : TreeTerm). and_tree left u) _ c.in_ok-led-in-Second.led c.in_ok-and_second-in-Second.ensures)))
+    (ran_rebuilt (λ (u : TreeTerm). and_tree left u) _ c.in_ok-led-in-Second.led c.in_ok-in_second-in-Second.ensures)))
 
 -- ---- internal choices
 pub handled-returns-in-empty-path-clause-ran : goal.handled-returns-in-empty-path-clause-ran
@@ -178,8 +178,8 @@ handled-returns-in_err-led-in-First-turn-clause-ran t c =
     (ran_is (or_first checked left right σ path _ act c.in-len1-up-path.len_at_least c.in-First-turn.is)
     (ran_after_stops _ (rw c.deref-in-First-turn.ensures at c.in_err-led-in-First-turn.ensures.ran)))
 
-pub handled-returns-in_ok-or_first-in-First-turn-clause-ran : goal.handled-returns-in_ok-or_first-in-First-turn-clause-ran
-handled-returns-in_ok-or_first-in-First-turn-clause-ran t c =
+pub handled-returns-in_ok-in_first-in-First-turn-clause-ran : goal.handled-returns-in_ok-in_first-in-First-turn-clause-ran
+handled-returns-in_ok-in_first-in-First-turn-clause-ran t c =
     let checked = checked_term c.args.engine.now in
     let σ = map value_term c.args.store.now.list in
     let path = c.args.path.now in
@@ -189,7 +189,7 @@ handled-returns-in_ok-or_first-in-First-turn-clause-ran t c =
     rw c.in-Or.is
     (ran_is (or_first checked left right σ path _ act c.in-len1-up-path.len_at_least c.in-First-turn.is)
     (ran_after _ (rw c.deref-in-First-turn.ensures at c.in_ok-led-in-First-turn.ensures.ran)
-    (ran_rebuilt (λ (u : TreeTerm). or_tree u right) _ c.in_ok-led-in-First-turn.led c.in_ok-or_first-in-First-turn.ensures)))
+    (ran_rebuilt (λ (u : TreeTerm). or_tree u right) _ c.in_ok-led-in-First-turn.led c.in_ok-in_first-in-First-turn.ensures)))
 
 pub handled-returns-in_err-led-in-Second-turn-clause-ran : goal.handled-returns-in_err-led-in-Second-turn-clause-ran
 handled-returns-in_err-led-in-Second-turn-clause-ran t c =
@@ -203,8 +203,8 @@ handled-returns-in_err-led-in-Second-turn-clause-ran t c =
     (ran_is (or_second checked left right σ path _ act c.in-len1-up-path.len_at_least c.in-Second-turn.is)
     (ran_after_stops _ (rw c.deref-in-Second-turn.ensures at c.in_err-led-in-Second-turn.ensures.ran)))
 
-pub handled-returns-in_ok-or_second-in-Second-turn-clause-ran : goal.handled-returns-in_ok-or_second-in-Second-turn-clause-ran
-handled-returns-in_ok-or_second-in-Second-turn-clause-ran t c =
+pub handled-returns-in_ok-in_second-in-Second-turn-clause-ran : goal.handled-returns-in_ok-in_second-in-Second-turn-clause-ran
+handled-returns-in_ok-in_second-in-Second-turn-clause-ran t c =
     let checked = checked_term c.args.engine.now in
     let σ = map value_term c.args.store.now.list in
     let path = c.args.path.now in
@@ -214,4 +214,4 @@ handled-returns-in_ok-or_second-in-Second-turn-clause-ran t c =
     rw c.in-Or.is
     (ran_is (or_second checked left right σ path _ act c.in-len1-up-path.len_at_least c.in-Second-turn.is)
     (ran_after _ (rw c.deref-in-Second-turn.ensures at c.in_ok-led-in-Second-turn.ensures.ran)
-    (ran_rebuilt (λ (u : TreeTerm). or_tree left u) _ c.in_ok-led-in-Second-turn.led c.in_ok-or_second-in-Second-turn.ensures)))
+    (ran_rebuilt (λ (u : TreeTerm). or_tree left u) _ c.in_ok-led-in-Second-turn.led c.in_ok-in_second-in-Second-turn.ensures)))

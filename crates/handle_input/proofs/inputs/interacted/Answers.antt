@@ -14,7 +14,9 @@ returns-in-None-clause-ran c = ran_after settled (rw c.as_slice-turns.ensures at
 
 pub settled-requires : goal.settled-requires
 settled-requires c =
-    rw c.in-Some.is at (settling_well (input_term c.args.input.now) c.requires.accepted c.requires.fits (rw c.as_slice-turns.ensures at c.in_ok-led.ensures.ran))
+    rw c.in-Some.is at (settling_well (input_term c.args.input.now) c.requires.accepted c.requires.fits
+    (rw c.as_slice-turns.ensures at c.in_ok-led.ensures.ran))
 
 pub returns-in-Some-clause-ran : goal.returns-in-Some-clause-ran
-returns-in-Some-clause-ran c = ran_after settled (rw c.as_slice-turns.ensures at c.in_ok-led.ensures.ran) (rw c.in-Some.is c.settled.ensures.ran)
+returns-in-Some-clause-ran c = ran_after settled (rw c.as_slice-turns.ensures at c.in_ok-led.ensures.ran)
+    (rw c.in-Some.is c.settled.ensures.ran)

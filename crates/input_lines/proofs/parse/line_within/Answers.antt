@@ -1,22 +1,23 @@
-use Rattle.std.proofs.Common.{◌≡◌, ℕ, ◌<◌, length, take, ap, subst, sym, arith}
-use Rattle.std.proofs.lemmas.List.{length-take-le}
-use Rattle.line_frame.specs.declared.machine.LineStop.{LineStop}
-use Rattle.task_model.specs.Text.{Text}
-use Rattle.input_lines.specs.LinePlaces.{IsBadColumn}
-use Rattle.input_lines.proofs.WholeLineLemmas.{err_within}
+use Rattle.input_lines.proofs.WholeLineLemmas.{fault_at, fault_begins, line_only, fault_no_line, fault_column, over_column}
 use Rattle.input_lines.proofs.parse.line_within.Goals as goal
 
-pub returns-then-bytes-longest-clause-bad : goal.returns-then-bytes-longest-clause-bad
-returns-then-bytes-longest-clause-bad c =
-    err_within c.args.longest c.args.bytes.now c.if-bytes-longest.true c.whole.result c.whole.ensures.bad
+pub column-requires-in-Err-Fault-clause-begins : goal.column-requires-in-Err-Fault-clause-begins
+column-requires-in-Err-Fault-clause-begins c =
+    fault_begins (fault_at (rw c.in-Err-Fault.field-0-is at c.in-Err-Fault.ensures) c.place-end.ensures)
 
-at_longest : (longest : ℕ) (t : Text) (e : LineStop) → longest < length t
-    → ((bytes : Text) → length (take longest t) < length bytes → take longest t ≡ take (length (take longest t)) bytes
-    → IsBadColumn (length (take longest t)) bytes e) → IsBadColumn longest t e
-at_longest longest t e over h =
-    let long : length (take longest t) ≡ longest = length-take-le longest t (omega (arith, over)) in
-    subst (λ n. IsBadColumn n t e) long (h t (omega (arith, over, long))
-    (let s = sym long in ap (λ n. take n t) s))
+pub returns-in-Ok-clause-only : goal.returns-in-Ok-clause-only
+returns-in-Ok-clause-only c = line_only c.args.longest c.args.bytes.now c.cut-front.ensures c.in-Ok.ensures
 
-pub returns-clause-bad : goal.returns-clause-bad
-returns-clause-bad c = at_longest c.args.longest c.args.bytes.now _ c.if-bytes-longest.false c.beyond.ensures
+pub returns-in-Ok-2-clause-bad : goal.returns-in-Ok-2-clause-bad
+returns-in-Ok-2-clause-bad c = over_column c.args.longest c.args.bytes.now c.cut-front.ensures c.column.result c.if-bytes-longest.false
+    c.column.ensures
+
+pub returns-in-Err-Fault-clause-only : goal.returns-in-Err-Fault-clause-only
+returns-in-Err-Fault-clause-only c =
+    let fault = fault_at (rw c.in-Err-Fault.field-0-is at c.in-Err-Fault.ensures) c.place-end.ensures in
+    λ l is le. absurd (fault_no_line c.args.longest c.args.bytes.now c.cut-front.ensures fault l is le)
+
+pub returns-in-Err-Fault-clause-bad : goal.returns-in-Err-Fault-clause-bad
+returns-in-Err-Fault-clause-bad c =
+    let fault = fault_at (rw c.in-Err-Fault.field-0-is at c.in-Err-Fault.ensures) c.place-end.ensures in
+    fault_column c.args.longest c.args.bytes.now c.cut-front.ensures c.column-in-Err-Fault.result fault c.column-in-Err-Fault.ensures

@@ -7,11 +7,11 @@ returns-in_err-rest c =
     let p = err_from_is_err_and c.from_residual.result c.from_residual.ensures.1 in rw (p.1, p.2) (path_stop c.in_err-rest.ensures)
 
 pub loop-turn-init : goal.loop-turn-init
-loop-turn-init c = rw c.new-turns.ensures.items (dot_read c.in_ok-rest.ensures)
+loop-turn-init c = rw c.new-turns.ensures (dot_read c.in_ok-rest.ensures)
 
 pub loop-turn-preserved : goal.loop-turn-preserved
-loop-turn-preserved c = rw c.in_ok-push.ensures.items (turn_read c.loop-turn.turns.items c.in-Some.turn c.in-Some.after.now
+loop-turn-preserved c = rw c.in-Ok.ensures.ok (turn_read c.loop-turn.turns c.in-Some.turn c.in-Some.after.now
     c.loop-turn.invariant c.in-Some.ensures)
 
 pub returns : goal.returns
-returns c = rw c.of_vec-turns.ensures.list (path_right c.loop-turn.invariant c.in_default.ensures)
+returns c = path_right c.loop-turn.invariant c.in_default.ensures

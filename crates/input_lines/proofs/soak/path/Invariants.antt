@@ -3,4 +3,4 @@ use Rattle.task_model.specs.declared.input.Turn.TheVariants.{First}
 use Rattle.input_lines.proofs.soak.path.Given as goal
 
 abbrev pub invariant-loop : goal.invariant-loop
-invariant-loop l = l.turns.items ≡ replicate (l.counter - l.part) First
+invariant-loop l = l.turns ≡ replicate (l.counter - l.part) First

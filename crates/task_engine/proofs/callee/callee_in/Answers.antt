@@ -17,7 +17,8 @@ returns-in-Fun c = c.loop-i.invariant.rest _ (λ p n e.
     let i = c.loop-i.i in
     let def = def_term c.index-defs-i.result in
     callee_front p n defs i c.index-defs-i.result c.args.name.now c.loop-i-test.true c.index-defs-i.is
-    ∙ ap (λ b. cond b (as_callee n def) (def_in p as_callee (n + what_nodes p def.what) (map def_term (drop (i + 1) defs)) c.args.name.now))
+    ∙ ap (λ b. cond b (as_callee n def)
+    (def_in p as_callee (n + what_nodes p def.what) (map def_term (drop (i + 1) defs)) c.args.name.now))
     (sym c.is.ensures ∙ c.if-is.true)
     ∙ ap (λ (w : DefBody). callee_of def.params n (def_body_term w)) c.in-Fun.is)
 
@@ -38,7 +39,8 @@ returns-in-Task c = c.loop-i.invariant.rest _ (λ p n e.
     let found = first_and_later p n defs i c.index-defs-i.result c.args.firsts.now c.number_at.result lt c.index-defs-i.is within
     (found_at c.args.firsts.now i c.number_at.result c.number_at.ensures) e in
     callee_front p n defs i c.index-defs-i.result c.args.name.now lt c.index-defs-i.is
-    ∙ ap (λ b. cond b (as_callee n def) (def_in p as_callee (n + what_nodes p def.what) (map def_term (drop (i + 1) defs)) c.args.name.now))
+    ∙ ap (λ b. cond b (as_callee n def)
+    (def_in p as_callee (n + what_nodes p def.what) (map def_term (drop (i + 1) defs)) c.args.name.now))
     (sym c.is.ensures ∙ c.if-is.true)
     ∙ ap (λ (w : DefBody). callee_of def.params n (def_body_term w)) c.in-Task.is
     ∙ rw (c.as_slice.ensures, found.0) refl)
@@ -53,7 +55,8 @@ loop-i-preserved c = record {
       let lt = c.loop-i-test.true in
       let within : i < length c.args.firsts.now = omega (arith, long, lt) in
       callee_front p n defs i c.index-defs-i.result c.args.name.now lt c.index-defs-i.is
-      ∙ ap (λ b. cond b (as_callee n def) (def_in p as_callee (n + what_nodes p def.what) (map def_term (drop (i + 1) defs)) c.args.name.now))
+      ∙ ap (λ b. cond b (as_callee n def)
+      (def_in p as_callee (n + what_nodes p def.what) (map def_term (drop (i + 1) defs)) c.args.name.now))
       (sym c.is.ensures ∙ c.if-is.false)
       ∙ k p (n + what_nodes p def.what) (later_firsts p n defs i c.index-defs-i.result c.args.firsts.now lt c.index-defs-i.is within e));
 }

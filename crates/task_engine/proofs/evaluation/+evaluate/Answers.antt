@@ -15,7 +15,8 @@ use Rattle.host_eval.proofs.RunLemmas.{ran_is, ran_known_ok, placed_is, chosen_i
 use Rattle.host_eval.proofs.WellLemmas.{well_is, well_found}
 use Rattle.typing_laws.proofs.CallLemmas.{well_ask, well_next, well_unit, well_first, well_after, well_known}
 use Rattle.task_engine.proofs.AskLemmas.{may_arm, well_task, within_types, task_paired, put_within}
-use Rattle.task_engine.proofs.PlanLemmas.{ran_made_at, share_is, asked_task, ran_call, well_call}
+use Rattle.task_engine.specs.Stores.{values_in}
+use Rattle.task_engine.proofs.PlanLemmas.{ran_made_at, share_is, step_is, pair_is, pair_nodes, asked_task, ran_call, well_call}
 use Rattle.task_engine.proofs.evaluation.+evaluate.Goals as goal
 
 -- ---- under a rule
@@ -46,13 +47,15 @@ pub evaluate_form-share_form-requires : goal.evaluate_form-share_form-requires
 evaluate_form-share_form-requires t c =
     record {
       paired = task_paired c.requires.may;
-      known = well_found _ _ (well_is (share_is (checked_term c.args.engine.now) c.in-Share.name (names_term c.args.names.now) (map value_term c.args.store.now.list))
+      known = well_found _ _ (well_is
+          (share_is (checked_term c.args.engine.now) c.in-Share.name (names_term c.args.names.now) (map value_term c.args.store.now.list))
           (well_task (share c.in-Share.name) c.requires.accepted (may_arm (ap task_term c.in-Share.is) c.requires.may)));
     }
 
 pub evaluate_form-returns-in_ok-share_form-in-Share-clause-ran : goal.evaluate_form-returns-in_ok-share_form-in-Share-clause-ran
 evaluate_form-returns-in_ok-share_form-in-Share-clause-ran t c =
-    rw c.in-Share.is (ran_is (share_is (checked_term c.args.engine.now) c.in-Share.name (names_term c.args.names.now) (map value_term c.args.store.now.list))
+    rw c.in-Share.is
+    (ran_is (share_is (checked_term c.args.engine.now) c.in-Share.name (names_term c.args.names.now) (map value_term c.args.store.now.list))
     (ran_known_ok _ c.in_ok-share_form-in-Share.ensures (ran_give refl)))
 
 pub evaluate_form-returns-in-Fail-clause-ran : goal.evaluate_form-returns-in-Fail-clause-ran
@@ -63,37 +66,41 @@ pub evaluate_form-returns-in_ok-xor_later-in-Xor-clause-ran : goal.evaluate_form
 evaluate_form-returns-in_ok-xor_later-in-Xor-clause-ran t c =
     rw c.in-Xor.is (ran_made_at _ c.in_ok-xor_later-in-Xor.ensures)
 
-pub evaluate_form-then_form-requires : goal.evaluate_form-then_form-requires
-evaluate_form-then_form-requires t c =
+pub evaluate_form-step_form-requires : goal.evaluate_form-step_form-requires
+evaluate_form-step_form-requires t c =
     (search rules, (c.requires.accepted, rw (c.deref.ensures) (may_arm (ap task_term c.in-Then.is) c.requires.may)))
 
 pub evaluate_form-returns-in-Then-clause-ran : goal.evaluate_form-returns-in-Then-clause-ran
 evaluate_form-returns-in-Then-clause-ran t c =
-    rw (c.in-Then.is, ← c.deref.ensures) c.then_form.ensures.ran
+    rw (c.in-Then.is, ← c.deref.ensures) c.step_form.ensures.ran
 
-pub evaluate_form-next_form-requires : goal.evaluate_form-next_form-requires
-evaluate_form-next_form-requires t c =
+pub evaluate_form-step_form-requires-in-Next : goal.evaluate_form-step_form-requires-in-Next
+evaluate_form-step_form-requires-in-Next t c =
     (search rules, (c.requires.accepted, rw (c.deref-in-Next.ensures) (may_arm (ap task_term c.in-Next.is) c.requires.may)))
 
 pub evaluate_form-returns-in-Next-clause-ran : goal.evaluate_form-returns-in-Next-clause-ran
 evaluate_form-returns-in-Next-clause-ran t c =
-    rw (c.in-Next.is, ← c.deref-in-Next.ensures) c.next_form.ensures.ran
+    rw (c.in-Next.is, ← c.deref-in-Next.ensures) c.step_form-in-Next.ensures.ran
 
-pub evaluate_form-and_form-requires : goal.evaluate_form-and_form-requires
-evaluate_form-and_form-requires t c =
-    (search rules, (c.requires.accepted, rw (c.deref-in-And.ensures, c.deref-in-And-2.ensures) (may_arm (ap task_term c.in-And.is) c.requires.may)))
+pub evaluate_form-pair_form-requires : goal.evaluate_form-pair_form-requires
+evaluate_form-pair_form-requires t c = (
+  search rules,
+  (c.requires.accepted, rw (c.deref-in-And.ensures, c.deref-in-And-2.ensures) (may_arm (ap task_term c.in-And.is) c.requires.may)),
+)
 
 pub evaluate_form-returns-in-And-clause-ran : goal.evaluate_form-returns-in-And-clause-ran
 evaluate_form-returns-in-And-clause-ran t c =
-    rw (c.in-And.is, ← c.deref-in-And.ensures, ← c.deref-in-And-2.ensures) c.and_form.ensures.ran
+    rw (c.in-And.is, ← c.deref-in-And.ensures, ← c.deref-in-And-2.ensures) c.pair_form.ensures.ran
 
-pub evaluate_form-or_form-requires : goal.evaluate_form-or_form-requires
-evaluate_form-or_form-requires t c =
-    (search rules, (c.requires.accepted, rw (c.deref-in-Or.ensures, c.deref-in-Or-2.ensures) (may_arm (ap task_term c.in-Or.is) c.requires.may)))
+pub evaluate_form-pair_form-requires-in-Or : goal.evaluate_form-pair_form-requires-in-Or
+evaluate_form-pair_form-requires-in-Or t c = (
+  search rules,
+  (c.requires.accepted, rw (c.deref-in-Or.ensures, c.deref-in-Or-2.ensures) (may_arm (ap task_term c.in-Or.is) c.requires.may)),
+)
 
 pub evaluate_form-returns-in-Or-clause-ran : goal.evaluate_form-returns-in-Or-clause-ran
 evaluate_form-returns-in-Or-clause-ran t c =
-    rw (c.in-Or.is, ← c.deref-in-Or.ensures, ← c.deref-in-Or-2.ensures) c.or_form.ensures.ran
+    rw (c.in-Or.is, ← c.deref-in-Or.ensures, ← c.deref-in-Or-2.ensures) c.pair_form-in-Or.ensures.ran
 
 pub evaluate_form-let_form-requires : goal.evaluate_form-let_form-requires
 evaluate_form-let_form-requires t c =
@@ -104,16 +111,20 @@ evaluate_form-returns-in-Let-clause-ran t c =
     rw (c.in-Let.is, ← c.deref-in-Let.ensures) c.let_form.ensures.ran
 
 pub evaluate_form-if_form-requires : goal.evaluate_form-if_form-requires
-evaluate_form-if_form-requires t c =
-    (search rules, (c.requires.accepted, rw (c.deref-in-If.ensures, c.deref-in-If-2.ensures) (may_arm (ap task_term c.in-If.is) c.requires.may)))
+evaluate_form-if_form-requires t c = (
+  search rules,
+  (c.requires.accepted, rw (c.deref-in-If.ensures, c.deref-in-If-2.ensures) (may_arm (ap task_term c.in-If.is) c.requires.may)),
+)
 
 pub evaluate_form-returns-in-If-clause-ran : goal.evaluate_form-returns-in-If-clause-ran
 evaluate_form-returns-in-If-clause-ran t c =
     rw (c.in-If.is, ← c.deref-in-If.ensures, ← c.deref-in-If-2.ensures) c.if_form.ensures.ran
 
 pub evaluate_form-case_form-requires : goal.evaluate_form-case_form-requires
-evaluate_form-case_form-requires t c =
-    (search rules, (c.requires.accepted, rw (c.deref-in-Case.ensures, c.deref-in-Case-2.ensures) (may_arm (ap task_term c.in-Case.is) c.requires.may)))
+evaluate_form-case_form-requires t c = (
+  search rules,
+  (c.requires.accepted, rw (c.deref-in-Case.ensures, c.deref-in-Case-2.ensures) (may_arm (ap task_term c.in-Case.is) c.requires.may)),
+)
 
 pub evaluate_form-returns-in-Case-clause-ran : goal.evaluate_form-returns-in-Case-clause-ran
 evaluate_form-returns-in-Case-clause-ran t c =
@@ -144,81 +155,78 @@ evaluate_form-returns-in-Call-clause-ran t c =
     ran_is (ap (λ z. evaluate_rule (checked_term c.args.engine.now) z (names_term c.args.names.now) (map value_term c.args.store.now.list))
     (ap task_term c.in-Call.is)) (rw c.as_slice.ensures at c.call_form.ensures.ran)
 
-pub then_form-evaluate_at-requires : goal.then_form-evaluate_at-requires
-then_form-evaluate_at-requires t c =
-    (search rules, (c.requires.accepted, well_ask (well_task _ c.requires.accepted c.requires.may)))
+pub step_form-evaluate_at-requires : goal.step_form-evaluate_at-requires
+step_form-evaluate_at-requires t c =
+    let rule = step_is (checked_term c.args.engine.now) c.args.kind (task_term c.args.left.now) c.args.body (names_term c.args.names.now)
+    (values_in c.args.store.now) in
+    (search rules, (c.requires.accepted, well_ask (well_is rule (well_task _ c.requires.accepted c.requires.may))))
 
-pub then_form-returns-clause-ran : goal.then_form-returns-clause-ran
-then_form-returns-clause-ran t c =
-    ran_ask _ c.in_ok-left.ensures.asked (ran_made_at _ c.in_ok-then_later.ensures)
+pub step_form-returns-in_err-left-clause-ran : goal.step_form-returns-in_err-left-clause-ran
+step_form-returns-in_err-left-clause-ran t c =
+    let rule = step_is (checked_term c.args.engine.now) c.args.kind (task_term c.args.left.now) c.args.body (names_term c.args.names.now)
+    (values_in c.args.store.now) in
+    rw (stopped _ c.in_err-left.field-0.0 c.from_residual.ensures.1) (ran_is rule (ran_ask_stops _ c.in_err-left.ensures.asked))
 
-pub next_form-evaluate_at-requires : goal.next_form-evaluate_at-requires
-next_form-evaluate_at-requires t c =
-    (search rules, (c.requires.accepted, well_ask (well_task _ c.requires.accepted c.requires.may)))
+pub step_form-returns-clause-ran : goal.step_form-returns-clause-ran
+step_form-returns-clause-ran t c =
+    let rule = step_is (checked_term c.args.engine.now) c.args.kind (task_term c.args.left.now) c.args.body (names_term c.args.names.now)
+    (values_in c.args.store.now) in
+    ran_is rule (ran_ask _ c.in_ok-left.ensures.asked (ran_made_at _ c.in_ok-step_later.ensures))
 
-pub next_form-returns-clause-ran : goal.next_form-returns-clause-ran
-next_form-returns-clause-ran t c =
-    ran_ask _ c.in_ok-left.ensures.asked (ran_made_at _ c.in_ok-next_later.ensures)
+pub pair_form-names_after-after-requires : goal.pair_form-names_after-after-requires
+pair_form-names_after-after-requires t c =
+    let within = within_types _ c.requires.may in
+    let nodes = pair_nodes (checked_term c.args.engine.now).program c.args.kind (task_term c.args.a.now) (task_term c.args.b.now) in
+    record { within = omega (arith, within, nodes) }
 
-pub and_form-names_after-after-requires : goal.and_form-names_after-after-requires
-and_form-names_after-after-requires t c =
-    let w = within_types _ c.requires.may in
-    record { within = omega (arith, w) }
+pub pair_form-evaluate_at-requires : goal.pair_form-evaluate_at-requires
+pair_form-evaluate_at-requires t c =
+    let rule = pair_is (checked_term c.args.engine.now) c.args.kind (task_term c.args.a.now) (task_term c.args.b.now)
+    (names_term c.args.names.now) (values_in c.args.store.now) in
+    (search rules, (c.requires.accepted, well_ask (well_is rule (well_task _ c.requires.accepted c.requires.may))))
 
-pub and_form-evaluate_at-requires : goal.and_form-evaluate_at-requires
-and_form-evaluate_at-requires t c =
-    (search rules, (c.requires.accepted, well_ask (well_task _ c.requires.accepted c.requires.may)))
+pub pair_form-evaluate_at-requires-2 : goal.pair_form-evaluate_at-requires-2
+pair_form-evaluate_at-requires-2 t c =
+    let rule = pair_is (checked_term c.args.engine.now) c.args.kind (task_term c.args.a.now) (task_term c.args.b.now)
+    (names_term c.args.names.now) (values_in c.args.store.now) in
+    let well = well_is rule (well_task _ c.requires.accepted c.requires.may) in (
+      search rules,
+      (c.requires.accepted, rw c.names_after-after.ensures (well_ask (well_next c.requires.accepted well c.in_ok-t.ensures.asked))),
+    )
 
-pub and_form-evaluate_at-requires-2 : goal.and_form-evaluate_at-requires-2
-and_form-evaluate_at-requires-2 t c =
-    (search rules, (c.requires.accepted, rw c.names_after-after.ensures (well_ask (well_next c.requires.accepted (well_task _ c.requires.accepted c.requires.may) c.in_ok-t.ensures.asked))))
+pub pair_form-returns-in_err-t-clause-ran : goal.pair_form-returns-in_err-t-clause-ran
+pair_form-returns-in_err-t-clause-ran t c =
+    let rule = pair_is (checked_term c.args.engine.now) c.args.kind (task_term c.args.a.now) (task_term c.args.b.now)
+    (names_term c.args.names.now) (values_in c.args.store.now) in
+    rw (stopped _ c.in_err-t.field-0.0 c.from_residual.ensures.1) (ran_is rule (ran_ask_stops _ c.in_err-t.ensures.asked))
 
-pub and_form-returns-in_err-t-clause-ran : goal.and_form-returns-in_err-t-clause-ran
-and_form-returns-in_err-t-clause-ran t c =
-    rw (stopped _ c.in_err-t.field-0.0 c.from_residual.ensures.1) (ran_ask_stops _ c.in_err-t.ensures.asked)
-
-pub and_form-returns-in_err-u-clause-ran : goal.and_form-returns-in_err-u-clause-ran
-and_form-returns-in_err-u-clause-ran t c =
+pub pair_form-returns-in_err-u-clause-ran : goal.pair_form-returns-in_err-u-clause-ran
+pair_form-returns-in_err-u-clause-ran t c =
+    let rule = pair_is (checked_term c.args.engine.now) c.args.kind (task_term c.args.a.now) (task_term c.args.b.now)
+    (names_term c.args.names.now) (values_in c.args.store.now) in
     rw (stopped _ c.in_err-u.field-0.0 c.from_residual-in_err-u.ensures.1)
-    (ran_ask _ c.in_ok-t.ensures.asked (ran_ask_stops _ (rw c.names_after-after.ensures at c.in_err-u.ensures.asked)))
+    (ran_is rule (ran_ask _ c.in_ok-t.ensures.asked (ran_ask_stops _ (rw c.names_after-after.ensures at c.in_err-u.ensures.asked))))
 
-pub and_form-returns-clause-ran : goal.and_form-returns-clause-ran
-and_form-returns-clause-ran t c =
-    ran_ask _ c.in_ok-t.ensures.asked (ran_ask _ (rw c.names_after-after.ensures at c.in_ok-u.ensures.asked) (ran_made_at _ c.in_ok-and_tree.ensures))
-
-pub or_form-names_after-after-requires : goal.or_form-names_after-after-requires
-or_form-names_after-after-requires t c =
-    let w = within_types _ c.requires.may in
-    record { within = omega (arith, w) }
-
-pub or_form-evaluate_at-requires : goal.or_form-evaluate_at-requires
-or_form-evaluate_at-requires t c =
-    (search rules, (c.requires.accepted, well_ask (well_task _ c.requires.accepted c.requires.may)))
-
-pub or_form-evaluate_at-requires-2 : goal.or_form-evaluate_at-requires-2
-or_form-evaluate_at-requires-2 t c =
-    (search rules, (c.requires.accepted, rw c.names_after-after.ensures (well_ask (well_next c.requires.accepted (well_task _ c.requires.accepted c.requires.may) c.in_ok-t.ensures.asked))))
-
-pub or_form-returns-in_err-t-clause-ran : goal.or_form-returns-in_err-t-clause-ran
-or_form-returns-in_err-t-clause-ran t c =
-    rw (stopped _ c.in_err-t.field-0.0 c.from_residual.ensures.1) (ran_ask_stops _ c.in_err-t.ensures.asked)
-
-pub or_form-returns-in_err-u-clause-ran : goal.or_form-returns-in_err-u-clause-ran
-or_form-returns-in_err-u-clause-ran t c =
-    rw (stopped _ c.in_err-u.field-0.0 c.from_residual-in_err-u.ensures.1)
-    (ran_ask _ c.in_ok-t.ensures.asked (ran_ask_stops _ (rw c.names_after-after.ensures at c.in_err-u.ensures.asked)))
-
-pub or_form-returns-clause-ran : goal.or_form-returns-clause-ran
-or_form-returns-clause-ran t c =
-    ran_ask _ c.in_ok-t.ensures.asked (ran_ask _ (rw c.names_after-after.ensures at c.in_ok-u.ensures.asked) (ran_made_at _ c.in_ok-or_tree.ensures))
+pub pair_form-returns-clause-ran : goal.pair_form-returns-clause-ran
+pair_form-returns-clause-ran t c =
+    let rule = pair_is (checked_term c.args.engine.now) c.args.kind (task_term c.args.a.now) (task_term c.args.b.now)
+    (names_term c.args.names.now) (values_in c.args.store.now) in
+    ran_is rule (ran_ask _ c.in_ok-t.ensures.asked (ran_ask _ (rw c.names_after-after.ensures at c.in_ok-u.ensures.asked)
+    (ran_made_at _ c.in_ok-paired.ensures)))
 
 pub let_form-host_value-requires : goal.let_form-host_value-requires
 let_form-host_value-requires t c =
     record { accepted = c.requires.accepted; may = well_ask (well_task _ c.requires.accepted c.requires.may) }
 
 pub let_form-evaluate_at-requires : goal.let_form-evaluate_at-requires
-let_form-evaluate_at-requires t c =
-    (search rules, (c.requires.accepted, rw c.with-inner.ensures (well_ask (well_next c.requires.accepted (well_task _ c.requires.accepted c.requires.may) c.in_ok-v.ensures.asked))))
+let_form-evaluate_at-requires t c = (
+  search rules,
+  (
+    c.requires.accepted,
+    rw c.with-inner.ensures
+        (well_ask (well_next c.requires.accepted (well_task _ c.requires.accepted c.requires.may) c.in_ok-v.ensures.asked)),
+  ),
+)
 
 pub let_form-returns-clause-ran : goal.let_form-returns-clause-ran
 let_form-returns-clause-ran t c =
@@ -231,18 +239,24 @@ if_form-host_value-requires t c =
 pub if_form-truth-holds-requires : goal.if_form-truth-holds-requires
 if_form-truth-holds-requires t c =
     let yes = ask (evaluates (task_term c.args.yes.now) (names_term c.args.names.now) (map value_term c.args.store.now.list)) give in
-    let no = ask (evaluates (task_term c.args.no.now) (later_by (nodes_of (checked_term c.args.engine.now).program (task_term c.args.yes.now)) (names_term c.args.names.now)) (map value_term c.args.store.now.list)) give in
-    record { fits = well_found _ (λ t. branch t yes no) (well_is (chosen_is _ yes no) (well_next c.requires.accepted (well_task _ c.requires.accepted c.requires.may) c.in_ok-v.ensures.asked)) }
+    let no = ask (evaluates (task_term c.args.no.now)
+    (later_by (nodes_of (checked_term c.args.engine.now).program (task_term c.args.yes.now)) (names_term c.args.names.now))
+    (map value_term c.args.store.now.list)) give in
+    let well = well_next c.requires.accepted (well_task _ c.requires.accepted c.requires.may) c.in_ok-v.ensures.asked in
+    record { fits = well_found _ (λ t. branch t yes no) (well_is (chosen_is _ yes no) well) }
 
 pub if_form-evaluate_at-requires : goal.if_form-evaluate_at-requires
 if_form-evaluate_at-requires t c =
     let yes = ask (evaluates (task_term c.args.yes.now) (names_term c.args.names.now) (map value_term c.args.store.now.list)) give in
-    let no = ask (evaluates (task_term c.args.no.now) (later_by (nodes_of (checked_term c.args.engine.now).program (task_term c.args.yes.now)) (names_term c.args.names.now)) (map value_term c.args.store.now.list)) give in (
+    let no = ask (evaluates (task_term c.args.no.now)
+    (later_by (nodes_of (checked_term c.args.engine.now).program (task_term c.args.yes.now)) (names_term c.args.names.now))
+    (map value_term c.args.store.now.list)) give in (
       search rules,
       (
         c.requires.accepted,
         well_ask (well_is (ap (λ t. branch t yes no) c.if-holds.true)
-            (well_known _ _ _ c.truth-holds.ensures (well_is (chosen_is _ yes no) (well_next c.requires.accepted (well_task _ c.requires.accepted c.requires.may) c.in_ok-v.ensures.asked)))),
+            (well_known _ _ _ c.truth-holds.ensures (well_is (chosen_is _ yes no)
+            (well_next c.requires.accepted (well_task _ c.requires.accepted c.requires.may) c.in_ok-v.ensures.asked)))),
       ),
     )
 
@@ -259,19 +273,23 @@ if_form-names_after-after-requires t c =
 pub if_form-evaluate_at-requires-else-holds : goal.if_form-evaluate_at-requires-else-holds
 if_form-evaluate_at-requires-else-holds t c =
     let yes = ask (evaluates (task_term c.args.yes.now) (names_term c.args.names.now) (map value_term c.args.store.now.list)) give in
-    let no = ask (evaluates (task_term c.args.no.now) (later_by (nodes_of (checked_term c.args.engine.now).program (task_term c.args.yes.now)) (names_term c.args.names.now)) (map value_term c.args.store.now.list)) give in (
+    let no = ask (evaluates (task_term c.args.no.now)
+    (later_by (nodes_of (checked_term c.args.engine.now).program (task_term c.args.yes.now)) (names_term c.args.names.now))
+    (map value_term c.args.store.now.list)) give in (
       search rules,
       (
         c.requires.accepted,
         rw c.names_after-after.ensures (well_ask (well_is (ap (λ t. branch t yes no) c.if-holds.false)
-            (well_known _ _ _ c.truth-holds.ensures (well_is (chosen_is _ yes no) (well_next c.requires.accepted (well_task _ c.requires.accepted c.requires.may) c.in_ok-v.ensures.asked))))),
+            (well_known _ _ _ c.truth-holds.ensures (well_is (chosen_is _ yes no)
+            (well_next c.requires.accepted (well_task _ c.requires.accepted c.requires.may) c.in_ok-v.ensures.asked))))),
       ),
     )
 
 pub if_form-returns-clause-ran : goal.if_form-returns-clause-ran
 if_form-returns-clause-ran t c =
     ran_ask _ c.in_ok-v.ensures.asked
-    (ran_chosen _ _ _ c.truth-holds.ensures (rw c.if-holds.false (ran_last _ (rw c.names_after-after.ensures at c.evaluate_at-else-holds.ensures.asked))))
+    (ran_chosen _ _ _ c.truth-holds.ensures
+    (rw c.if-holds.false (ran_last _ (rw c.names_after-after.ensures at c.evaluate_at-else-holds.ensures.asked))))
 
 pub case_form-host_value-requires : goal.case_form-host_value-requires
 case_form-host_value-requires t c =
@@ -281,22 +299,32 @@ pub case_form-of-requires : goal.case_form-of-requires
 case_form-of-requires t c =
     let empty = ask (evaluates (task_term c.args.empty.now) (names_term c.args.names.now) (map value_term c.args.store.now.list)) give in
     let more = λ (head tail : ValueTerm). ask (evaluates (task_term c.args.more.now)
-    (bound (bound (later_by (nodes_of (checked_term c.args.engine.now).program (task_term c.args.empty.now)) (names_term c.args.names.now)) c.args.head.now (plain_slot head)) c.args.tail.now (plain_slot tail)) (map value_term c.args.store.now.list)) give in
-    record { fits = well_found _ (empty_or empty more) (well_is (matched_is _ empty more) (well_next c.requires.accepted (well_task _ c.requires.accepted c.requires.may) c.in_ok-v.ensures.asked)) }
+    (bound (bound (later_by (nodes_of (checked_term c.args.engine.now).program (task_term c.args.empty.now)) (names_term c.args.names.now))
+    c.args.head.now (plain_slot head)) c.args.tail.now (plain_slot tail)) (map value_term c.args.store.now.list)) give in
+    let well = well_next c.requires.accepted (well_task _ c.requires.accepted c.requires.may) c.in_ok-v.ensures.asked in
+    record { fits = well_found _ (empty_or empty more) (well_is (matched_is _ empty more) well) }
 
 pub case_form-evaluate_at-requires : goal.case_form-evaluate_at-requires
 case_form-evaluate_at-requires t c =
     let empty = ask (evaluates (task_term c.args.empty.now) (names_term c.args.names.now) (map value_term c.args.store.now.list)) give in
     let more = λ (head tail : ValueTerm). ask (evaluates (task_term c.args.more.now)
-    (bound (bound (later_by (nodes_of (checked_term c.args.engine.now).program (task_term c.args.empty.now)) (names_term c.args.names.now)) c.args.head.now (plain_slot head)) c.args.tail.now (plain_slot tail)) (map value_term c.args.store.now.list)) give in
-    let parts = rw c.in-None.is at c.in_ok-parts.ensures in
-    (search rules, (c.requires.accepted, well_ask (well_known _ (empty_or empty more) _ parts (well_is (matched_is _ empty more) (well_next c.requires.accepted (well_task _ c.requires.accepted c.requires.may) c.in_ok-v.ensures.asked)))))
+    (bound (bound (later_by (nodes_of (checked_term c.args.engine.now).program (task_term c.args.empty.now)) (names_term c.args.names.now))
+    c.args.head.now (plain_slot head)) c.args.tail.now (plain_slot tail)) (map value_term c.args.store.now.list)) give in
+    let parts = rw c.in-None.is at c.in_ok-parts.ensures in (
+      search rules,
+      (
+        c.requires.accepted,
+        well_ask (well_known _ (empty_or empty more) _ parts (well_is (matched_is _ empty more)
+            (well_next c.requires.accepted (well_task _ c.requires.accepted c.requires.may) c.in_ok-v.ensures.asked))),
+      ),
+    )
 
 pub case_form-returns-in-None-clause-ran : goal.case_form-returns-in-None-clause-ran
 case_form-returns-in-None-clause-ran t c =
     let empty = ask (evaluates (task_term c.args.empty.now) (names_term c.args.names.now) (map value_term c.args.store.now.list)) give in
     let more = λ (head tail : ValueTerm). ask (evaluates (task_term c.args.more.now)
-    (bound (bound (later_by (nodes_of (checked_term c.args.engine.now).program (task_term c.args.empty.now)) (names_term c.args.names.now)) c.args.head.now (plain_slot head)) c.args.tail.now (plain_slot tail)) (map value_term c.args.store.now.list)) give in
+    (bound (bound (later_by (nodes_of (checked_term c.args.engine.now).program (task_term c.args.empty.now)) (names_term c.args.names.now))
+    c.args.head.now (plain_slot head)) c.args.tail.now (plain_slot tail)) (map value_term c.args.store.now.list)) give in
     let parts = rw c.in-None.is at c.in_ok-parts.ensures in
     ran_ask _ c.in_ok-v.ensures.asked (ran_matched _ empty more parts (ran_last _ c.evaluate_at.ensures.asked))
 
@@ -309,15 +337,18 @@ pub case_form-evaluate_at-requires-in-Some : goal.case_form-evaluate_at-requires
 case_form-evaluate_at-requires-in-Some t c =
     let empty = ask (evaluates (task_term c.args.empty.now) (names_term c.args.names.now) (map value_term c.args.store.now.list)) give in
     let more = λ (head tail : ValueTerm). ask (evaluates (task_term c.args.more.now)
-    (bound (bound (later_by (nodes_of (checked_term c.args.engine.now).program (task_term c.args.empty.now)) (names_term c.args.names.now)) c.args.head.now (plain_slot head)) c.args.tail.now (plain_slot tail)) (map value_term c.args.store.now.list)) give in
+    (bound (bound (later_by (nodes_of (checked_term c.args.engine.now).program (task_term c.args.empty.now)) (names_term c.args.names.now))
+    c.args.head.now (plain_slot head)) c.args.tail.now (plain_slot tail)) (map value_term c.args.store.now.list)) give in
     let inner = c.with-inner.ensures ∙ ap (λ (e : EnvTerm). bound e c.args.tail.now (plain_slot (value_term c.in-Some.parts.tail)))
-    (c.with-outer.ensures ∙ ap (λ (e : EnvTerm). bound e c.args.head.now (plain_slot (value_term c.in-Some.parts.head))) c.names_after-after.ensures) in
+    (c.with-outer.ensures ∙ ap (λ (e : EnvTerm). bound e c.args.head.now (plain_slot (value_term c.in-Some.parts.head)))
+    c.names_after-after.ensures) in
     let parts = rw c.in-Some.is at c.in_ok-parts.ensures in (
       search rules,
       (
         c.requires.accepted,
         rw inner
-            (well_ask (well_known _ (empty_or empty more) _ parts (well_is (matched_is _ empty more) (well_next c.requires.accepted (well_task _ c.requires.accepted c.requires.may) c.in_ok-v.ensures.asked)))),
+            (well_ask (well_known _ (empty_or empty more) _ parts (well_is (matched_is _ empty more)
+            (well_next c.requires.accepted (well_task _ c.requires.accepted c.requires.may) c.in_ok-v.ensures.asked)))),
       ),
     )
 
@@ -325,9 +356,11 @@ pub case_form-returns-clause-ran : goal.case_form-returns-clause-ran
 case_form-returns-clause-ran t c =
     let empty = ask (evaluates (task_term c.args.empty.now) (names_term c.args.names.now) (map value_term c.args.store.now.list)) give in
     let more = λ (head tail : ValueTerm). ask (evaluates (task_term c.args.more.now)
-    (bound (bound (later_by (nodes_of (checked_term c.args.engine.now).program (task_term c.args.empty.now)) (names_term c.args.names.now)) c.args.head.now (plain_slot head)) c.args.tail.now (plain_slot tail)) (map value_term c.args.store.now.list)) give in
+    (bound (bound (later_by (nodes_of (checked_term c.args.engine.now).program (task_term c.args.empty.now)) (names_term c.args.names.now))
+    c.args.head.now (plain_slot head)) c.args.tail.now (plain_slot tail)) (map value_term c.args.store.now.list)) give in
     let inner = c.with-inner.ensures ∙ ap (λ (e : EnvTerm). bound e c.args.tail.now (plain_slot (value_term c.in-Some.parts.tail)))
-    (c.with-outer.ensures ∙ ap (λ (e : EnvTerm). bound e c.args.head.now (plain_slot (value_term c.in-Some.parts.head))) c.names_after-after.ensures) in
+    (c.with-outer.ensures ∙ ap (λ (e : EnvTerm). bound e c.args.head.now (plain_slot (value_term c.in-Some.parts.head)))
+    c.names_after-after.ensures) in
     let parts = rw c.in-Some.is at c.in_ok-parts.ensures in
     ran_ask _ c.in_ok-v.ensures.asked (ran_matched _ empty more parts
     (rw (← inner) (ran_last _ c.evaluate_at-in-Some.ensures.asked)))
@@ -339,27 +372,43 @@ new_form-host_value-requires t c =
 
 pub new_form-evaluate_at-requires : goal.new_form-evaluate_at-requires
 new_form-evaluate_at-requires t c =
-    let place : c.in_ok-place.place ≡ length (map value_term c.args.store.now.list) = (search rules) ∙ sym (length-map c.args.store.now.list value_term) in
+    let place : c.in_ok-place.place ≡ length (map value_term c.args.store.now.list) = (search rules) ∙ sym
+    (length-map c.args.store.now.list value_term) in
     let inner = c.with-inner.ensures ∙ ap (λ n. bound (names_term c.args.names.now) c.args.name.now (place_slot n)) place in
-    let store = ap (map value_term) c.in_ok-place.ensures.ok ∙ map-append value_term c.args.store.now.list _ in
-    (search rules, (c.requires.accepted, rw (inner, store) (well_ask (well_next c.requires.accepted (well_task _ c.requires.accepted c.requires.may) c.in_ok-v.ensures.asked))))
+    let store = ap (map value_term) c.in_ok-place.ensures.ok ∙ map-append value_term c.args.store.now.list _ in (
+      search rules,
+      (
+        c.requires.accepted,
+        rw (inner, store)
+            (well_ask (well_next c.requires.accepted (well_task _ c.requires.accepted c.requires.may) c.in_ok-v.ensures.asked)),
+      ),
+    )
 
 pub new_form-returns-clause-ran : goal.new_form-returns-clause-ran
 new_form-returns-clause-ran t c =
-    let place : c.in_ok-place.place ≡ length (map value_term c.args.store.now.list) = (search rules) ∙ sym (length-map c.args.store.now.list value_term) in
+    let place : c.in_ok-place.place ≡ length (map value_term c.args.store.now.list) = (search rules) ∙ sym
+    (length-map c.args.store.now.list value_term) in
     let inner = c.with-inner.ensures ∙ ap (λ n. bound (names_term c.args.names.now) c.args.name.now (place_slot n)) place in
     let store = ap (map value_term) c.in_ok-place.ensures.ok ∙ map-append value_term c.args.store.now.list _ in
     ran_ask _ c.in_ok-v.ensures.asked (ran_last _ (asked_task inner store c.evaluate_at.ensures.asked))
 
 pub put_form-place_named-place-requires : goal.put_form-place_named-place-requires
 put_form-place_named-place-requires t c =
-    let f : ℕ → Plan State = λ n. ask (gives_value (host_term c.args.e.now) (names_term c.args.names.now) (map value_term c.args.store.now.list)) (λ v. ask (evaluates (task_term c.args.rest.now) (names_term c.args.names.now) (slice_set (map value_term c.args.store.now.list) n v)) give) in
-    record { paired = task_paired c.requires.may; named = well_found _ f (well_is (placed_is (names_term c.args.names.now) c.args.name.now f) (well_task _ c.requires.accepted c.requires.may)) }
+    let f : ℕ → Plan State = λ n. ask
+    (gives_value (host_term c.args.e.now) (names_term c.args.names.now) (map value_term c.args.store.now.list))
+    (λ v. ask (evaluates (task_term c.args.rest.now) (names_term c.args.names.now) (slice_set (map value_term c.args.store.now.list) n v))
+    give) in
+    let well = well_is (placed_is (names_term c.args.names.now) c.args.name.now f) (well_task _ c.requires.accepted c.requires.may) in
+    record { paired = task_paired c.requires.may; named = well_found _ f well }
 
 pub put_form-host_value-requires : goal.put_form-host_value-requires
 put_form-host_value-requires t c =
-    let f : ℕ → Plan State = λ n. ask (gives_value (host_term c.args.e.now) (names_term c.args.names.now) (map value_term c.args.store.now.list)) (λ v. ask (evaluates (task_term c.args.rest.now) (names_term c.args.names.now) (slice_set (map value_term c.args.store.now.list) n v)) give) in
-    record { accepted = c.requires.accepted; may = well_ask (well_known _ f _ c.place_named-place.ensures (well_is (placed_is (names_term c.args.names.now) c.args.name.now f) (well_task _ c.requires.accepted c.requires.may))) }
+    let f : ℕ → Plan State = λ n. ask
+    (gives_value (host_term c.args.e.now) (names_term c.args.names.now) (map value_term c.args.store.now.list))
+    (λ v. ask (evaluates (task_term c.args.rest.now) (names_term c.args.names.now) (slice_set (map value_term c.args.store.now.list) n v))
+    give) in
+    let well = well_is (placed_is (names_term c.args.names.now) c.args.name.now f) (well_task _ c.requires.accepted c.requires.may) in
+    record { accepted = c.requires.accepted; may = well_ask (well_known _ f _ c.place_named-place.ensures well) }
 
 pub put_form-set-requires : goal.put_form-set-requires
 put_form-set-requires t c =
@@ -369,19 +418,36 @@ put_form-set-requires t c =
 
 pub put_form-evaluate_at-requires : goal.put_form-evaluate_at-requires
 put_form-evaluate_at-requires t c =
-    let f : ℕ → Plan State = λ n. ask (gives_value (host_term c.args.e.now) (names_term c.args.names.now) (map value_term c.args.store.now.list)) (λ v. ask (evaluates (task_term c.args.rest.now) (names_term c.args.names.now) (slice_set (map value_term c.args.store.now.list) n v)) give) in
-    let store = ap (map value_term) c.in_ok-set.ensures.ok ∙ map-set value_term c.args.store.now.list _ _ in
-    (search rules, (c.requires.accepted, rw store (well_ask (well_next c.requires.accepted (well_known _ f _ c.place_named-place.ensures (well_is (placed_is (names_term c.args.names.now) c.args.name.now f) (well_task _ c.requires.accepted c.requires.may))) c.in_ok-v.ensures.asked))))
+    let f : ℕ → Plan State = λ n. ask
+    (gives_value (host_term c.args.e.now) (names_term c.args.names.now) (map value_term c.args.store.now.list))
+    (λ v. ask (evaluates (task_term c.args.rest.now) (names_term c.args.names.now) (slice_set (map value_term c.args.store.now.list) n v))
+    give) in
+    let store = ap (map value_term) c.in_ok-set.ensures.ok ∙ map-set value_term c.args.store.now.list _ _ in (
+      search rules,
+      (
+        c.requires.accepted,
+        rw store (well_ask (well_next c.requires.accepted (well_known _ f _ c.place_named-place.ensures
+            (well_is (placed_is (names_term c.args.names.now) c.args.name.now f) (well_task _ c.requires.accepted c.requires.may)))
+            c.in_ok-v.ensures.asked)),
+      ),
+    )
 
 pub put_form-returns-in_err-v-clause-ran : goal.put_form-returns-in_err-v-clause-ran
 put_form-returns-in_err-v-clause-ran t c =
-    let f : ℕ → Plan State = λ n. ask (gives_value (host_term c.args.e.now) (names_term c.args.names.now) (map value_term c.args.store.now.list)) (λ v. ask (evaluates (task_term c.args.rest.now) (names_term c.args.names.now) (slice_set (map value_term c.args.store.now.list) n v)) give) in
+    let f : ℕ → Plan State = λ n. ask
+    (gives_value (host_term c.args.e.now) (names_term c.args.names.now) (map value_term c.args.store.now.list))
+    (λ v. ask (evaluates (task_term c.args.rest.now) (names_term c.args.names.now) (slice_set (map value_term c.args.store.now.list) n v))
+    give) in
     rw (stopped _ c.in_err-v.field-0.0 c.from_residual.ensures.1)
-    (ran_is (placed_is (names_term c.args.names.now) c.args.name.now f) (ran_known_ok f c.place_named-place.ensures (ran_ask_stops _ c.in_err-v.ensures.asked)))
+    (ran_is (placed_is (names_term c.args.names.now) c.args.name.now f)
+    (ran_known_ok f c.place_named-place.ensures (ran_ask_stops _ c.in_err-v.ensures.asked)))
 
 pub put_form-returns-clause-ran : goal.put_form-returns-clause-ran
 put_form-returns-clause-ran t c =
-    let f : ℕ → Plan State = λ n. ask (gives_value (host_term c.args.e.now) (names_term c.args.names.now) (map value_term c.args.store.now.list)) (λ v. ask (evaluates (task_term c.args.rest.now) (names_term c.args.names.now) (slice_set (map value_term c.args.store.now.list) n v)) give) in
+    let f : ℕ → Plan State = λ n. ask
+    (gives_value (host_term c.args.e.now) (names_term c.args.names.now) (map value_term c.args.store.now.list))
+    (λ v. ask (evaluates (task_term c.args.rest.now) (names_term c.args.names.now) (slice_set (map value_term c.args.store.now.list) n v))
+    give) in
     let store = ap (map value_term) c.in_ok-set.ensures.ok ∙ map-set value_term c.args.store.now.list _ _ in
     ran_is (placed_is (names_term c.args.names.now) c.args.name.now f) (ran_known_ok f c.place_named-place.ensures
     (ran_ask _ c.in_ok-v.ensures.asked (ran_last _ (asked_task refl store c.evaluate_at.ensures.asked))))
@@ -392,8 +458,13 @@ call_form-task_named-callee-requires t c =
     well_found _ _ (well_task _ c.requires.accepted c.requires.may)
 
 pub call_form-call_at-requires : goal.call_form-call_at-requires
-call_form-call_at-requires t c =
-    (search rules, (c.requires.accepted, (well_call _ _ _ _ _ c.task_named-callee.ensures (well_task _ c.requires.accepted c.requires.may), task_paired c.requires.may)))
+call_form-call_at-requires t c = (
+  search rules,
+  (
+    c.requires.accepted,
+    (well_call _ _ _ _ _ c.task_named-callee.ensures (well_task _ c.requires.accepted c.requires.may), task_paired c.requires.may),
+  ),
+)
 
 pub call_form-returns-clause-ran : goal.call_form-returns-clause-ran
 call_form-returns-clause-ran t c =
@@ -404,8 +475,14 @@ call_at-argument_slots-requires t c =
     record { accepted = c.requires.accepted; well = well_first _ _ (well_unit c.requires.well); paired = c.requires.paired }
 
 pub call_at-evaluate_at-requires : goal.call_at-evaluate_at-requires
-call_at-evaluate_at-requires t c =
-    (search rules, (c.requires.accepted, rw (c.of_params-inner.ensures, c.as_slice.ensures) (well_ask (well_after _ _ c.requires.accepted (well_unit c.requires.well) c.in_ok-slots.ensures.ran))))
+call_at-evaluate_at-requires t c = (
+  search rules,
+  (
+    c.requires.accepted,
+    rw (c.of_params-inner.ensures, c.as_slice.ensures)
+        (well_ask (well_after _ _ c.requires.accepted (well_unit c.requires.well) c.in_ok-slots.ensures.ran)),
+  ),
+)
 
 pub call_at-returns-in_err-slots-clause-ran : goal.call_at-returns-in_err-slots-clause-ran
 call_at-returns-in_err-slots-clause-ran t c =
@@ -415,4 +492,5 @@ call_at-returns-in_err-slots-clause-ran t c =
 pub call_at-returns-clause-ran : goal.call_at-returns-clause-ran
 call_at-returns-clause-ran t c =
     ran_unit c.in_ok-spend.ensures.ok
-    (ran_after _ c.in_ok-slots.ensures.ran (rw (← c.as_slice.ensures, ← c.of_params-inner.ensures) (ran_last _ c.evaluate_at.ensures.asked)))
+    (ran_after _ c.in_ok-slots.ensures.ran
+    (rw (← c.as_slice.ensures, ← c.of_params-inner.ensures) (ran_last _ c.evaluate_at.ensures.asked)))

@@ -8,17 +8,11 @@ decreases-evaluate_at l = 4 * l.purse.now.height
 abbrev pub decreases-call_at : goal.decreases-call_at
 decreases-call_at l = 4 * l.purse.now.height + 1
 
-abbrev pub decreases-then_form : goal.decreases-then_form
-decreases-then_form l = 4 * l.purse.now.height + 2
+abbrev pub decreases-step_form : goal.decreases-step_form
+decreases-step_form l = 4 * l.purse.now.height + 2
 
-abbrev pub decreases-next_form : goal.decreases-next_form
-decreases-next_form l = 4 * l.purse.now.height + 2
-
-abbrev pub decreases-and_form : goal.decreases-and_form
-decreases-and_form l = 4 * l.purse.now.height + 2
-
-abbrev pub decreases-or_form : goal.decreases-or_form
-decreases-or_form l = 4 * l.purse.now.height + 2
+abbrev pub decreases-pair_form : goal.decreases-pair_form
+decreases-pair_form l = 4 * l.purse.now.height + 2
 
 abbrev pub decreases-let_form : goal.decreases-let_form
 decreases-let_form l = 4 * l.purse.now.height + 2

@@ -15,5 +15,6 @@ step_fails-requires-clause-bound g c = cont_binds (rw c.checked.ensures at c.pro
 
 pub returns-clause-sign : goal.returns-clause-sign
 returns-clause-sign g c =
-    sign_is c.args.budget (trial (checked_term c.args.engine.now) (cont_term c.args.k.now) (value_term c.args.v) (map value_term c.args.store.now.list)) _ _
+    sign_is c.args.budget
+    (trial (checked_term c.args.engine.now) (cont_term c.args.k.now) (value_term c.args.v) (map value_term c.args.store.now.list)) _ _
     c.new.ensures.units c.new.ensures.height c.step_fails.ensures.ran c.sign_of.ensures

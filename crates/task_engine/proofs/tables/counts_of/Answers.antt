@@ -12,5 +12,6 @@ loop-at-init c =
       within = omega arith;
       counted =
           drop_past c.in_ok-counts.counts.items (length c.args.bodies.now) (omega (arith, many))
-          ∙ sym (ap (λ l. counts_from (length c.args.bodies.now) (map body_term l)) (drop_past c.args.bodies.now (length c.args.bodies.now) (omega arith)));
+          ∙ sym (ap (λ l. counts_from (length c.args.bodies.now) (map body_term l))
+          (drop_past c.args.bodies.now (length c.args.bodies.now) (omega arith)));
     }

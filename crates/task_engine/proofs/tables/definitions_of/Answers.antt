@@ -13,12 +13,16 @@ loop-rest-preserved c = record {
       let def = def_term c.def-item.result in
       let next = c.in_ok-first.ensures.sum ∙ ap (λ n. now + n) (c.in_ok-what_nodes.ensures p e) in
       c.loop-rest.invariant.rest p e
-      ∙ ap (λ l. c.loop-rest.firsts.list ++ l) (firsts_front p now c.loop-rest.rest.now c.def-item.result c.in-len1-up.len_at_least c.def-item.is)
-      ∙ sym (append_assoc c.loop-rest.firsts.list (now ∷ []) (definition_firsts p (now + what_nodes p def.what) (map def_term (tail_of c.loop-rest.rest.now))))
-      ∙ ap (λ l. l ++ definition_firsts p (now + what_nodes p def.what) (map def_term (tail_of c.loop-rest.rest.now))) (sym c.in_ok-push.ensures.ok)
+      ∙ ap (λ l. c.loop-rest.firsts.list ++ l)
+      (firsts_front p now c.loop-rest.rest.now c.def-item.result c.in-len1-up.len_at_least c.def-item.is)
+      ∙ sym (append_assoc c.loop-rest.firsts.list (now ∷ [])
+      (definition_firsts p (now + what_nodes p def.what) (map def_term (tail_of c.loop-rest.rest.now))))
+      ∙ ap (λ l. l ++ definition_firsts p (now + what_nodes p def.what) (map def_term (tail_of c.loop-rest.rest.now)))
+      (sym c.in_ok-push.ensures.ok)
       ∙ ap (λ n. c.push.new.self.list ++ definition_firsts p n (map def_term (tail_of c.loop-rest.rest.now))) (sym next);
 }
 
 pub returns : goal.returns
-returns c = λ p e. sym (c.loop-rest.invariant.rest p e ∙ ap (λ l. c.loop-rest.firsts.list ++ l) (firsts_none p c.loop-rest.first c.loop-rest.rest.now c.in_default.len_below)
+returns c = λ p e. sym (c.loop-rest.invariant.rest p e
+    ∙ ap (λ l. c.loop-rest.firsts.list ++ l) (firsts_none p c.loop-rest.first c.loop-rest.rest.now c.in_default.len_below)
     ∙ append-nil c.loop-rest.firsts.list)

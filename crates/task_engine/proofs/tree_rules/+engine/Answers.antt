@@ -69,32 +69,56 @@ fails_form-returns-in-Fail-clause-ran t c =
     rw c.in-Fail.is (ran_give refl)
 
 pub fails_form-fails_at-requires : goal.fails_form-fails_at-requires
-fails_form-fails_at-requires t c =
-    (search rules, (c.requires.accepted, rw c.deref.ensures (well_ask (well_fails _ c.requires.accepted (may_fail (ap tree_term c.in-Then.is) c.requires.may)))))
+fails_form-fails_at-requires t c = (
+  search rules,
+  (
+    c.requires.accepted,
+    rw c.deref.ensures
+        (well_ask (well_fails _ c.requires.accepted (may_fail (ap tree_term c.in-Then.is) c.requires.may))),
+  ),
+)
 
 pub fails_form-returns-in-Then-clause-ran : goal.fails_form-returns-in-Then-clause-ran
 fails_form-returns-in-Then-clause-ran t c =
     rw (c.in-Then.is, ← c.deref.ensures) (ran_last _ c.fails_at.ensures.asked)
 
 pub fails_form-fails_at-requires-in-Next : goal.fails_form-fails_at-requires-in-Next
-fails_form-fails_at-requires-in-Next t c =
-    (search rules, (c.requires.accepted, rw c.deref-in-Next.ensures (well_ask (well_fails _ c.requires.accepted (may_fail (ap tree_term c.in-Next.is) c.requires.may)))))
+fails_form-fails_at-requires-in-Next t c = (
+  search rules,
+  (
+    c.requires.accepted,
+    rw c.deref-in-Next.ensures
+        (well_ask (well_fails _ c.requires.accepted (may_fail (ap tree_term c.in-Next.is) c.requires.may))),
+  ),
+)
 
 pub fails_form-returns-in-Next-clause-ran : goal.fails_form-returns-in-Next-clause-ran
 fails_form-returns-in-Next-clause-ran t c =
     rw (c.in-Next.is, ← c.deref-in-Next.ensures) (ran_last _ c.fails_at-in-Next.ensures.asked)
 
 pub fails_form-both_fail-requires : goal.fails_form-both_fail-requires
-fails_form-both_fail-requires t c =
-    (search rules, (c.requires.accepted, rw (c.deref-in-And.ensures, c.deref-in-And-2.ensures) (well_fails _ c.requires.accepted (may_fail (ap tree_term c.in-And.is) c.requires.may))))
+fails_form-both_fail-requires t c = (
+  search rules,
+  (
+    c.requires.accepted,
+    rw (c.deref-in-And.ensures, c.deref-in-And-2.ensures)
+        (well_fails _ c.requires.accepted (may_fail (ap tree_term c.in-And.is) c.requires.may)),
+  ),
+)
 
 pub fails_form-returns-in-And-clause-ran : goal.fails_form-returns-in-And-clause-ran
 fails_form-returns-in-And-clause-ran t c =
     rw (c.in-And.is, ← c.deref-in-And.ensures, ← c.deref-in-And-2.ensures) c.both_fail.ensures.ran
 
 pub fails_form-both_fail-requires-in-Or : goal.fails_form-both_fail-requires-in-Or
-fails_form-both_fail-requires-in-Or t c =
-    (search rules, (c.requires.accepted, rw (c.deref-in-Or.ensures, c.deref-in-Or-2.ensures) (well_fails _ c.requires.accepted (may_fail (ap tree_term c.in-Or.is) c.requires.may))))
+fails_form-both_fail-requires-in-Or t c = (
+  search rules,
+  (
+    c.requires.accepted,
+    rw (c.deref-in-Or.ensures, c.deref-in-Or-2.ensures)
+        (well_fails _ c.requires.accepted (may_fail (ap tree_term c.in-Or.is) c.requires.may)),
+  ),
+)
 
 pub fails_form-returns-in-Or-clause-ran : goal.fails_form-returns-in-Or-clause-ran
 fails_form-returns-in-Or-clause-ran t c =
@@ -115,8 +139,14 @@ both_fail-fails_at-requires t c =
     (search rules, (c.requires.accepted, well_ask c.requires.well))
 
 pub both_fail-fails_at-requires-then-first : goal.both_fail-fails_at-requires-then-first
-both_fail-fails_at-requires-then-first t c =
-    (search rules, (c.requires.accepted, rw c.in_ok-first.ensures.store (well_ask (rw c.if-first.true at (well_next c.requires.accepted c.requires.well c.in_ok-first.ensures.asked)))))
+both_fail-fails_at-requires-then-first t c = (
+  search rules,
+  (
+    c.requires.accepted,
+    rw c.in_ok-first.ensures.store
+        (well_ask (rw c.if-first.true at (well_next c.requires.accepted c.requires.well c.in_ok-first.ensures.asked))),
+  ),
+)
 
 pub both_fail-returns-then-first-clause-ran : goal.both_fail-returns-then-first-clause-ran
 both_fail-returns-then-first-clause-ran t c =
@@ -132,8 +162,17 @@ sides_fail-side_fails-requires t c =
     (search rules, (c.requires.accepted, (well_first _ _ c.requires.well, c.requires.first)))
 
 pub sides_fail-side_fails-requires-then-first : goal.sides_fail-side_fails-requires-then-first
-sides_fail-side_fails-requires-then-first t c =
-    (search rules, (c.requires.accepted, (rw c.in_ok-first.ensures.store (rw c.if-first.true at (well_after _ _ c.requires.accepted c.requires.well c.in_ok-first.ensures.ran)), c.requires.second)))
+sides_fail-side_fails-requires-then-first t c = (
+  search rules,
+  (
+    c.requires.accepted,
+    (
+      rw c.in_ok-first.ensures.store
+          (rw c.if-first.true at (well_after _ _ c.requires.accepted c.requires.well c.in_ok-first.ensures.ran)),
+      c.requires.second,
+    ),
+  ),
+)
 
 pub sides_fail-returns-in_err-first-clause-ran : goal.sides_fail-returns-in_err-first-clause-ran
 sides_fail-returns-in_err-first-clause-ran t c =
@@ -160,15 +199,21 @@ side_fails-body_first-requires t c =
 pub side_fails-tested-requires : goal.side_fails-tested-requires
 side_fails-tested-requires t c =
     let slots = ap (map slot_term) (c.as_slice.ensures ∙ ap (λ (r : Rowed Slot). r.list) c.deref.ensures) in
-    let env = side_env (checked_term c.args.engine.now) c.args.k.now.body (body_term c.body-own.result.now) _ (delay_term c.args.k.now).slots _ _ c.of_scope-names.ensures (c.requires.unbound _ c.body-own.ensures) slots c.body_first.ensures in
-    let f : BodyTerm → Plan Bool = λ b. ask (normal b.task (opened_env (checked_term c.args.engine.now) c.args.k.now.body b (delay_term c.args.k.now).slots) (map value_term c.args.store.now.list)) (λ s. ask (fails s) give) in
+    let env = side_env (checked_term c.args.engine.now) c.args.k.now.body (body_term c.body-own.result.now) _
+    (delay_term c.args.k.now).slots _ _ c.of_scope-names.ensures (c.requires.unbound _ c.body-own.ensures) slots c.body_first.ensures in
+    let f : BodyTerm → Plan Bool = λ b. ask (normal b.task
+    (opened_env (checked_term c.args.engine.now) c.args.k.now.body b (delay_term c.args.k.now).slots)
+    (map value_term c.args.store.now.list)) (λ s. ask (fails s) give) in
     (search rules, (c.requires.accepted, rw env (well_known _ f _ c.body-own.ensures c.requires.well)))
 
 pub side_fails-returns-clause-ran : goal.side_fails-returns-clause-ran
 side_fails-returns-clause-ran t c =
     let slots = ap (map slot_term) (c.as_slice.ensures ∙ ap (λ (r : Rowed Slot). r.list) c.deref.ensures) in
-    let env = side_env (checked_term c.args.engine.now) c.args.k.now.body (body_term c.body-own.result.now) _ (delay_term c.args.k.now).slots _ _ c.of_scope-names.ensures (c.requires.unbound _ c.body-own.ensures) slots c.body_first.ensures in
-    let f : BodyTerm → Plan Bool = λ b. ask (normal b.task (opened_env (checked_term c.args.engine.now) c.args.k.now.body b (delay_term c.args.k.now).slots) (map value_term c.args.store.now.list)) (λ s. ask (fails s) give) in
+    let env = side_env (checked_term c.args.engine.now) c.args.k.now.body (body_term c.body-own.result.now) _
+    (delay_term c.args.k.now).slots _ _ c.of_scope-names.ensures (c.requires.unbound _ c.body-own.ensures) slots c.body_first.ensures in
+    let f : BodyTerm → Plan Bool = λ b. ask (normal b.task
+    (opened_env (checked_term c.args.engine.now) c.args.k.now.body b (delay_term c.args.k.now).slots)
+    (map value_term c.args.store.now.list)) (λ s. ask (fails s) give) in
     ran_known_ok f c.body-own.ensures (rw env at c.tested.ensures.ran)
 
 pub tested-returns-in_err-begin-clause-store : goal.tested-returns-in_err-begin-clause-store
@@ -267,20 +312,25 @@ changing-returns-clause-layers t c =
 
 pub changing-returns-clause-asked : goal.changing-returns-clause-asked
 changing-returns-clause-asked t c =
-    asked_judged _ _ _ _ _ _ (c.judged.ensures.judged _ _ (c.stride_at-strode.ensures.layers ∙ c.in_ok-begin.ensures.ok)) c.judged.ensures.list
+    asked_judged _ _ _ _ _ _ (c.judged.ensures.judged _ _ (c.stride_at-strode.ensures.layers ∙ c.in_ok-begin.ensures.ok))
+    c.judged.ensures.list
     (rw c.in_ok-begin.ensures.list at c.stride_at-strode.ensures.asked)
 
 pub changing-returns-clause-height : goal.changing-returns-clause-height
 changing-returns-clause-height t c =
-    judged_keeps (c.stride_at-strode.new.purse.height ≡ c.args.purse.now.height) _ _ _ _ _ (c.judged.ensures.judged _ _ (c.stride_at-strode.ensures.layers ∙ c.in_ok-begin.ensures.ok)) c.stride_at-strode.ensures.height
+    judged_keeps (c.stride_at-strode.new.purse.height ≡ c.args.purse.now.height) _ _ _ _ _
+    (c.judged.ensures.judged _ _ (c.stride_at-strode.ensures.layers ∙ c.in_ok-begin.ensures.ok)) c.stride_at-strode.ensures.height
 
 pub changing-returns-clause-none : goal.changing-returns-clause-none
 changing-returns-clause-none t c =
-    none_moved _ _ _ _ c.judged.ensures.list (judged_none _ _ _ _ _ (c.judged.ensures.judged _ _ (c.stride_at-strode.ensures.layers ∙ c.in_ok-begin.ensures.ok)) (rw c.in_ok-begin.ensures.list at c.stride_at-strode.ensures.kept))
+    none_moved _ _ _ _ c.judged.ensures.list (judged_none _ _ _ _ _
+    (c.judged.ensures.judged _ _ (c.stride_at-strode.ensures.layers ∙ c.in_ok-begin.ensures.ok))
+    (rw c.in_ok-begin.ensures.list at c.stride_at-strode.ensures.kept))
 
 pub changing-returns-clause-other : goal.changing-returns-clause-other
 changing-returns-clause-other t c =
-    some_moved _ _ _ _ _ c.judged.ensures.list (judged_some _ _ _ _ _ (c.judged.ensures.judged _ _ (c.stride_at-strode.ensures.layers ∙ c.in_ok-begin.ensures.ok)))
+    some_moved _ _ _ _ _ c.judged.ensures.list
+    (judged_some _ _ _ _ _ (c.judged.ensures.judged _ _ (c.stride_at-strode.ensures.layers ∙ c.in_ok-begin.ensures.ok)))
 
 pub normal_at-normal_form-requires : goal.normal_at-normal_form-requires
 normal_at-normal_form-requires t c =
@@ -380,15 +430,21 @@ next_form-stride_at-requires t c =
 
 pub next_form-returns-clause-ran : goal.next_form-returns-clause-ran
 next_form-returns-clause-ran t c =
-    ran_ask _ c.in_ok-strode.ensures.asked (ran_strode _ (c.in_ok-next_of.ensures.tree _))
+    ran_ask _ c.in_ok-strode.ensures.asked (ran_strode _ (c.in_ok-step_of.ensures.tree _))
 
 pub and_form-stride_at-requires : goal.and_form-stride_at-requires
 and_form-stride_at-requires t c =
     (search rules, (c.requires.accepted, rw c.deref.ensures (well_ask (well_strides _ c.requires.accepted c.requires.may))))
 
 pub and_form-stride_at-requires-2 : goal.and_form-stride_at-requires-2
-and_form-stride_at-requires-2 t c =
-    (search rules, (c.requires.accepted, rw c.deref-2.ensures (well_ask (well_next c.requires.accepted (well_strides _ c.requires.accepted c.requires.may) (rw c.deref.ensures at c.in_ok-t.ensures.asked)))))
+and_form-stride_at-requires-2 t c = (
+  search rules,
+  (
+    c.requires.accepted,
+    rw c.deref-2.ensures (well_ask
+        (well_next c.requires.accepted (well_strides _ c.requires.accepted c.requires.may) (rw c.deref.ensures at c.in_ok-t.ensures.asked))),
+  ),
+)
 
 pub and_form-returns-in_err-u-clause-ran : goal.and_form-returns-in_err-u-clause-ran
 and_form-returns-in_err-u-clause-ran t c =
@@ -398,11 +454,11 @@ and_form-returns-in_err-u-clause-ran t c =
 pub and_form-returns-clause-ran : goal.and_form-returns-clause-ran
 and_form-returns-clause-ran t c =
     ran_ask _ (rw c.deref.ensures at c.in_ok-t.ensures.asked) (ran_ask _ (rw c.deref-2.ensures at c.in_ok-u.ensures.asked)
-    (ran_strode _ c.in_ok-and_of.ensures.tree))
+    (ran_strode _ c.in_ok-pair_of.ensures.tree))
 
 pub and_form-returns-clause-calm : goal.and_form-returns-clause-calm
 and_form-returns-clause-calm t c = λ e.
-    let none = c.in_ok-and_of.ensures.none e in (
+    let none = c.in_ok-pair_of.ensures.none e in (
       calm_on _ (c.in_ok-u.ensures.kept none.1) (rw c.deref.ensures at c.in_ok-t.ensures.calm none.0),
       rw c.deref-2.ensures at c.in_ok-u.ensures.calm none.1,
     )
@@ -429,20 +485,37 @@ or_form-returns-in_ok-or_of-clause-calm t c = λ e.
 
 pub or_form-returns-in_ok-strode_tree-clause-ran : goal.or_form-returns-in_ok-strode_tree-clause-ran
 or_form-returns-in_ok-strode_tree-clause-ran t c =
-    ran_ask _ (rw c.deref.ensures at c.in_ok-t.ensures.asked) (ran_is (with_some (value_of (after_stride (tree_term c.args.a.now.value) c.in_ok-t.t) (map value_term c.stride_at.new.store.list)) _ _ (sym (rw c.deref-2.ensures at c.strode_has_value.ensures) ∙ c.if-strode_has_value.true)) (ran_strode _ (rw c.deref-then-strode_has_value.ensures at c.in_ok-strode_tree.ensures)))
+    ran_ask _ (rw c.deref.ensures at c.in_ok-t.ensures.asked) (ran_is (with_some
+    (value_of (after_stride (tree_term c.args.a.now.value) c.in_ok-t.t) (map value_term c.stride_at.new.store.list)) _ _
+    (sym (rw c.deref-2.ensures at c.strode_has_value.ensures) ∙ c.if-strode_has_value.true))
+    (ran_strode _ (rw c.deref-then-strode_has_value.ensures at c.in_ok-strode_tree.ensures)))
 
 pub or_form-stride_at-requires-else-strode_has_value : goal.or_form-stride_at-requires-else-strode_has_value
-or_form-stride_at-requires-else-strode_has_value t c =
-    (search rules, (c.requires.accepted, rw c.deref-else-strode_has_value.ensures (well_ask (well_is (with_none (value_of (after_stride (tree_term c.args.a.now.value) c.in_ok-t.t) (map value_term c.stride_at.new.store.list)) _ _ (sym (rw c.deref-2.ensures at c.strode_has_value.ensures) ∙ c.if-strode_has_value.false)) (well_next c.requires.accepted (well_strides _ c.requires.accepted c.requires.may) (rw c.deref.ensures at c.in_ok-t.ensures.asked))))))
+or_form-stride_at-requires-else-strode_has_value t c = (
+  search rules,
+  (
+    c.requires.accepted,
+    rw c.deref-else-strode_has_value.ensures (well_ask (well_is (with_none
+        (value_of (after_stride (tree_term c.args.a.now.value) c.in_ok-t.t) (map value_term c.stride_at.new.store.list)) _ _
+        (sym (rw c.deref-2.ensures at c.strode_has_value.ensures) ∙ c.if-strode_has_value.false))
+        (well_next c.requires.accepted (well_strides _ c.requires.accepted c.requires.may) (rw c.deref.ensures at c.in_ok-t.ensures.asked)))),
+  ),
+)
 
 pub or_form-returns-in_err-u-clause-ran : goal.or_form-returns-in_err-u-clause-ran
 or_form-returns-in_err-u-clause-ran t c =
     rw (stopped _ c.in_err-u.field-0.0 c.from_residual-in_err-u.ensures.1)
-    (ran_ask _ (rw c.deref.ensures at c.in_ok-t.ensures.asked) (ran_is (with_none (value_of (after_stride (tree_term c.args.a.now.value) c.in_ok-t.t) (map value_term c.stride_at.new.store.list)) _ _ (sym (rw c.deref-2.ensures at c.strode_has_value.ensures) ∙ c.if-strode_has_value.false)) (ran_ask_stops _ (rw c.deref-else-strode_has_value.ensures at c.in_err-u.ensures.asked))))
+    (ran_ask _ (rw c.deref.ensures at c.in_ok-t.ensures.asked) (ran_is (with_none
+    (value_of (after_stride (tree_term c.args.a.now.value) c.in_ok-t.t) (map value_term c.stride_at.new.store.list)) _ _
+    (sym (rw c.deref-2.ensures at c.strode_has_value.ensures) ∙ c.if-strode_has_value.false))
+    (ran_ask_stops _ (rw c.deref-else-strode_has_value.ensures at c.in_err-u.ensures.asked))))
 
 pub or_form-returns-in_ok-or_of-clause-ran : goal.or_form-returns-in_ok-or_of-clause-ran
 or_form-returns-in_ok-or_of-clause-ran t c =
-    ran_ask _ (rw c.deref.ensures at c.in_ok-t.ensures.asked) (ran_is (with_none (value_of (after_stride (tree_term c.args.a.now.value) c.in_ok-t.t) (map value_term c.stride_at.new.store.list)) _ _ (sym (rw c.deref-2.ensures at c.strode_has_value.ensures) ∙ c.if-strode_has_value.false)) (ran_ask _ (rw c.deref-else-strode_has_value.ensures at c.in_ok-u.ensures.asked)
+    ran_ask _ (rw c.deref.ensures at c.in_ok-t.ensures.asked) (ran_is (with_none
+    (value_of (after_stride (tree_term c.args.a.now.value) c.in_ok-t.t) (map value_term c.stride_at.new.store.list)) _ _
+    (sym (rw c.deref-2.ensures at c.strode_has_value.ensures) ∙ c.if-strode_has_value.false))
+    (ran_ask _ (rw c.deref-else-strode_has_value.ensures at c.in_ok-u.ensures.asked)
     (ran_strode _ c.in_ok-or_of.ensures.tree)))
 
 pub then_form-stride_at-requires : goal.then_form-stride_at-requires
@@ -450,8 +523,17 @@ then_form-stride_at-requires t c =
     (search rules, (c.requires.accepted, well_ask (well_strides _ c.requires.accepted c.requires.may)))
 
 pub then_form-fired-requires : goal.then_form-fired-requires
-then_form-fired-requires t c =
-    (search rules, (c.requires.accepted, (well_next c.requires.accepted (well_strides _ c.requires.accepted c.requires.may) c.in_ok-strode.ensures.asked, (then_binds _ _ c.requires.accepted c.requires.may, c.in_ok-strode.ensures.calm))))
+then_form-fired-requires t c = (
+  search rules,
+  (
+    c.requires.accepted,
+    (
+      well_next c.requires.accepted (well_strides _ c.requires.accepted c.requires.may)
+          c.in_ok-strode.ensures.asked,
+      (then_binds _ _ c.requires.accepted c.requires.may, c.in_ok-strode.ensures.calm),
+    ),
+  ),
+)
 
 pub then_form-returns-clause-ran : goal.then_form-returns-clause-ran
 then_form-returns-clause-ran t c =
@@ -460,39 +542,60 @@ then_form-returns-clause-ran t c =
 -- ---- a trial
 pub fired-returns-then-not-strode_has_value-clause-ran : goal.fired-returns-then-not-strode_has_value-clause-ran
 fired-returns-then-not-strode_has_value-clause-ran t c =
-    let fire : Option ValueTerm → Plan State = λ o. fired (checked_term c.args.engine.now) o (cont_term c.args.k.now) (at (after_stride (tree_term c.args.left.now) c.args.strode) (map value_term c.args.store.now.list)) in
+    let fire : Option ValueTerm → Plan State = λ o. fired (checked_term c.args.engine.now) o (cont_term c.args.k.now)
+    (at (after_stride (tree_term c.args.left.now) c.args.strode) (map value_term c.args.store.now.list)) in
     let is = none_is _ (sym c.strode_has_value.ensures ∙ c.if-not-strode_has_value.true) in
-    ran_is (ap fire is) (ran_strode _ (c.in_ok-then_of.ensures.tree _))
+    ran_is (ap fire is) (ran_strode _ (c.in_ok-step_of.ensures.tree _))
 
 pub fired-fired_at-requires : goal.fired-fired_at-requires
 fired-fired_at-requires t c =
-    let fire : Option ValueTerm → Plan State = λ o. fired (checked_term c.args.engine.now) o (cont_term c.args.k.now) (at (after_stride (tree_term c.args.left.now) c.args.strode) (map value_term c.args.store.now.list)) in
+    let fire : Option ValueTerm → Plan State = λ o. fired (checked_term c.args.engine.now) o (cont_term c.args.k.now)
+    (at (after_stride (tree_term c.args.left.now) c.args.strode) (map value_term c.args.store.now.list)) in
     let is = rw c.in-Some.is at c.in_ok-value.ensures in
     (search rules, (c.requires.accepted, (well_is (ap fire (sym is)) c.requires.well, c.requires.bound)))
 
 pub fired-returns-clause-ran : goal.fired-returns-clause-ran
 fired-returns-clause-ran t c =
-    let fire : Option ValueTerm → Plan State = λ o. fired (checked_term c.args.engine.now) o (cont_term c.args.k.now) (at (after_stride (tree_term c.args.left.now) c.args.strode) (map value_term c.args.store.now.list)) in
+    let fire : Option ValueTerm → Plan State = λ o. fired (checked_term c.args.engine.now) o (cont_term c.args.k.now)
+    (at (after_stride (tree_term c.args.left.now) c.args.strode) (map value_term c.args.store.now.list)) in
     let is = rw c.in-Some.is at c.in_ok-value.ensures in
     ran_is (ap fire (sym is)) c.fired_at.ensures.ran
 
 pub fired_at-tried-requires : goal.fired_at-tried-requires
-fired_at-tried-requires t c =
-    (search rules, (c.requires.accepted, (well_first _ _ (well_is (fired_is (checked_term c.args.engine.now) (cont_term c.args.k.now) (value_term c.args.v) (at (after_stride (tree_term c.args.left.now) c.args.strode) (map value_term c.args.store.now.list))) c.requires.well), c.requires.bound)))
+fired_at-tried-requires t c = (
+  search rules,
+  (
+    c.requires.accepted,
+    (
+      well_first _ _ (well_is (fired_is (checked_term c.args.engine.now) (cont_term c.args.k.now)
+          (value_term c.args.v) (at (after_stride (tree_term c.args.left.now) c.args.strode) (map value_term c.args.store.now.list)))
+          c.requires.well),
+      c.requires.bound,
+    ),
+  ),
+)
 
 pub fired_at-returns-in_err-tried-clause-ran : goal.fired_at-returns-in_err-tried-clause-ran
 fired_at-returns-in_err-tried-clause-ran t c =
     rw (stopped _ c.in_err-tried.field-0.0 c.from_residual.ensures.1)
-    (ran_is (fired_is (checked_term c.args.engine.now) (cont_term c.args.k.now) (value_term c.args.v) (at (after_stride (tree_term c.args.left.now) c.args.strode) (map value_term c.args.store.now.list))) (ran_after_stops _ c.in_err-tried.ensures.ran))
+    (ran_is (fired_is (checked_term c.args.engine.now) (cont_term c.args.k.now) (value_term c.args.v)
+    (at (after_stride (tree_term c.args.left.now) c.args.strode) (map value_term c.args.store.now.list)))
+    (ran_after_stops _ c.in_err-tried.ensures.ran))
 
 pub fired_at-returns-in-Some-clause-ran : goal.fired_at-returns-in-Some-clause-ran
 fired_at-returns-in-Some-clause-ran t c =
-    ran_is (fired_is (checked_term c.args.engine.now) (cont_term c.args.k.now) (value_term c.args.v) (at (after_stride (tree_term c.args.left.now) c.args.strode) (map value_term c.args.store.now.list))) (ran_after _ (rw c.in-Some.is at c.in_ok-tried.ensures.ran) (ran_give refl))
+    ran_is (fired_is (checked_term c.args.engine.now) (cont_term c.args.k.now) (value_term c.args.v)
+    (at (after_stride (tree_term c.args.left.now) c.args.strode) (map value_term c.args.store.now.list)))
+    (ran_after _ (rw c.in-Some.is at c.in_ok-tried.ensures.ran) (ran_give refl))
 
-pub fired_at-returns-in_ok-then_of-in-None-clause-ran : goal.fired_at-returns-in_ok-then_of-in-None-clause-ran
-fired_at-returns-in_ok-then_of-in-None-clause-ran t c =
-    ran_is (fired_is (checked_term c.args.engine.now) (cont_term c.args.k.now) (value_term c.args.v) (at (after_stride (tree_term c.args.left.now) c.args.strode) (map value_term c.args.store.now.list))) (ran_after _ (rw c.in-None.is at c.in_ok-tried.ensures.ran)
-    (ran_give (ap (λ z. at z (map value_term c.tried.new.store.list)) (c.in_ok-then_of-in-None.ensures.tree _) ∙ ap (λ (l : List value.Value). at (then_tree (after_stride (tree_term c.args.left.now) c.args.strode) (cont_term c.args.k.now)) (map value_term l)) (c.in_ok-tried.ensures.dropped c.in-None.is))))
+pub fired_at-returns-in_ok-step_of-in-None-clause-ran : goal.fired_at-returns-in_ok-step_of-in-None-clause-ran
+fired_at-returns-in_ok-step_of-in-None-clause-ran t c =
+    ran_is (fired_is (checked_term c.args.engine.now) (cont_term c.args.k.now) (value_term c.args.v)
+    (at (after_stride (tree_term c.args.left.now) c.args.strode) (map value_term c.args.store.now.list)))
+    (ran_after _ (rw c.in-None.is at c.in_ok-tried.ensures.ran)
+    (ran_give (ap (λ z. at z (map value_term c.tried.new.store.list)) (c.in_ok-step_of-in-None.ensures.tree _) ∙ ap
+    (λ (l : List value.Value). at (then_tree (after_stride (tree_term c.args.left.now) c.args.strode) (cont_term c.args.k.now))
+    (map value_term l)) (c.in_ok-tried.ensures.dropped c.in-None.is))))
 
 pub tried-attempted-attempted-requires : goal.tried-attempted-attempted-requires
 tried-attempted-attempted-requires t c =
@@ -516,26 +619,47 @@ tried-returns-clause-ran t c =
 
 pub attempted-apply_at-requires : goal.attempted-apply_at-requires
 attempted-apply_at-requires t c =
-    record { accepted = c.requires.accepted; well = well_first _ _ (well_is (attempt_is (checked_term c.args.engine.now) (cont_term c.args.k.now) (value_term c.args.v) (map value_term c.args.store.now.list)) c.requires.well); bound = c.requires.bound }
+    record {
+      accepted = c.requires.accepted;
+      well = well_first _ _ (well_is (attempt_is (checked_term c.args.engine.now) (cont_term c.args.k.now) (value_term c.args.v)
+          (map value_term c.args.store.now.list)) c.requires.well);
+      bound = c.requires.bound;
+    }
 
 pub attempted-fails_at-requires : goal.attempted-fails_at-requires
-attempted-fails_at-requires t c =
-    (search rules, (c.requires.accepted, well_ask (well_after _ _ c.requires.accepted (well_is (attempt_is (checked_term c.args.engine.now) (cont_term c.args.k.now) (value_term c.args.v) (map value_term c.args.store.now.list)) c.requires.well) c.in_ok-t.ensures.ran)))
+attempted-fails_at-requires t c = (
+  search rules,
+  (
+    c.requires.accepted,
+    well_ask (well_after _ _ c.requires.accepted (well_is
+        (attempt_is (checked_term c.args.engine.now) (cont_term c.args.k.now) (value_term c.args.v) (map value_term c.args.store.now.list))
+        c.requires.well) c.in_ok-t.ensures.ran),
+  ),
+)
 
 pub attempted-returns-in_err-t-clause-ran : goal.attempted-returns-in_err-t-clause-ran
 attempted-returns-in_err-t-clause-ran t c =
-    rw (stopped _ c.in_err-t.field-0.0 c.from_residual.ensures.1) (ran_is (attempt_is (checked_term c.args.engine.now) (cont_term c.args.k.now) (value_term c.args.v) (map value_term c.args.store.now.list)) (ran_after_stops _ c.in_err-t.ensures.ran))
+    rw (stopped _ c.in_err-t.field-0.0 c.from_residual.ensures.1) (ran_is
+    (attempt_is (checked_term c.args.engine.now) (cont_term c.args.k.now) (value_term c.args.v) (map value_term c.args.store.now.list))
+    (ran_after_stops _ c.in_err-t.ensures.ran))
 
 pub attempted-returns-in_err-failing-clause-ran : goal.attempted-returns-in_err-failing-clause-ran
 attempted-returns-in_err-failing-clause-ran t c =
     rw (stopped _ c.in_err-failing.field-0.0 c.from_residual-in_err-failing.ensures.1)
-    (ran_is (attempt_is (checked_term c.args.engine.now) (cont_term c.args.k.now) (value_term c.args.v) (map value_term c.args.store.now.list)) (ran_after _ c.in_ok-t.ensures.ran (ran_ask_stops _ c.in_err-failing.ensures.asked)))
+    (ran_is
+    (attempt_is (checked_term c.args.engine.now) (cont_term c.args.k.now) (value_term c.args.v) (map value_term c.args.store.now.list))
+    (ran_after _ c.in_ok-t.ensures.ran (ran_ask_stops _ c.in_err-failing.ensures.asked)))
 
 pub attempted-returns-then-failing-clause-ran : goal.attempted-returns-then-failing-clause-ran
 attempted-returns-then-failing-clause-ran t c =
-    ran_is (attempt_is (checked_term c.args.engine.now) (cont_term c.args.k.now) (value_term c.args.v) (map value_term c.args.store.now.list)) (ran_after _ c.in_ok-t.ensures.ran (ran_ask _ c.in_ok-failing.ensures.asked (rw c.if-failing.true (ran_give refl))))
+    ran_is
+    (attempt_is (checked_term c.args.engine.now) (cont_term c.args.k.now) (value_term c.args.v) (map value_term c.args.store.now.list))
+    (ran_after _ c.in_ok-t.ensures.ran (ran_ask _ c.in_ok-failing.ensures.asked (rw c.if-failing.true (ran_give refl))))
 
 pub attempted-returns-else-failing-clause-ran : goal.attempted-returns-else-failing-clause-ran
 attempted-returns-else-failing-clause-ran t c =
     let same = ap (λ (s : Layered value.Value). s.list) c.in_ok-failing.ensures.store in
-    ran_is (attempt_is (checked_term c.args.engine.now) (cont_term c.args.k.now) (value_term c.args.v) (map value_term c.args.store.now.list)) (ran_after _ c.in_ok-t.ensures.ran (ran_ask _ c.in_ok-failing.ensures.asked (rw c.if-failing.false (ran_give (ap (λ (l : List value.Value). Some (at (tree_term c.in_ok-t.t) (map value_term l))) same)))))
+    ran_is
+    (attempt_is (checked_term c.args.engine.now) (cont_term c.args.k.now) (value_term c.args.v) (map value_term c.args.store.now.list))
+    (ran_after _ c.in_ok-t.ensures.ran (ran_ask _ c.in_ok-failing.ensures.asked
+    (rw c.if-failing.false (ran_give (ap (λ (l : List value.Value). Some (at (tree_term c.in_ok-t.t) (map value_term l))) same)))))

@@ -30,13 +30,17 @@ binder_of-requires c =
 pub evaluate_at-requires-clause-may : goal.evaluate_at-requires-clause-may
 evaluate_at-requires-clause-may c =
     let slots = ap (map slot_term) (c.as_slice.ensures ∙ ap (λ (r : Rowed Slot). r.list) c.deref.ensures) in
-    let env = step_env (checked_term c.args.engine.now) c.args.k.now.body (body_term c.body-own.result.now) _ _ (cont_term c.args.k.now).slots _ _ _ _ c.with-names.ensures c.of_scope-outer.ensures c.binder_of.ensures slots c.body_first.ensures in
-    let f : BodyTerm → Plan State = λ b. ask (evaluates b.task (opened_env (checked_term c.args.engine.now) c.args.k.now.body b ((cont_term c.args.k.now).slots ++ plain_slot (value_term c.args.v) ∷ [])) (map value_term c.args.store.now.list)) give in
+    let env = step_env (checked_term c.args.engine.now) c.args.k.now.body (body_term c.body-own.result.now) _ _
+    (cont_term c.args.k.now).slots _ _ _ _ c.with-names.ensures c.of_scope-outer.ensures c.binder_of.ensures slots c.body_first.ensures in
+    let f : BodyTerm → Plan State = λ b. ask (evaluates b.task (opened_env (checked_term c.args.engine.now) c.args.k.now.body b
+    ((cont_term c.args.k.now).slots ++ plain_slot (value_term c.args.v) ∷ [])) (map value_term c.args.store.now.list)) give in
     rw env (well_ask (well_known _ f _ c.body-own.ensures c.requires.well))
 
 pub returns-clause-ran : goal.returns-clause-ran
 returns-clause-ran c =
     let slots = ap (map slot_term) (c.as_slice.ensures ∙ ap (λ (r : Rowed Slot). r.list) c.deref.ensures) in
-    let env = step_env (checked_term c.args.engine.now) c.args.k.now.body (body_term c.body-own.result.now) _ _ (cont_term c.args.k.now).slots _ _ _ _ c.with-names.ensures c.of_scope-outer.ensures c.binder_of.ensures slots c.body_first.ensures in
-    let f : BodyTerm → Plan State = λ b. ask (evaluates b.task (opened_env (checked_term c.args.engine.now) c.args.k.now.body b ((cont_term c.args.k.now).slots ++ plain_slot (value_term c.args.v) ∷ [])) (map value_term c.args.store.now.list)) give in
+    let env = step_env (checked_term c.args.engine.now) c.args.k.now.body (body_term c.body-own.result.now) _ _
+    (cont_term c.args.k.now).slots _ _ _ _ c.with-names.ensures c.of_scope-outer.ensures c.binder_of.ensures slots c.body_first.ensures in
+    let f : BodyTerm → Plan State = λ b. ask (evaluates b.task (opened_env (checked_term c.args.engine.now) c.args.k.now.body b
+    ((cont_term c.args.k.now).slots ++ plain_slot (value_term c.args.v) ∷ [])) (map value_term c.args.store.now.list)) give in
     ran_known_ok f c.body-own.ensures (ran_last _ (rw env at c.evaluate_at.ensures.asked))

@@ -29,13 +29,19 @@ binder_of-requires c =
 pub tested-requires-clause-well : goal.tested-requires-clause-well
 tested-requires-clause-well c =
     let slots = ap (map slot_term) (c.as_slice.ensures ∙ ap (λ (r : Rowed Slot). r.list) c.deref.ensures) in
-    let env = step_env (checked_term c.args.engine.now) c.args.k.now.body (body_term c.body-own.result.now) _ _ (cont_term c.args.k.now).slots _ _ _ _ c.with-names.ensures c.of_scope-outer.ensures c.binder_of.ensures slots c.body_first.ensures in
-    let f : BodyTerm → Plan Bool = λ b. ask (normal b.task (opened_env (checked_term c.args.engine.now) c.args.k.now.body b ((cont_term c.args.k.now).slots ++ plain_slot (value_term c.args.v) ∷ [])) (map value_term c.args.store.now.list)) (λ s. ask (fails s) give) in
+    let env = step_env (checked_term c.args.engine.now) c.args.k.now.body (body_term c.body-own.result.now) _ _
+    (cont_term c.args.k.now).slots _ _ _ _ c.with-names.ensures c.of_scope-outer.ensures c.binder_of.ensures slots c.body_first.ensures in
+    let f : BodyTerm → Plan Bool = λ b. ask (normal b.task (opened_env (checked_term c.args.engine.now) c.args.k.now.body b
+    ((cont_term c.args.k.now).slots ++ plain_slot (value_term c.args.v) ∷ [])) (map value_term c.args.store.now.list))
+    (λ s. ask (fails s) give) in
     rw env (well_known _ f _ c.body-own.ensures c.requires.well)
 
 pub returns-clause-ran : goal.returns-clause-ran
 returns-clause-ran c =
     let slots = ap (map slot_term) (c.as_slice.ensures ∙ ap (λ (r : Rowed Slot). r.list) c.deref.ensures) in
-    let env = step_env (checked_term c.args.engine.now) c.args.k.now.body (body_term c.body-own.result.now) _ _ (cont_term c.args.k.now).slots _ _ _ _ c.with-names.ensures c.of_scope-outer.ensures c.binder_of.ensures slots c.body_first.ensures in
-    let f : BodyTerm → Plan Bool = λ b. ask (normal b.task (opened_env (checked_term c.args.engine.now) c.args.k.now.body b ((cont_term c.args.k.now).slots ++ plain_slot (value_term c.args.v) ∷ [])) (map value_term c.args.store.now.list)) (λ s. ask (fails s) give) in
+    let env = step_env (checked_term c.args.engine.now) c.args.k.now.body (body_term c.body-own.result.now) _ _
+    (cont_term c.args.k.now).slots _ _ _ _ c.with-names.ensures c.of_scope-outer.ensures c.binder_of.ensures slots c.body_first.ensures in
+    let f : BodyTerm → Plan Bool = λ b. ask (normal b.task (opened_env (checked_term c.args.engine.now) c.args.k.now.body b
+    ((cont_term c.args.k.now).slots ++ plain_slot (value_term c.args.v) ∷ [])) (map value_term c.args.store.now.list))
+    (λ s. ask (fails s) give) in
     ran_known_ok f c.body-own.ensures (rw env at c.tested.ensures.ran)

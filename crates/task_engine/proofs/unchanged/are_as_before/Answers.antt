@@ -3,7 +3,10 @@ use Rattle.task_engine.proofs.ChangeLemmas.{Remains, start_up, start_down, walk_
 use Rattle.task_engine.proofs.unchanged.are_as_before.Goals as goal
 
 pub loop-i-init : goal.loop-i-init
-loop-i-init c = record { up = start_up c.args.overwritten.now c.args.values.now; down = start_down c.args.overwritten.now c.args.values.now }
+loop-i-init c = record {
+  up = start_up c.args.overwritten.now c.args.values.now;
+  down = start_down c.args.overwritten.now c.args.values.now;
+}
 
 pub returns-then-not-is_right : goal.returns-then-not-is_right
 returns-then-not-is_right c =
@@ -21,9 +24,11 @@ loop-i-preserved c =
     let i = c.loop-i.i in
     let w = c.index-overwritten-i.result in
     record {
-      up = λ e. c.loop-i.invariant.up (walk_up ws xs i w c.loop-i-test.true c.index-overwritten-i.is (c.is_right.ensures.0 c.if-not-is_right.false)
+      up = λ e. c.loop-i.invariant.up (walk_up ws xs i w c.loop-i-test.true c.index-overwritten-i.is
+          (c.is_right.ensures.0 c.if-not-is_right.false)
           (subst (Remains ws xs) (add-one i) e));
-      down = λ e. subst (Remains ws xs) (sym (add-one i)) (walk_down ws xs i w c.loop-i-test.true c.index-overwritten-i.is (c.loop-i.invariant.down e));
+      down = λ e. subst (Remains ws xs) (sym (add-one i))
+          (walk_down ws xs i w c.loop-i-test.true c.index-overwritten-i.is (c.loop-i.invariant.down e));
     }
 
 pub returns : goal.returns

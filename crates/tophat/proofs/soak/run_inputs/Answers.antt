@@ -28,8 +28,10 @@ loop-left-preserved g c =
       c.in_ok-give.ensures.rest,
       λ u r s.
           c.loop-left.invariant.2 u r
-          (soaks_step c.loop-left.left c.loop-left.state c.in_ok-next.next (world_term c.loop-left.world) (world_term c.give.new.world) u old
-          new r (entry_term c.in_ok-next.entry) some c.in_ok-next.ensures.state (c.in_ok-next.ensures.entry ∙ ap soak_entry_of (sym c.in_ok-next.ensures.state)) given s),
+          (soaks_step c.loop-left.left c.loop-left.state c.in_ok-next.next (world_term c.loop-left.world) (world_term c.give.new.world) u
+          old
+          new r (entry_term c.in_ok-next.entry) some c.in_ok-next.ensures.state
+          (c.in_ok-next.ensures.entry ∙ ap soak_entry_of (sym c.in_ok-next.ensures.state)) given s),
     )
 
 pub returns-clause-inputs : goal.returns-clause-inputs

@@ -13,4 +13,5 @@ returns-in-Ok-clause-text g c =
 pub returns-clause-text : goal.returns-clause-text
 returns-clause-text g c =
     let source = c.as_bytes.ensures.value ∙ c.as_str.ensures ∙ c.in_ok-source.ensures in
-    soak_tells_none c.args.count c.args.seed c.in-Err.why (subst (λ (z : Text). OpensBytes 10000 z (Err c.in-Err.why)) source c.in-Err.ensures.opened)
+    soak_tells_none c.args.count c.args.seed c.in-Err.why (subst (λ (z : Text). OpensBytes 10000 z (Err c.in-Err.why)) source
+    c.in-Err.ensures.opened)

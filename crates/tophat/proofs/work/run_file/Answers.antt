@@ -28,7 +28,8 @@ returns-in-Ok-clause-worked g c =
     let holds = g.F.Files.holds c.args.files.now c.args.name.now in
     let command = Some (run c.args.name.now c.args.budget) in
     let opened = subst (λ (z : Text). OpensBytes c.args.budget z (Err why)) c.as_slice.ensures c.in-Err-run_bytes.ensures.ran in
-    let verdict_is = subst (λ (z : Text). HasVerdictAfter {A = Finish} (Err why) z) c.as_slice.ensures c.in-Err-run_bytes.ensures.verdict_is in
+    let verdict_is = subst (λ (z : Text). HasVerdictAfter {A = Finish} (Err why) z) c.as_slice.ensures c.in-Err-run_bytes.ensures.verdict_is
+    in
     let still = worked_unopened limits c.args.name.now c.args.budget holds c.in-Ok.bytes c.in-Ok.ensures.file.0 c.in-Ok.ensures.file.1
     (left c.args.input.now) (taken c.args.out.now) why opened verdict_is in
     subst (λ input. Worked limits command holds (left c.args.input.now) (left input) (taken c.args.out.now) (taken c.run_bytes.new.out)

@@ -23,7 +23,8 @@ returns-in-Ok-clause-ok c =
 
 pub returns-in-Err-Over-clause-over : goal.returns-in-Err-Over-clause-over
 returns-in-Err-Over-clause-over c = λ _ s o.
-    opening_never (λ (u : Tree). at (tree_term u) (map value_term c.normalise.new.store.list)) (checked_term c.args.engine.now) c.args.budget
+    opening_never (λ (u : Tree). at (tree_term u) (map value_term c.normalise.new.store.list)) (checked_term c.args.engine.now)
+    c.args.budget
     (task_term c.args.call.now) (names_term c.of_params-names.result) (map value_term c.args.store.now.list) c.new.result
     c.normalise.new.purse c.requires.main c.of_params-names.ensures (ap (map value_term) c.requires.empty) c.new.ensures.units
     c.new.ensures.height c.in-Err-Over.field-0 c.in-Err-Over.field-0-is c.in-Err-Over.ensures.spends s o

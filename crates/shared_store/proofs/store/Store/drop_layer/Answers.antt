@@ -15,5 +15,6 @@ returns-in-Some g c =
     rw (c.truncate.ensures.items, c.rewind.ensures.values, c.rewind.ensures.log)
     (sym (ap (λ (z : Layered g.row.T.Denot). z.layers) c.self.view_is)
     ∙ ap (layers_of c.self.inside.values.items c.self.inside.log.items) c.in-Some.ensures.items
-    ∙ layers_dropped c.self.inside.values.items c.self.inside.log.items c.pop.new.self.items c.in-Some.mark (length c.self.inside.values.items) (length c.self.inside.log.items)
+    ∙ layers_dropped c.self.inside.values.items c.self.inside.log.items c.pop.new.self.items c.in-Some.mark
+    (length c.self.inside.values.items) (length c.self.inside.log.items)
     (subst (λ z. IsStack z (length c.self.inside.values.items) (length c.self.inside.log.items)) c.in-Some.ensures.items c.self.invariant))

@@ -12,6 +12,8 @@ invariant_of-self g c =
 
 pub returns-clause-layers : goal.returns-clause-layers
 returns-clause-layers g c =
-    layers_kept c.self.inside.values.items c.self.inside.log.items c.forget.new.log.items c.pop-layer.new.self.items (λ some. c.forget.ensures (rw c.as_slice.ensures.value some))
-    ∙ popped c.self.inside.values.items c.self.inside.log.items c.self.inside.marks.items c.pop-layer.new.self.items c.pop-layer.result c.pop-layer.ensures.items (search (rules, c.pop-layer.ensures.variant))
+    layers_kept c.self.inside.values.items c.self.inside.log.items c.forget.new.log.items c.pop-layer.new.self.items
+    (λ some. c.forget.ensures (rw c.as_slice.ensures.value some))
+    ∙ popped c.self.inside.values.items c.self.inside.log.items c.self.inside.marks.items c.pop-layer.new.self.items c.pop-layer.result
+    c.pop-layer.ensures.items (search (rules, c.pop-layer.ensures.variant))
     ∙ ap (λ (z : Layered g.row.T.Denot). drop 1 z.layers) c.self.view_is

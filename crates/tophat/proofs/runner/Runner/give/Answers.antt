@@ -24,7 +24,8 @@ returns-in-Err-NotOffered g c =
     let new = world_term c.handle.new.self in
     IfOk-weaker c.row_of.result _ (λ text. Answers w (gives e) text.list new)
     (λ text is. subst (λ (z : Text). Answers w (gives e) z new) (sym is)
-    (refused_answers w e new (subst (λ stop. Replies w e new (Err stop)) c.in-Err-NotOffered.field-0-is c.in-Err-NotOffered.ensures.replies)))
+    (refused_answers w e new (subst (λ stop. Replies w e new (Err stop)) c.in-Err-NotOffered.field-0-is
+    c.in-Err-NotOffered.ensures.replies)))
     c.row_of.ensures
 
 pub returns-in-Err-Over : goal.returns-in-Err-Over

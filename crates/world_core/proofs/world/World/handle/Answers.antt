@@ -22,11 +22,13 @@ returns-clause-replies g c =
 
 pub returns-in_err-prepare-clause-rest : goal.returns-in_err-prepare-clause-rest
 returns-in_err-prepare-clause-rest g c =
-    rest_kept c.args.self.now c.prepare.new.self (record { seat = c.args.seat; input = input_term c.args.input }) (Err c.in_err-prepare.field-0.0)
+    rest_kept c.args.self.now c.prepare.new.self (record { seat = c.args.seat; input = input_term c.args.input })
+    (Err c.in_err-prepare.field-0.0)
     (replies_refused (world_term c.args.self.now) (world_term c.prepare.new.self)
     (record { seat = c.args.seat; input = input_term c.args.input }) c.in_err-prepare.field-0.0 c.in_err-prepare.ensures) c.requires.rest
 
 pub returns-clause-rest : goal.returns-clause-rest
 returns-clause-rest g c =
     rest_kept c.args.self.now c.commit.new.self (record { seat = c.args.seat; input = input_term c.args.input }) (Ok c.commit.result)
-    (replies_taken (world_term c.args.self.now) (world_term c.prepare.new.self) _ _ _ c.in_ok-prepare.ensures c.commit.ensures) c.requires.rest
+    (replies_taken (world_term c.args.self.now) (world_term c.prepare.new.self) _ _ _ c.in_ok-prepare.ensures c.commit.ensures)
+    c.requires.rest

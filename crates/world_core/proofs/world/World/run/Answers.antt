@@ -6,7 +6,8 @@ use Rattle.world_core.proofs.world.World.run.Goals as goal
 pub returns-then-is_err : goal.returns-then-is_err
 returns-then-is_err g c =
     run_stops c.args.entries.now c.loop-entry.entry-index c.entry-item.result c.loop-entry-test.true c.entry-item.is
-    (world_term c.args.self.now) (world_term c.loop-entry.self) (world_term c.loop-entry.self) c.loop-entry.done.list c.reserve.new.self.list
+    (world_term c.args.self.now) (world_term c.loop-entry.self) (world_term c.loop-entry.self) c.loop-entry.done.list
+    c.reserve.new.self.list
     c.loop-entry.invariant.0 refl c.reserve.ensures.list
 
 pub returns-in-Err : goal.returns-in-Err

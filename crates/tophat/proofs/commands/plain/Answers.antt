@@ -2,10 +2,10 @@ use Rattle.std.proofs.Common.{◌≡◌, ◌∙◌, sym, subst, inl, inr}
 use Rattle.outer_io.specs.Sink.{Wrote}
 use Rattle.command_words.specs.Commands.{command_of}
 use Rattle.tophat.specs.Top.{limits}
-use Rattle.tophat.proofs.PromiseLemmas.{promised, usage_is, named_text}
+use Rattle.tophat.proofs.PromiseLemmas.{promised, usage_is, named_text, needs_no_more}
 use Rattle.tophat.proofs.CompleteLemmas.{went_complete}
 use Rattle.tophat.proofs.WorkLemmas.{heard, is_read_fault, is_write_fault, failed_by}
-use Rattle.tophat.proofs.top.tophat.Goals as goal
+use Rattle.tophat.proofs.commands.plain.Goals as goal
 
 pub returns-clause-went : goal.returns-clause-went
 returns-clause-went g c =
@@ -59,3 +59,6 @@ returns-clause-faults g c = failed_by c.work-ending.result _ _ _ _ c.status.ensu
 
 pub returns-clause-complete : goal.returns-clause-complete
 returns-clause-complete g c = went_complete _ _ _ _ _ _ _ _ _ _ _ _ _ _ _ (returns-clause-went g c)
+
+pub returns-clause-other : goal.returns-clause-other
+returns-clause-other g c = needs_no_more (command_of c.args.words.now)

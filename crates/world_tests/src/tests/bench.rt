@@ -1,0 +1,166 @@
+//! A world at rest.
+ghost use Rattle.std.specs.Prelude.{◌≡◌, IfSome, IsNone};
+ghost use Rattle.std.specs.List.{All};
+ghost use Rattle.task_model.specs.State.{IsSeat};
+
+use html_pages::Page;
+use input_lines::print_entry;
+use std::alloc::Global;
+use std::sync::ledger::Ledger;
+use task_model::{
+    ActStop, BUDGET_LIMIT, Entry, Face, Item, OutOfMemory, Row, Steps, TaskText, Tree, Value,
+    copy_input,
+};
+use test_texts::accepted;
+use world_core::{OpenStop, Reply, Taken, World};
+
+/// A world where nothing is prepared.
+#[derive(Drop)]
+pub(super) struct Bench {
+    world: World,
+    ghost rest: { IsNone world.next },
+}
+
+// What a refusal answers.
+fn refused(stop: ActStop) -> Result<Reply, OutOfMemory> {
+    match stop {
+        ActStop::NotOffered => Ok(Reply::NotOffered),
+        ActStop::Over => Ok(Reply::Over),
+        ActStop::Memory => Err(OutOfMemory),
+    }
+}
+
+// The line of the entry that an item took.
+fn item_text(alloc: Global, item: Option<&Item>) -> Result<TaskText, OutOfMemory> {
+    match item {
+        Some(Item::Took(entry)) => print_entry(alloc, entry),
+        _ => TaskText::of(alloc, "no entry"),
+    }
+}
+
+impl Bench {
+    /// Opens the program of a text. A budget that is none is over.
+    pub(super) fn open<L: Ledger>(
+        alloc: Global,
+        source: &str,
+        budget: u32,
+        steps: &mut Steps<L>,
+    ) -> Result<Bench, OpenStop> {
+        if budget < 1 || budget > BUDGET_LIMIT {
+            return Err(OpenStop::Over);
+        }
+        let world = World::open(alloc, accepted(alloc, source)?, budget, steps)?;
+        Ok(Bench { world })
+    }
+
+    /// The same where it is opened for sure. Over is as want of memory.
+    pub(super) fn opened<L: Ledger>(
+        alloc: Global,
+        source: &str,
+        budget: u32,
+        steps: &mut Steps<L>,
+    ) -> Result<Bench, OutOfMemory> {
+        match Bench::open(alloc, source, budget, steps) {
+            Ok(bench) => Ok(bench),
+            Err(_) => Err(OutOfMemory),
+        }
+    }
+
+    /// Gives an entry to the world in one part.
+    pub(super) fn handle<L: Ledger>(
+        &mut self,
+        alloc: Global,
+        entry: &Entry,
+        steps: &mut Steps<L>,
+    ) -> Result<Reply, OutOfMemory>
+        requires { IsSeat entry.now.seat }
+    {
+        let input = copy_input(alloc, &entry.input)?;
+        match self.world.handle(alloc, entry.seat, input, steps) {
+            Ok(Taken { version }) => Ok(Reply::Taken(version)),
+            Err(stop) => refused(stop),
+        }
+    }
+
+    /// Gives an entry to the world in two parts.
+    pub(super) fn handle_in_parts<L: Ledger>(
+        &mut self,
+        alloc: Global,
+        entry: &Entry,
+        steps: &mut Steps<L>,
+    ) -> Result<Reply, OutOfMemory>
+        requires { IsSeat entry.now.seat }
+    {
+        let input = copy_input(alloc, &entry.input)?;
+        match self.world.prepare(alloc, entry.seat, input, steps) {
+            Ok(()) => Ok(Reply::Taken(self.world.commit().version)),
+            Err(stop) => refused(stop),
+        }
+    }
+
+    /// Prepares an entry, and abandons it: the line of what was prepared, which is empty where the entry is refused.
+    pub(super) fn abandoned<L: Ledger>(
+        &mut self,
+        alloc: Global,
+        entry: &Entry,
+        steps: &mut Steps<L>,
+    ) -> Result<TaskText, OutOfMemory>
+        requires { IsSeat entry.now.seat }
+    {
+        let input = copy_input(alloc, &entry.input)?;
+        match self.world.prepare(alloc, entry.seat, input, steps) {
+            Ok(()) => {
+                let line = item_text(alloc, self.world.next_item());
+                self.world.abandon();
+                line
+            }
+            Err(ActStop::Memory) => Err(OutOfMemory),
+            Err(_) => TaskText::of(alloc, ""),
+        }
+    }
+
+    /// Gives entries to the world in one run: their replies, or none where memory ran out.
+    pub(super) fn run<L: Ledger>(
+        &mut self,
+        alloc: Global,
+        entries: &[Entry],
+        steps: &mut Steps<L>,
+    ) -> Result<Row<Reply>, OutOfMemory>
+        requires { All (λ e. IsSeat e.seat) entries.now }
+    {
+        match self.world.run(alloc, entries, steps) {
+            Ok(replies) => Ok(replies),
+            Err(_) => Err(OutOfMemory),
+        }
+    }
+
+    pub(super) fn tree(&self) -> &Tree {
+        self.world.tree()
+    }
+
+    pub(super) fn at(&self, place: u64) -> Option<&Value> {
+        self.world.at(place)
+    }
+
+    pub(super) fn version(&self) -> u64 {
+        self.world.version()
+    }
+
+    pub(super) fn nodes(&self) -> u64 {
+        self.world.nodes()
+    }
+
+    pub(super) fn history(&self) -> &[Item] {
+        self.world.history()
+    }
+
+    /// The page for the first seat.
+    pub(super) fn page<L: Ledger>(
+        &mut self,
+        alloc: Global,
+        face: Face,
+        steps: &mut Steps<L>,
+    ) -> Result<Page, OutOfMemory> {
+        self.world.page(alloc, face, 1, steps)
+    }
+}

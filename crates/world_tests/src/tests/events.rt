@@ -1,0 +1,207 @@
+//! Entries one by one, each in one part and in two, with exact units.
+ghost use Rattle.task_model.specs.State.{IsSeat};
+
+use super::bench::Bench;
+use super::script::Script;
+use super::showing::{history_text, reply_text, shows_each_node, state_text, world_text};
+use eval_tests::repeated;
+use input_lines::print_entry;
+use std::alloc::Global;
+use std::sync::ledger::Ledger;
+use task_model::{Entry, OutOfMemory, Steps};
+use world_core::{OpenStop, Reply};
+
+/// How an entry is given to a world: in one part; or in two, behind its being prepared and abandoned.
+#[derive(Clone, Copy)]
+enum Way {
+    Whole,
+    Parts,
+}
+
+// Whether an entry that is prepared and then abandoned is shown in between, if anything is, and leaves the world as it was.
+fn leaves_all<L: Ledger>(
+    alloc: Global,
+    bench: &mut Bench,
+    entry: &Entry,
+    steps: &mut Steps<L>,
+) -> Result<bool, OutOfMemory>
+    requires { IsSeat entry.now.seat }
+{
+    let before = world_text(alloc, bench, steps)?;
+    let prepared = bench.abandoned(alloc, entry, steps)?;
+    let after = world_text(alloc, bench, steps)?;
+    let line = print_entry(alloc, entry)?;
+    let is_shown = prepared.as_str().is_empty() || prepared.as_str() == line.as_str();
+    Ok(is_shown && before.as_str() == after.as_str())
+}
+
+// The reply to an entry.
+fn replied<L: Ledger>(
+    alloc: Global,
+    bench: &mut Bench,
+    entry: &Entry,
+    way: Way,
+    steps: &mut Steps<L>,
+) -> Result<Reply, OutOfMemory>
+    requires { IsSeat entry.now.seat }
+{
+    match way {
+        Way::Whole => bench.handle(alloc, entry, steps),
+        Way::Parts => bench.handle_in_parts(alloc, entry, steps),
+    }
+}
+
+// Whether the history is the earlier one with one line more, and the version counts it.
+fn grew(alloc: Global, bench: &Bench, earlier: &str, entry: &Entry) -> Result<bool, OutOfMemory> {
+    let now = history_text(alloc, bench)?;
+    let line = print_entry(alloc, entry)?;
+    let Some(more) = now.as_str().strip_prefix(earlier) else {
+        return Ok(false);
+    };
+    Ok(more == line.as_str())
+}
+
+// The reply to an entry, with the state that it led to where it was taken, and what else is wrong.
+fn told<L: Ledger>(
+    alloc: Global,
+    bench: &mut Bench,
+    entry: &Entry,
+    way: Way,
+    steps: &mut Steps<L>,
+) -> Result<String, OutOfMemory>
+    requires { IsSeat entry.now.seat }
+{
+    let before = world_text(alloc, bench, steps)?;
+    let earlier = history_text(alloc, bench)?;
+    let version = bench.version();
+    let reply = replied(alloc, bench, entry, way, steps)?;
+    let mut text = reply_text(alloc, reply)?;
+    if let Reply::Taken(now) = reply {
+        text.push('@')?;
+        text.push_str(state_text(alloc, bench)?.as_str())?;
+        let is_counted = now == bench.version() && now == version.saturating_add(1);
+        if !is_counted || !grew(alloc, bench, earlier.as_str(), entry)? {
+            text.push_str(", with another history")?;
+        }
+    } else if world_text(alloc, bench, steps)?.as_str() != before.as_str() {
+        text.push_str(", and something changed")?;
+    }
+    Ok(text)
+}
+
+/// A line behind others, of a program. A line without an entry is the opening.
+#[derive(Clone, Copy)]
+pub(super) struct Case<'c> {
+    pub alloc: Global,
+    pub source: &'c str,
+    pub lines: &'c str,
+    pub line: &'c str,
+}
+
+impl Case<'_> {
+    // What the line comes to behind the others.
+    fn told_at<L: Ledger>(
+        &self,
+        bench: &mut Bench,
+        way: Way,
+        steps: &mut Steps<L>,
+    ) -> Result<String, OutOfMemory> {
+        let above = Script::of(self.alloc, self.lines)?;
+        bench.run(self.alloc, above.entries(), steps)?;
+        let script = Script::of(self.alloc, self.line)?;
+        let Some(entry) = script.first() else {
+            return state_text(self.alloc, bench);
+        };
+        if let Way::Parts = way {
+            if !leaves_all(self.alloc, bench, entry, steps)? {
+                return Ok(String::from_str(self.alloc, "abandoned otherwise")?);
+            }
+        }
+        told(self.alloc, bench, entry, way, steps)
+    }
+
+    // The same within a budget, from the opening on.
+    fn told<L: Ledger>(
+        &self,
+        budget: u32,
+        way: Way,
+        steps: &mut Steps<L>,
+    ) -> Result<String, OutOfMemory> {
+        match Bench::open(self.alloc, self.source, budget, steps) {
+            Ok(mut bench) => self.told_at(&mut bench, way, steps),
+            Err(OpenStop::Over) => Ok(String::from_str(self.alloc, "opening over")?),
+            Err(OpenStop::Memory) => Err(OutOfMemory),
+        }
+    }
+
+    /// What differs from this text within a budget, in one part or in two.
+    pub(super) fn difference<L: Ledger>(
+        &self,
+        budget: u32,
+        wanted: &str,
+        steps: &mut Steps<L>,
+    ) -> Result<String, OutOfMemory> {
+        let whole = self.told(budget, Way::Whole, steps)?;
+        let parts = self.told(budget, Way::Parts, steps)?;
+        if whole.as_str() == wanted && parts.as_str() == wanted {
+            return Ok(String::new(self.alloc));
+        }
+        Ok(format!(in self.alloc;
+            "{}\n{}\nat {budget}: {whole}\nin parts: {parts}\n",
+            self.source, self.line
+        )?)
+    }
+}
+
+// What differs from a row within a budget, and, where the row has units, with just these and with one fewer.
+fn row_differences<L: Ledger>(
+    case: &Case,
+    budget: u32,
+    row: (&str, &str),
+    steps: &mut Steps<L>,
+) -> Result<String, OutOfMemory> {
+    let (units, wanted) = row;
+    let wanted = repeated(case.alloc, wanted)?;
+    let mut all = case.difference(budget, wanted.as_str(), steps)?;
+    if let Ok(units) = units.parse::<u32>() {
+        all.push_str(case.difference(units, wanted.as_str(), steps)?.as_str())?;
+        let less = if case.line.is_empty() {
+            "opening over"
+        } else {
+            "over"
+        };
+        if units > 1 {
+            all.push_str(case.difference(units - 1, less, steps)?.as_str())?;
+        }
+    }
+    Ok(all)
+}
+
+/// What differs from the rows of a program.
+pub(super) fn differences<L: Ledger>(
+    alloc: Global,
+    block: &str,
+    steps: &mut Steps<L>,
+) -> Result<String, OutOfMemory> {
+    let mut all = String::new(alloc);
+    let mut lines = String::new(alloc);
+    let (head, rows) = block.split_once('\n').unwrap_or((block, ""));
+    let (budget, source) = head.split_once('@').unwrap_or((head, ""));
+    let budget = budget.parse::<u32>().unwrap_or(0);
+    let source = repeated(alloc, source)?;
+    for row in rows.split('\n') {
+        let (line, rest) = row.split_once('@').unwrap_or((row, ""));
+        let line = repeated(alloc, line)?;
+        let case = Case {
+            alloc,
+            source: source.as_str(),
+            lines: lines.as_str(),
+            line: line.as_str(),
+        };
+        let row = rest.split_once('@').unwrap_or((rest, ""));
+        all.push_str(row_differences(&case, budget, row, steps)?.as_str())?;
+        lines.push_str(line.as_str())?;
+        lines.push('\n')?;
+    }
+    Ok(all)
+}
