@@ -1,17 +1,12 @@
 ghost use Rattle.std.specs.Prelude.{◌≡◌, ◌<◌};
 
-mod bench;
-mod drawing;
 mod event_tables;
 mod events;
 mod offer_tables;
 mod offering;
-mod random;
 mod run_tables;
 mod runs;
-mod script;
 mod setting;
-mod showing;
 mod wants;
 
 use std::alloc::Global;
@@ -29,7 +24,6 @@ enum Kind {
     Events,
     Offers,
     Sets,
-    Histories,
     Wants,
 }
 
@@ -52,7 +46,6 @@ fn counted_differences<L: Ledger>(
         Kind::Events => events::differences(alloc, block, &mut steps),
         Kind::Offers => offering::differences(alloc, block, &mut steps),
         Kind::Sets => setting::differences(alloc, block, &mut steps),
-        Kind::Histories => random::differences(alloc, block, &mut steps),
         Kind::Wants => wants::differences(alloc, block, &mut steps),
     }
 }
@@ -125,11 +118,6 @@ fn deep_paths(rt: HostRuntime) -> Result<(), Fail> {
     let other = thread::spawn(&rt, move || is_deep_enough(alloc))?;
     assert!(rt; other.join(&rt));
     Ok(())
-}
-
-#[test]
-fn random_histories(rt: HostRuntime) -> Result<(), Fail> {
-    Ok(assert_right(&rt, random::PROGRAMS, Kind::Histories)?)
 }
 
 // Whatever allocation is refused, this test ends well, or an event told another state.

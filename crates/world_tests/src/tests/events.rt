@@ -1,14 +1,12 @@
 //! Entries one by one, each in one part and in two, with exact units.
 ghost use Rattle.task_model.specs.State.{IsSeat};
 
-use super::bench::Bench;
-use super::script::Script;
-use super::showing::{history_text, reply_text, shows_each_node, state_text, world_text};
 use eval_tests::repeated;
 use input_lines::print_entry;
 use std::alloc::Global;
 use std::sync::ledger::Ledger;
 use task_model::{Entry, OutOfMemory, Steps};
+use world_bench::{Script, WorldBench, history_text, reply_text, state_text, world_text};
 use world_core::{OpenStop, Reply};
 
 /// How an entry is given to a world: in one part; or in two, behind its being prepared and abandoned.
@@ -21,7 +19,7 @@ enum Way {
 // Whether an entry that is prepared and then abandoned is shown in between, if anything is, and leaves the world as it was.
 fn leaves_all<L: Ledger>(
     alloc: Global,
-    bench: &mut Bench,
+    bench: &mut WorldBench,
     entry: &Entry,
     steps: &mut Steps<L>,
 ) -> Result<bool, OutOfMemory>
@@ -38,7 +36,7 @@ fn leaves_all<L: Ledger>(
 // The reply to an entry.
 fn replied<L: Ledger>(
     alloc: Global,
-    bench: &mut Bench,
+    bench: &mut WorldBench,
     entry: &Entry,
     way: Way,
     steps: &mut Steps<L>,
@@ -52,7 +50,12 @@ fn replied<L: Ledger>(
 }
 
 // Whether the history is the earlier one with one line more, and the version counts it.
-fn grew(alloc: Global, bench: &Bench, earlier: &str, entry: &Entry) -> Result<bool, OutOfMemory> {
+fn grew(
+    alloc: Global,
+    bench: &WorldBench,
+    earlier: &str,
+    entry: &Entry,
+) -> Result<bool, OutOfMemory> {
     let now = history_text(alloc, bench)?;
     let line = print_entry(alloc, entry)?;
     let Some(more) = now.as_str().strip_prefix(earlier) else {
@@ -64,7 +67,7 @@ fn grew(alloc: Global, bench: &Bench, earlier: &str, entry: &Entry) -> Result<bo
 // The reply to an entry, with the state that it led to where it was taken, and what else is wrong.
 fn told<L: Ledger>(
     alloc: Global,
-    bench: &mut Bench,
+    bench: &mut WorldBench,
     entry: &Entry,
     way: Way,
     steps: &mut Steps<L>,
@@ -102,7 +105,7 @@ impl Case<'_> {
     // What the line comes to behind the others.
     fn told_at<L: Ledger>(
         &self,
-        bench: &mut Bench,
+        bench: &mut WorldBench,
         way: Way,
         steps: &mut Steps<L>,
     ) -> Result<String, OutOfMemory> {
@@ -127,7 +130,7 @@ impl Case<'_> {
         way: Way,
         steps: &mut Steps<L>,
     ) -> Result<String, OutOfMemory> {
-        match Bench::open(self.alloc, self.source, budget, steps) {
+        match WorldBench::open(self.alloc, self.source, budget, steps) {
             Ok(mut bench) => self.told_at(&mut bench, way, steps),
             Err(OpenStop::Over) => Ok(String::from_str(self.alloc, "opening over")?),
             Err(OpenStop::Memory) => Err(OutOfMemory),

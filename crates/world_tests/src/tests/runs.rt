@@ -1,12 +1,9 @@
 //! Several entries in one run.
 
-use super::bench::Bench;
-use super::script::Script;
-use super::showing::{reply_text, shows_each_node, state_text};
 use std::alloc::Global;
 use std::sync::ledger::Ledger;
 use task_model::{OutOfMemory, Steps};
-use world_core::OpenStop;
+use world_bench::{Script, WorldBench, reply_text, shows_each_node, state_text};
 
 // The parts of lines before `@`.
 fn asked(alloc: Global, rows: &str) -> Result<String, OutOfMemory> {
@@ -23,7 +20,7 @@ fn asked(alloc: Global, rows: &str) -> Result<String, OutOfMemory> {
 // The rows of a run: its lines with their replies, and then the version, the number of nodes and the state.
 fn rows_of<L: Ledger>(
     alloc: Global,
-    bench: &mut Bench,
+    bench: &mut WorldBench,
     lines: &str,
     steps: &mut Steps<L>,
 ) -> Result<String, OutOfMemory> {
@@ -55,7 +52,7 @@ pub(super) fn differences<L: Ledger>(
 ) -> Result<String, OutOfMemory> {
     let (source, rows) = block.split_once('\n').unwrap_or((block, ""));
     let lines = asked(alloc, rows)?;
-    let mut bench = Bench::opened(alloc, source, 10_000, steps)?;
+    let mut bench = WorldBench::opened(alloc, source, 10_000, steps)?;
     let told = rows_of(alloc, &mut bench, lines.as_str(), steps)?;
     if told.as_str() == rows {
         return Ok(String::new(alloc));

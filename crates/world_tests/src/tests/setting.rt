@@ -1,10 +1,10 @@
 //! Values of each type, set at editors of each type.
+ghost use Rattle.task_model.specs.State.{IsSeat};
 
-use super::bench::Bench;
-use super::script::Script;
 use std::alloc::Global;
 use std::sync::ledger::Ledger;
-use task_model::{OutOfMemory, Steps};
+use task_model::{Entry, OutOfMemory, Steps};
+use world_bench::{Script, WorldBench};
 use world_core::Reply;
 
 /// Values, and programs with a mark for each of the values: `y` where it is taken, and a dot where it isn't.
@@ -34,6 +34,23 @@ y..........@task main() : unit = new r = () in share r
 ......y...y@task main() : [[int]] = edit [[1]]
 ......y...y@task main() : [[int]] = new r = nil [int] in share r"#;
 
+// The mark of an entry at a program.
+fn entry_mark<L: Ledger>(
+    alloc: Global,
+    source: &str,
+    entry: &Entry,
+    steps: &mut Steps<L>,
+) -> Result<char, OutOfMemory>
+    requires { IsSeat entry.now.seat }
+{
+    let mut bench = WorldBench::opened(alloc, source, 10_000, steps)?;
+    match bench.handle(alloc, entry, steps)? {
+        Reply::Taken(_) => Ok('y'),
+        Reply::NotOffered => Ok('.'),
+        Reply::Over => Ok('?'),
+    }
+}
+
 // The mark of a value at a program.
 fn mark<L: Ledger>(
     alloc: Global,
@@ -43,14 +60,9 @@ fn mark<L: Ledger>(
 ) -> Result<char, OutOfMemory> {
     let line = format!(in alloc; "1 . set {literal}")?;
     let script = Script::of(alloc, line.as_str())?;
-    let Some(entry) = script.first() else {
-        return Err(OutOfMemory);
-    };
-    let mut bench = Bench::opened(alloc, source, 10_000, steps)?;
-    match bench.handle(alloc, entry, steps)? {
-        Reply::Taken(_) => Ok('y'),
-        Reply::NotOffered => Ok('.'),
-        Reply::Over => Ok('?'),
+    match script.first() {
+        Some(entry) => entry_mark(alloc, source, entry, steps),
+        None => Err(OutOfMemory),
     }
 }
 

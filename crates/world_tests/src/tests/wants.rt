@@ -1,12 +1,10 @@
 //! An event where memory may run out at any time.
 ghost use Rattle.task_model.specs.State.{IsSeat};
 
-use super::bench::Bench;
-use super::script::Script;
-use super::showing::{history_text, reply_text, state_text};
 use std::alloc::Global;
 use std::sync::ledger::Ledger;
 use task_model::{Entry, OutOfMemory, Steps};
+use world_bench::{Script, WorldBench, history_text, reply_text, state_text};
 use world_core::Reply;
 
 /// Programs, each with a line and what becomes of it.
@@ -23,7 +21,7 @@ task main() : int = new r = 7 in enter int <|> ((r := 8 ; new q = 9 in fail int)
 1 .S left@not offered@(enter int <|> (0(#0) <?> 1(#0))) [7]"#;
 
 // The state and the history.
-fn kept_text(alloc: Global, bench: &Bench) -> Result<String, OutOfMemory> {
+fn kept_text(alloc: Global, bench: &WorldBench) -> Result<String, OutOfMemory> {
     let mut text = state_text(alloc, bench)?;
     text.push('\n')?;
     text.push_str(history_text(alloc, bench)?.as_str())?;
@@ -31,17 +29,40 @@ fn kept_text(alloc: Global, bench: &Bench) -> Result<String, OutOfMemory> {
 }
 
 // Whether the reply and the state behind it are as they are written.
-fn is_so(alloc: Global, bench: &Bench, reply: Reply, wanted: &str) -> Result<bool, OutOfMemory> {
+fn is_so(
+    alloc: Global,
+    bench: &WorldBench,
+    reply: Reply,
+    wanted: &str,
+) -> Result<bool, OutOfMemory> {
     let reply = reply_text(alloc, reply)?;
     let state = state_text(alloc, bench)?;
     let told = format!(in alloc; "{reply}@{state}")?;
     Ok(told.as_str() == wanted)
 }
 
-// Whether an entry comes to what is written. Where memory runs out all stays, and the entry comes to that afterwards.
+// Whether an event for which memory ran out left all as it was, and its entry comes to what is written afterwards.
+fn is_right_again<L: Ledger>(
+    alloc: Global,
+    bench: &mut WorldBench,
+    entry: &Entry,
+    texts: (&str, &str),
+    steps: &mut Steps<L>,
+) -> Result<bool, OutOfMemory>
+    requires { IsSeat entry.now.seat }
+{
+    let (before, wanted) = texts;
+    if kept_text(alloc, bench)?.as_str() != before {
+        return Ok(false);
+    }
+    let reply = bench.handle(alloc, entry, steps)?;
+    is_so(alloc, bench, reply, wanted)
+}
+
+// Whether an entry comes to what is written, at once or where memory ran out for it.
 fn is_right<L: Ledger>(
     alloc: Global,
-    bench: &mut Bench,
+    bench: &mut WorldBench,
     entry: &Entry,
     wanted: &str,
     steps: &mut Steps<L>,
@@ -49,12 +70,27 @@ fn is_right<L: Ledger>(
     requires { IsSeat entry.now.seat }
 {
     let before = kept_text(alloc, bench)?;
-    if let Ok(reply) = bench.handle(alloc, entry, steps) {
-        return is_so(alloc, bench, reply, wanted);
+    match bench.handle(alloc, entry, steps) {
+        Ok(reply) => is_so(alloc, bench, reply, wanted),
+        Err(OutOfMemory) => {
+            is_right_again(alloc, bench, entry, (before.as_str(), wanted), steps)
+        }
     }
-    let after = kept_text(alloc, bench)?;
-    let reply = bench.handle(alloc, entry, steps)?;
-    Ok(is_so(alloc, bench, reply, wanted)? && before.as_str() == after.as_str())
+}
+
+// Whether the line of a program comes to what is written.
+fn is_row_right<L: Ledger>(
+    alloc: Global,
+    bench: &mut WorldBench,
+    row: &str,
+    steps: &mut Steps<L>,
+) -> Result<bool, OutOfMemory> {
+    let (line, wanted) = row.split_once('@').unwrap_or((row, ""));
+    let script = Script::of(alloc, line)?;
+    match script.first() {
+        Some(entry) => is_right(alloc, bench, entry, wanted, steps),
+        None => Ok(false),
+    }
 }
 
 /// What differs from the line of a program, if anything.
@@ -64,12 +100,7 @@ pub(super) fn differences<L: Ledger>(
     steps: &mut Steps<L>,
 ) -> Result<String, OutOfMemory> {
     let (source, row) = block.split_once('\n').unwrap_or((block, ""));
-    let (line, wanted) = row.split_once('@').unwrap_or((row, ""));
-    let mut bench = Bench::opened(alloc, source, 10_000, steps)?;
-    let script = Script::of(alloc, line)?;
-    let is_right = match script.first() {
-        Some(entry) => is_right(alloc, &mut bench, entry, wanted, steps)?,
-        None => false,
-    };
+    let mut bench = WorldBench::opened(alloc, source, 10_000, steps)?;
+    let is_right = is_row_right(alloc, &mut bench, row, steps)?;
     Ok(String::from_str(alloc, if is_right { "" } else { source })?)
 }

@@ -1,11 +1,12 @@
 //! A world at rest.
-ghost use Rattle.std.specs.Prelude.{◌≡◌, IfSome, IsNone};
+ghost use Rattle.std.specs.Prelude.{◌≡◌, IsNone};
 ghost use Rattle.std.specs.List.{All};
 ghost use Rattle.task_model.specs.State.{IsSeat};
 
 use html_pages::Page;
 use input_lines::print_entry;
 use std::alloc::Global;
+use std::marker::Model;
 use std::sync::ledger::Ledger;
 use task_model::{
     ActStop, BUDGET_LIMIT, Entry, Face, Item, OutOfMemory, Row, Steps, TaskText, Tree, Value,
@@ -16,9 +17,16 @@ use world_core::{OpenStop, Reply, Taken, World};
 
 /// A world where nothing is prepared.
 #[derive(Drop)]
-pub(super) struct Bench {
+pub struct WorldBench {
     world: World,
-    ghost rest: { IsNone world.next },
+}
+
+impl Model for WorldBench {
+    ghost Value = { Unit {0} };
+
+    ghost view = { λ b. tt };
+
+    ghost invariant = { λ b. IsNone b.world.next };
 }
 
 // What a refusal answers.
@@ -38,36 +46,36 @@ fn item_text(alloc: Global, item: Option<&Item>) -> Result<TaskText, OutOfMemory
     }
 }
 
-impl Bench {
+impl WorldBench {
     /// Opens the program of a text. A budget that is none is over.
-    pub(super) fn open<L: Ledger>(
+    pub fn open<L: Ledger>(
         alloc: Global,
         source: &str,
         budget: u32,
         steps: &mut Steps<L>,
-    ) -> Result<Bench, OpenStop> {
+    ) -> Result<WorldBench, OpenStop> {
         if budget < 1 || budget > BUDGET_LIMIT {
             return Err(OpenStop::Over);
         }
         let world = World::open(alloc, accepted(alloc, source)?, budget, steps)?;
-        Ok(Bench { world })
+        Ok(WorldBench { world })
     }
 
     /// The same where it is opened for sure. Over is as want of memory.
-    pub(super) fn opened<L: Ledger>(
+    pub fn opened<L: Ledger>(
         alloc: Global,
         source: &str,
         budget: u32,
         steps: &mut Steps<L>,
-    ) -> Result<Bench, OutOfMemory> {
-        match Bench::open(alloc, source, budget, steps) {
+    ) -> Result<WorldBench, OutOfMemory> {
+        match WorldBench::open(alloc, source, budget, steps) {
             Ok(bench) => Ok(bench),
             Err(_) => Err(OutOfMemory),
         }
     }
 
     /// Gives an entry to the world in one part.
-    pub(super) fn handle<L: Ledger>(
+    pub fn handle<L: Ledger>(
         &mut self,
         alloc: Global,
         entry: &Entry,
@@ -83,7 +91,7 @@ impl Bench {
     }
 
     /// Gives an entry to the world in two parts.
-    pub(super) fn handle_in_parts<L: Ledger>(
+    pub fn handle_in_parts<L: Ledger>(
         &mut self,
         alloc: Global,
         entry: &Entry,
@@ -99,7 +107,7 @@ impl Bench {
     }
 
     /// Prepares an entry, and abandons it: the line of what was prepared, which is empty where the entry is refused.
-    pub(super) fn abandoned<L: Ledger>(
+    pub fn abandoned<L: Ledger>(
         &mut self,
         alloc: Global,
         entry: &Entry,
@@ -120,7 +128,7 @@ impl Bench {
     }
 
     /// Gives entries to the world in one run: their replies, or none where memory ran out.
-    pub(super) fn run<L: Ledger>(
+    pub fn run<L: Ledger>(
         &mut self,
         alloc: Global,
         entries: &[Entry],
@@ -134,28 +142,28 @@ impl Bench {
         }
     }
 
-    pub(super) fn tree(&self) -> &Tree {
+    pub fn tree(&self) -> &Tree {
         self.world.tree()
     }
 
-    pub(super) fn at(&self, place: u64) -> Option<&Value> {
+    pub fn at(&self, place: u64) -> Option<&Value> {
         self.world.at(place)
     }
 
-    pub(super) fn version(&self) -> u64 {
+    pub fn version(&self) -> u64 {
         self.world.version()
     }
 
-    pub(super) fn nodes(&self) -> u64 {
+    pub fn nodes(&self) -> u64 {
         self.world.nodes()
     }
 
-    pub(super) fn history(&self) -> &[Item] {
+    pub fn history(&self) -> &[Item] {
         self.world.history()
     }
 
     /// The page for the first seat.
-    pub(super) fn page<L: Ledger>(
+    pub fn page<L: Ledger>(
         &mut self,
         alloc: Global,
         face: Face,

@@ -5,18 +5,26 @@ ghost use Rattle.task_model.specs.State.{IsSeat};
 
 use input_lines::{Line, parse_line};
 use std::alloc::Global;
+use std::marker::Model;
 use task_model::{Entry, OutOfMemory, Row, SEAT_LIMIT};
 
 /// The entries that lines ask for, of seats that there are.
 #[derive(Drop)]
-pub(super) struct Script {
+pub struct Script {
     entries: Row<Entry>,
-    ghost seats: { All (λ e. IsSeat e.seat) entries.list },
+}
+
+impl Model for Script {
+    ghost Value = { Unit {0} };
+
+    ghost view = { λ s. tt };
+
+    ghost invariant = { λ s. All (λ e. IsSeat e.seat) s.entries.list };
 }
 
 impl Script {
     /// A line that asks for no entry is passed over, and a bad one is as want of memory.
-    pub(super) fn of(alloc: Global, lines: &str) -> Result<Script, OutOfMemory> {
+    pub fn of(alloc: Global, lines: &str) -> Result<Script, OutOfMemory> {
         let mut script = Script {
             entries: Row::new(alloc),
         };
@@ -42,13 +50,13 @@ impl Script {
         Ok(())
     }
 
-    pub(super) fn entries(&self) -> &[Entry]
+    pub fn entries(&self) -> &[Entry]
         ensures { All (λ e. IsSeat e.seat) result.now }
     {
         self.entries.as_slice()
     }
 
-    pub(super) fn first(&self) -> Option<&Entry>
+    pub fn first(&self) -> Option<&Entry>
         ensures { IfSome result (λ e. IsSeat e.now.seat) }
     {
         match self.entries.as_slice() {

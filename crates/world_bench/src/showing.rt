@@ -1,6 +1,6 @@
 //! Worlds and replies as text.
 
-use super::bench::Bench;
+use crate::bench::WorldBench;
 use input_lines::print_entry;
 use literal_text::print_value;
 use std::alloc::Global;
@@ -9,7 +9,8 @@ use task_model::{Face, Item, OutOfMemory, Steps};
 use test_texts::tree_text;
 use world_core::Reply;
 
-pub(super) fn reply_text(alloc: Global, reply: Reply) -> Result<String, OutOfMemory> {
+/// The answer to an input.
+pub fn reply_text(alloc: Global, reply: Reply) -> Result<String, OutOfMemory> {
     match reply {
         Reply::Taken(version) => Ok(format!(in alloc; "taken {version}")?),
         Reply::NotOffered => Ok(String::from_str(alloc, "not offered")?),
@@ -18,7 +19,7 @@ pub(super) fn reply_text(alloc: Global, reply: Reply) -> Result<String, OutOfMem
 }
 
 // The values of the store.
-fn push_values(alloc: Global, text: &mut String, bench: &Bench) -> Result<(), OutOfMemory> {
+fn push_values(alloc: Global, text: &mut String, bench: &WorldBench) -> Result<(), OutOfMemory> {
     text.push_str(" [")?;
     let mut between = "";
     for place in 0..u64::MAX {
@@ -32,7 +33,7 @@ fn push_values(alloc: Global, text: &mut String, bench: &Bench) -> Result<(), Ou
 }
 
 /// The tree and the values.
-pub(super) fn state_text(alloc: Global, bench: &Bench) -> Result<String, OutOfMemory> {
+pub fn state_text(alloc: Global, bench: &WorldBench) -> Result<String, OutOfMemory> {
     let mut text = tree_text(alloc, bench.tree())?;
     push_values(alloc, &mut text, bench)?;
     Ok(text)
@@ -49,7 +50,7 @@ fn push_item(alloc: Global, text: &mut String, item: &Item) -> Result<(), OutOfM
 }
 
 /// The budget of the opening, and the lines of what was taken.
-pub(super) fn history_text(alloc: Global, bench: &Bench) -> Result<String, OutOfMemory> {
+pub fn history_text(alloc: Global, bench: &WorldBench) -> Result<String, OutOfMemory> {
     let mut text = String::new(alloc);
     for item in bench.history() {
         push_item(alloc, &mut text, item)?;
@@ -60,7 +61,7 @@ pub(super) fn history_text(alloc: Global, bench: &Bench) -> Result<String, OutOf
 fn push_page<L: Ledger>(
     alloc: Global,
     text: &mut String,
-    bench: &mut Bench,
+    bench: &mut WorldBench,
     face: Face,
     steps: &mut Steps<L>,
 ) -> Result<(), OutOfMemory> {
@@ -74,9 +75,9 @@ fn push_page<L: Ledger>(
 const NODES_SHOWN: u64 = 100;
 
 /// All that a world shows: the state, the version, the number of nodes, the history, and both pages if they are short.
-pub(super) fn world_text<L: Ledger>(
+pub fn world_text<L: Ledger>(
     alloc: Global,
-    bench: &mut Bench,
+    bench: &mut WorldBench,
     steps: &mut Steps<L>,
 ) -> Result<String, OutOfMemory> {
     let mut text = state_text(alloc, bench)?;
@@ -91,9 +92,9 @@ pub(super) fn world_text<L: Ledger>(
 }
 
 /// Whether a page for people has a line for each node, and one more.
-pub(super) fn shows_each_node<L: Ledger>(
+pub fn shows_each_node<L: Ledger>(
     alloc: Global,
-    bench: &mut Bench,
+    bench: &mut WorldBench,
     steps: &mut Steps<L>,
 ) -> Result<bool, OutOfMemory> {
     let page = bench.page(alloc, Face::Text, steps)?;

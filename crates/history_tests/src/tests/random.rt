@@ -1,12 +1,10 @@
 //! Long histories of entries that are drawn at random, and run again.
 
-use super::bench::Bench;
 use super::drawing::{Draws, drawn};
-use super::script::Script;
-use super::showing::{history_text, state_text, world_text};
 use std::alloc::Global;
 use std::sync::ledger::Ledger;
 use task_model::{Face, OutOfMemory, Steps};
+use world_bench::{Script, WorldBench, history_text, state_text, world_text};
 use world_core::Reply;
 
 /// Budgets with programs that don't end.
@@ -55,7 +53,7 @@ impl Tally {
 
 fn page_text<L: Ledger>(
     alloc: Global,
-    bench: &mut Bench,
+    bench: &mut WorldBench,
     steps: &mut Steps<L>,
 ) -> Result<String, OutOfMemory> {
     let page = bench.page(alloc, Face::Text, steps)?;
@@ -65,7 +63,7 @@ fn page_text<L: Ledger>(
 // The reply to a line.
 fn replied<L: Ledger>(
     alloc: Global,
-    bench: &mut Bench,
+    bench: &mut WorldBench,
     line: &str,
     steps: &mut Steps<L>,
 ) -> Result<Reply, OutOfMemory> {
@@ -79,7 +77,7 @@ fn replied<L: Ledger>(
 // Gives lines until one is taken, of as many as there may be: how many there were.
 fn give_until_taken<L: Ledger>(
     alloc: Global,
-    bench: &mut Bench,
+    bench: &mut WorldBench,
     draws: &mut Draws,
     most: u64,
     tally: &mut Tally,
@@ -106,7 +104,7 @@ fn give_until_taken<L: Ledger>(
 
 fn give_all<L: Ledger>(
     alloc: Global,
-    bench: &mut Bench,
+    bench: &mut WorldBench,
     steps: &mut Steps<L>,
 ) -> Result<Tally, OutOfMemory> {
     let mut draws = Draws { state: 3 };
@@ -141,7 +139,7 @@ fn are_all_taken(replies: &[Reply]) -> bool {
 // The world that the entries of a history lead to, in one run from the opening on.
 fn again<L: Ledger>(
     alloc: Global,
-    bench: &mut Bench,
+    bench: &mut WorldBench,
     history: &str,
     steps: &mut Steps<L>,
 ) -> Result<String, OutOfMemory> {
@@ -162,11 +160,11 @@ pub(super) fn differences<L: Ledger>(
 ) -> Result<String, OutOfMemory> {
     let (budget, source) = block.split_once('@').unwrap_or((block, ""));
     let budget = budget.parse::<u32>().unwrap_or(0);
-    let mut bench = Bench::opened(alloc, source, budget, steps)?;
+    let mut bench = WorldBench::opened(alloc, source, budget, steps)?;
     let tally = give_all(alloc, &mut bench, steps)?;
     let history = history_text(alloc, &bench)?;
     let told = world_text(alloc, &mut bench, steps)?;
-    let mut fresh = Bench::opened(alloc, source, budget, steps)?;
+    let mut fresh = WorldBench::opened(alloc, source, budget, steps)?;
     let again = again(alloc, &mut fresh, history.as_str(), steps)?;
     if tally.is_right(budget) && told.as_str() == again.as_str() {
         return Ok(String::new(alloc));
