@@ -39,6 +39,7 @@ abbrev pub place_named : EnvTerm → Text → Option ℕ
 place_named env x = option_then (slot_of env x) place_in
 
 -- ---- choices
+-- the truth value that a value is, if it is one
 abbrev pub truth_of : ValueTerm → Option Bool
 truth_of (bool_value b) = Some b
 truth_of v = None
@@ -95,6 +96,7 @@ abbrev pub function_in : List DefTerm → Text → Option Function
 function_in [] f = None
 function_in (d ∷ ds) f = if same_text d.name f then function_of d.params d.what else function_in ds f
 
+-- a function of the term: its parameters and its expression
 abbrev pub function_term : List ParamTerm → HostTerm → Function
 function_term params body = record { params = params; expr = body }
 

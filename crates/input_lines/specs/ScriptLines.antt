@@ -16,6 +16,7 @@ pub data LineTerm : Type 0 where
   shows : ℕ → LineTerm
   gives : EntryTerm → LineTerm
 
+-- what a line asks for, as a plain term
 abbrev pub line_term : Line → LineTerm
 line_term lines.Blank = nothing
 line_term (lines.Show seat) = shows seat

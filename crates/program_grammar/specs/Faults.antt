@@ -61,7 +61,7 @@ IsFaultOf source (Lex kind) place = (length source ≤ 1048576) × HasFault sour
 IsFaultOf source (Unexpected token) place = (length source ≤ 1048576) × IsTokenFault source kinds.Unexpected token place
 IsFaultOf source TooNested place = (length source ≤ 1048576) × (token : ℕ) × IsTokenFault source kinds.TooNested token place
 
--- a stop is the source's fault; want of memory says nothing of the source
+-- a stop of a reader is a fault of the source; want of memory says nothing of the source
 abbrev pub IsReadStop : Text → ReadStop → Type 0
 IsReadStop source (stops.Fault place kind) = IsFaultOf source kind place
 IsReadStop source stops.Memory = Unit {0}

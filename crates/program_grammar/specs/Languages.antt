@@ -119,10 +119,11 @@ EndsForm f [] = Unit {0}
 EndsForm f (t ∷ ts) = stops_at (reach f) (rank t) ≡ true
 
 -- ---- single tokens
--- a keyword or a symbol, and its place
+-- a keyword, and its place
 abbrev pub KeywordToken : Keyword → Language Lexeme ℕ
 KeywordToken k ts p = ts ≡ keyword k p ∷ []
 
+-- a symbol, and its place
 abbrev pub SymbolToken : Symbol → Language Lexeme ℕ
 SymbolToken s ts p = ts ≡ symbol s p ∷ []
 

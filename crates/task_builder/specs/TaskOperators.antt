@@ -15,14 +15,17 @@ use Rattle.task_model.specs.declared.symbol.Symbol.TheVariants as signs
 use Rattle.task_model.specs.Grammar as grammar
 use Rattle.task_model.specs.Task.{TaskTerm, then_task, next_task, let_task, new_task}
 
+-- a choice, as an operator of the grammar
 abbrev pub choice_term : Choice → grammar.Operator grammar.choice
 choice_term choices.Internal = grammar.internal
 choice_term choices.External = grammar.external
 
+-- the symbol of a step
 abbrev pub step_symbol : Step → Symbol
 step_symbol steps.ByItself = signs.InternalStep
 step_symbol steps.ByUser = signs.UserStep
 
+-- the keyword of a binding
 abbrev pub binding_keyword : Binding → Keyword
 binding_keyword bindings.Let = words.Let
 binding_keyword bindings.New = words.New

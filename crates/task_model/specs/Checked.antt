@@ -15,11 +15,12 @@ pub record CheckedTerm : Type 0 where
   pub program : ProgramTerm
   pub types : List BasicTerm
 
--- what contracts see of the type `Checked`, and its term
+-- what contracts see of the type `Checked`
 pub record SeenChecked : Type 0 where
   pub program : Program
   pub types : List Basic
 
+-- a checked program as a plain term
 abbrev pub checked_term : SeenChecked → CheckedTerm
 checked_term c = record { program = program_term c.program; types = map basic_term c.types }
 

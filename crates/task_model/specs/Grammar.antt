@@ -73,6 +73,7 @@ pub data Operator : Series → Type 0 where
   quot : Operator product
   rem : Operator product
 
+-- the token of an operator, at its place
 abbrev pub operator : {s : Series} → Operator s → ℕ → Lexeme
 operator (comma l) p = symbol signs.Comma p
 operator internal p = symbol signs.InternalChoice p
@@ -96,6 +97,7 @@ pub data Relation : Type 0 where
   greater : Relation
   greater_equal : Relation
 
+-- the symbol of a relation
 abbrev pub relation : Relation → Symbol
 relation equal = signs.Equal
 relation unequal = signs.NotEqual
@@ -112,6 +114,7 @@ pub data Prefix : Type 0 where
   snd : Prefix
   len : Prefix
 
+-- the token of a prefix, at its place
 abbrev pub prefix : Prefix → ℕ → Lexeme
 prefix negative p = symbol signs.Minus p
 prefix not p = keyword words.Not p

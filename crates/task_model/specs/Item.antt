@@ -10,9 +10,11 @@ pub data ItemTerm : Type 0 where
   opened : ProgramTerm → ℕ → ItemTerm
   took : EntryTerm → ItemTerm
 
+-- an item of a history as a plain term
 abbrev pub item_term : Item → ItemTerm
 item_term (items.Opened p budget) = opened (program_term p) budget
 item_term (items.Took e) = took (entry_term e)
 
+-- a history as plain terms
 abbrev pub history_term : List Item → List ItemTerm
 history_term = map item_term

@@ -113,6 +113,7 @@ scalar_of bool = types.bool_type
 scalar_of int = types.int_type
 scalar_of text = types.text_type
 
+-- the operator that a relation stands for
 abbrev pub relation_of : Relation → Op
 relation_of equal = ops.Eq
 relation_of unequal = ops.Ne
@@ -121,6 +122,7 @@ relation_of less_equal = ops.Le
 relation_of greater = ops.Gt
 relation_of greater_equal = ops.Ge
 
+-- the expression of a prefix over its operand
 abbrev pub unary_expression : Prefix → HostTerm → HostTerm
 unary_expression negative a = exprs.neg_expr a
 unary_expression not a = exprs.not_expr a
@@ -128,6 +130,7 @@ unary_expression fst a = exprs.fst_expr a
 unary_expression snd a = exprs.snd_expr a
 unary_expression len a = exprs.len_expr a
 
+-- what a parse means: the term that it stands for
 abbrev pub meaning : {f : Form} → Parse f → Meaning f
 meaning no_definitions = []
 meaning (more_definitions ds d) = meaning ds ++ meaning d (bodies ds) ∷ []

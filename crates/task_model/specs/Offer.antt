@@ -30,11 +30,13 @@ offer_kind_term kinds.Next = next_offer
 offer_kind_term kinds.Left = left_offer
 offer_kind_term kinds.Right = right_offer
 
+-- an offer: the place of its node, its kind, and the answer of its test
 pub record OfferTerm : Type 0 where
   pub path : List Turn
   pub kind : OfferKindTerm
   pub answer : Answer
 
+-- an offer as a plain term
 abbrev pub offer_term : Offer → OfferTerm
 offer_term o = record { path = o.path.turns; kind = offer_kind_term o.kind; answer = o.answer }
 

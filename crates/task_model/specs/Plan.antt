@@ -18,6 +18,7 @@ pub data Judgement : Type 0 where
   settles : State → Judgement
   normal : TaskTerm → EnvTerm → List ValueTerm → Judgement
 
+-- what a judgement gives where it is derived: a value, a state, or whether it fails
 abbrev pub Derived : Judgement → Type 0
 Derived (gives_value e env σ) = ValueTerm
 Derived (evaluates t env σ) = State
@@ -26,6 +27,7 @@ Derived (strides s) = State
 Derived (settles s) = State
 Derived (normal t env σ) = State
 
+-- what the rules of a judgement do, step by step: what is derived, what is paid, and the result
 pub data Plan (A : Type 0) : Type 0 where
   -- the rule's result
   give : A → Plan A

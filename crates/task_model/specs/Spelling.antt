@@ -6,6 +6,7 @@ use Rattle.task_model.specs.declared.keyword.Keyword.TheVariants as keywords
 use Rattle.task_model.specs.declared.symbol.Symbol.{Symbol}
 use Rattle.task_model.specs.declared.symbol.Symbol.TheVariants as symbols
 
+-- how a keyword is spelled
 abbrev pub keyword_spelling : Keyword → Text
 keyword_spelling keywords.Fun = codes "fun"
 keyword_spelling keywords.Task = codes "task"
@@ -36,6 +37,7 @@ keyword_spelling keywords.Quot = codes "quot"
 keyword_spelling keywords.Rem = codes "rem"
 keyword_spelling keywords.Nil = codes "nil"
 
+-- how a symbol is spelled
 abbrev pub symbol_spelling : Symbol → Text
 symbol_spelling symbols.Open = codes "("
 symbol_spelling symbols.Close = codes ")"

@@ -45,9 +45,11 @@ version_of [] = 0
 version_of (opened p budget ∷ items) = version_of items
 version_of (took e ∷ items) = suc (version_of items)
 
+-- a seat is 1 to 64
 abbrev pub IsSeat : ℕ → Type 0
 IsSeat seat = (1 ≤ seat) × (seat ≤ 64)
 
+-- a budget is 1 to 1,000,000
 abbrev pub IsBudget : ℕ → Type 0
 IsBudget budget = (1 ≤ budget) × (budget ≤ 1000000)
 

@@ -90,6 +90,7 @@ part_spelling (hex a b) = 92 ∷ 120 ∷ a ∷ b ∷ []
 abbrev pub hex_value : ℕ → ℕ
 hex_value c = if nat_lt c 58 then c - 48 else if nat_lt c 71 then c - 55 else c - 87
 
+-- a hexadecimal digit, in either case
 abbrev pub IsHex : ℕ → Type 0
 IsHex c = IsDigit c ⊎ (((65 ≤ c) × (c < 71)) ⊎ ((97 ≤ c) × (c < 103)))
 

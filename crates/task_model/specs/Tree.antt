@@ -13,12 +13,15 @@ pub record LaterTerm : Type 0 where
   pub body : ℕ
   pub slots : List SlotTerm
 
+-- the right side of a step as a plain term
 abbrev pub cont_term : Cont → LaterTerm
 cont_term k = record { body = k.body; slots = map slot_term (arc_value k.slots).list }
 
+-- a side of an external choice as a plain term
 abbrev pub delay_term : Delay → LaterTerm
 delay_term k = record { body = k.body; slots = map slot_term (arc_value k.slots).list }
 
+-- trees
 pub data TreeTerm : Type 0 where
   edit_tree : BasicTerm → ValueTerm → TreeTerm
   enter_tree : BasicTerm → TreeTerm
@@ -47,5 +50,6 @@ pub record State : Type 0 where
   pub tree : TreeTerm
   pub store : List ValueTerm
 
+-- a tree with the values of a store
 abbrev pub at : TreeTerm → List ValueTerm → State
 at t σ = record { tree = t; store = σ }

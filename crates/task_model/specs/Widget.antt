@@ -35,10 +35,12 @@ shape_term shapes.And = and_shape
 shape_term shapes.Or = or_shape
 shape_term (shapes.Pick s z) = pick_shape s z
 
+-- a widget: the place of its node, and what it shows
 pub record WidgetTerm : Type 0 where
   pub path : List Turn
   pub shape : ShapeTerm
 
+-- a widget as a plain term
 abbrev pub widget_term : Widget → WidgetTerm
 widget_term w = record { path = w.path.turns; shape = shape_term w.shape }
 

@@ -82,7 +82,7 @@ pub record HasFault (source : Text) (kind : LexKind) (place : ℕ) : Type 0 wher
   pub fault : IsFaultAt rest kind inside
   pub is_place : place ≡ length (bytes_of pieces) + inside
 
--- a stop is the source's fault; want of memory says nothing of the source
+-- a stop of the lexer is a fault of the source; want of memory says nothing of the source
 abbrev pub IsLexStop : Text → LexStop → Type 0
 IsLexStop source (stops.Fault place kind) = HasFault source kind place
 IsLexStop source stops.Memory = Unit {0}

@@ -26,6 +26,7 @@ pub record Limits : Type 0 where
   pub line : ℕ
   pub script : ℕ
 
+-- those of the program: a file and a line of 1,048,576 bytes, and a script of 67,108,864
 abbrev pub limits : Limits
 limits = record { file = 1048576; line = 1048576; script = 67108864 }
 
