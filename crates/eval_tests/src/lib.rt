@@ -1,5 +1,5 @@
-//! What expressions give: tables of expressions with their values and units. Tests alone, but for the value of a function and texts with pieces
-//! that stand in them many times.
+//! What expressions give: tables of expressions with their values and units. Tests alone, but for the value of a function and texts with
+//! pieces that stand in them many times.
 #![tactic(auto)]
 
 mod functions;

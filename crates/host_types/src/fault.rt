@@ -7,7 +7,8 @@ use task_model::{OutOfMemory, TypeKind};
 /// Why a program isn't accepted.
 #[derive(Drop)]
 pub enum CheckStop {
-    /// The first demand that isn't met: its node, by its number in pre-order, and what is wrong there. `NoMain` stands behind the last node.
+    /// The first demand that isn't met: its node, by its number in pre-order, and what is wrong there. `NoMain` stands behind the last
+    /// node.
     Fault { node: u64, kind: TypeKind },
     /// Memory ran out.
     Memory,

@@ -17,7 +17,8 @@ escaped_inert [] = refl
 escaped_inert (c ∷ t) = go (c == 38) (c == 60) (c == 62) (c == 34) refl refl refl refl (html_escaped t) (escaped_inert t)
   where
     go : (a b d e : Bool) → (c == 38) ≡ a → (c == 60) ≡ b → (c == 62) ≡ d → (c == 34) ≡ e → (rest : Text) → is_inert rest ≡ true
-        → is_inert (cond a (codes "&amp;") (cond b (codes "&lt;") (cond d (codes "&gt;") (cond e (codes "&quot;") (c ∷ [])))) ++ rest) ≡ true
+        → is_inert (cond a (codes "&amp;") (cond b (codes "&lt;") (cond d (codes "&gt;") (cond e (codes "&quot;") (c ∷ [])))) ++ rest)
+        ≡ true
     go true b d e e38 e60 e62 e34 rest ih = ih
     go false true d e e38 e60 e62 e34 rest ih = ih
     go false false true e e38 e60 e62 e34 rest ih = ih

@@ -19,5 +19,5 @@ text_field shown = codes "<input type=\"hidden\" name=\"as\" value=\"raw\"><text
 
 -- the fields of an editor of another type
 abbrev pub literal_fields : Text → Text → Text
-literal_fields basic shown = codes "<input type=\"hidden\" name=\"as\" value=\"" ++ basic ++ codes "\"><input name=\"value\" value=\"" ++ shown
-    ++ codes "\">"
+literal_fields basic shown =
+    codes "<input type=\"hidden\" name=\"as\" value=\"" ++ basic ++ codes "\"><input name=\"value\" value=\"" ++ shown ++ codes "\">"

@@ -1,4 +1,5 @@
-//! The HTML face of an interface (docs/FORMATS.md, "HTML pages"): fragments, each drawn once for both faces, and pages that are framed of them.
+//! The HTML face of an interface (docs/FORMATS.md, "HTML pages"): fragments, each drawn once for both faces, and pages that are framed of
+//! them.
 #![tactic(auto)]
 
 mod escaping;

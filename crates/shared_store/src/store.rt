@@ -14,8 +14,8 @@ pub struct Overwritten<T> {
     pub value: T,
 }
 
-/// What was done since a layer began: how many values there were, and those of them that were overwritten, oldest first. With these put back,
-/// the last one first, the first values are the layer's list.
+/// What was done since a layer began: how many values there were, and those of them that were overwritten, oldest first. With these put
+/// back, the last one first, the first values are the layer's list.
 #[derive(Drop)]
 pub struct Changes<'s, T> {
     pub count: u64,

@@ -1,5 +1,5 @@
--- What fits a program: stores, slots, environments and trees of their types (docs/RULES.md, "Programs"). Places are referred to at their types
--- in one list, which is given: where several of these stand over one store, one list serves all.
+-- What fits a program: stores, slots, environments and trees of their types (docs/RULES.md, "Programs"). Places are referred to at their
+-- types in one list, which is given: where several of these stand over one store, one list serves all.
 use Rattle.std.specs.Prelude.{◌≡◌, ℕ, true, List, [], ◌∷◌, ◌++◌, drop, Option, None, Some, slice_get}
 use Rattle.task_model.specs.Text.{Text}
 use Rattle.task_model.specs.Basic.{BasicTerm, pair_type}
@@ -54,8 +54,8 @@ BindsAs s None None inner = inner ≡ s
 BindsAs s (Some x) (Some a) inner = inner ≡ bind_value s x a
 BindsAs s x a inner = ⊥
 
--- A cont (a is the type that it takes) or a delay (it takes none) of type b: its body is one of the program's, and its slots fit the names of
--- that body's scope.
+-- A cont (a is the type that it takes) or a delay (it takes none) of type b: its body is one of the program's, and its slots fit the names
+-- of that body's scope.
 pub record LaterHas (c : CheckedTerm) (Σ : List BasicTerm) (k : LaterTerm) (a : Option BasicTerm) (b : BasicTerm) : Type 0 where
   pub body : FullBody
   pub is : full_body_numbered 0 (bodies_in_place c.program) k.body ≡ Some body

@@ -1,4 +1,5 @@
--- The limits of the typing rules: 64 symbols of a type, 200 names in scope, two names of a `case` (docs/LANGUAGE.md, "Types of expressions and tasks").
+-- The limits of the typing rules: 64 symbols of a type, 200 names in scope, two names of a `case` (docs/LANGUAGE.md, "Types of expressions
+-- and tasks").
 use Rattle.std.specs.Prelude.{◌≡◌, ◌≤◌, false, List, [], ◌∷◌, length}
 use Rattle.task_model.specs.Text.{same_text}
 use Rattle.task_model.specs.Basic.{BasicTerm}

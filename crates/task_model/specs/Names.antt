@@ -1,4 +1,5 @@
--- The names in scope with what each stands for, and the definitions that may be called (docs/LANGUAGE.md, "Types of expressions and tasks").
+-- The names in scope with what each stands for, and the definitions that may be called (docs/LANGUAGE.md, "Types of expressions and
+-- tasks").
 use Rattle.std.specs.Prelude.{ℕ, suc, Bool, true, List, [], ◌∷◌, ◌++◌, ◌-◌, length, nat_le, nat_lt, Option, Some, None, if◌then◌else◌}
 use Rattle.std.specs.Option.{option_or}
 use Rattle.task_model.specs.Text.{Text, same_text}

@@ -36,7 +36,8 @@ edit_nodes (full_new x e t) = edit_nodes t
 edit_nodes (full_put x e t) = edit_nodes t
 edit_nodes t = 0
 
--- How many `edit` and `share` nodes stand before each body of a task, in the order in which their texts begin, where n stand before the task.
+-- How many `edit` and `share` nodes stand before each body of a task, in the order in which their texts begin, where n stand before the
+-- task.
 abbrev pub task_firsts : ℕ → FullTask → List ℕ
 task_firsts n (full_step t xs x u) = let m = n + edit_nodes t in task_firsts n t ++ m ∷ task_firsts m u
 task_firsts n (full_and t u) = task_firsts n t ++ task_firsts (n + edit_nodes t) u

@@ -15,8 +15,8 @@ ghost use Rattle.task_model.specs.Offer.{OfferTerm, AreOffers};
 ghost use Rattle.task_model.specs.Widget.{WidgetTerm, AreWidgets};
 ghost use Rattle.task_model.specs.State.{IsState};
 
-/// Every judgement has at most one result, one number of units and one height, and so have tests, a cont applied to a value, sides and trials
-/// with the state that they lead to and whether it is failing, and the handling of inputs.
+/// Every judgement has at most one result, one number of units and one height, and so have tests, a cont applied to a value, sides and
+/// trials with the state that they lead to and whether it is failing, and the handling of inputs.
 pub fn one_result()
     ensures judgements { (c : CheckedTerm) (q : Judgement) → AtMostOne (Derives (rule_of c) q) }
     ensures tests { (c : CheckedTerm) (test : Plan Bool) → AtMostOne (Test c test) }

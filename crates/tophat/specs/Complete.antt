@@ -57,8 +57,8 @@ abbrev pub AnsweredAll : WorldTerm → List Text → Text → Option Text → �
 AnsweredAll w lines before now status =
     ((status ≡ 0) × ((text : Text) × AnswersAll w lines text × (now ≡ Some (before ++ text)))) ⊎ (status ≡ 8)
 
--- Where file, script and what was taken before are told, what a run of them needs is met, and nothing failed, all lines are answered, unless
--- memory ran out.
+-- Where file, script and what was taken before are told, what a run of them needs is met, and nothing failed, all lines are answered,
+-- unless memory ran out.
 abbrev pub Completes : Limits → Option CommandTerm → Option (Option Text) → Option Text → Option Text → Option Text → Type 0 → ℕ → Type 0
 Completes l (Some (run name budget)) (Some (Some bytes)) (Some script) (Some before) now failed status =
     (c : CheckedTerm) (s : State) → IsRunnable l budget bytes script c s → (failed → ⊥)

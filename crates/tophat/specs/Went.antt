@@ -49,8 +49,8 @@ output_faults_after before endings.WriteFault = next_count before
 output_faults_after before ending = before
 
 -- `out` took what is reported, `err` the text of the end, and the status is that of the end. An end by a fault comes only where the count
--- of that object rose, and a count rises, by one, only where the end is that fault. Where no line was run `input` is untouched, and `out` where
--- nothing was to be written.
+-- of that object rose, and a count rises, by one, only where the end is that fault. Where no line was run `input` is untouched, and `out`
+-- where nothing was to be written.
 pub record Went (l : Limits) (command : Option CommandTerm) (holds : Option (Option Text))
     (left_old left_new taken_old taken_new said_old said_new : Option Text)
     (files input out err : Counted) (unread unwritten : Type 0) (status : ℕ) : Type 0 where

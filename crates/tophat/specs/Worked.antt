@@ -54,11 +54,11 @@ AreReported l command file written lines =
     → ReportsLines l command file verdict lines finishes.Memory report
     → report ≡ record { output = written; ending = Ran finishes.Memory }
 
--- The file and the script are those that the objects told, where they tell, and there is a verdict on the command's source. What was written is what is
--- reported by them and by the source's program, and the end is the reported one; or it is the first part of that, and the end is a fault or
--- want of memory. After a fault of the input it is the whole output of the lines that end within the bytes that were read. Where lines
--- were run, none of those that had ended before the last read is bad, and all that is reported of them was written. Memory ran out at no
--- line that is beyond the limit.
+-- The file and the script are those that the objects told, where they tell, and there is a verdict on the command's source. What was
+-- written is what is reported by them and by the source's program, and the end is the reported one; or it is the first part of that, and
+-- the end is a fault or want of memory. After a fault of the input it is the whole output of the lines that end within the bytes that were
+-- read. Where lines were run, none of those that had ended before the last read is bad, and all that is reported of them was written.
+-- Memory ran out at no line that is beyond the limit.
 pub record Worked (l : Limits) (command : Option CommandTerm) (holds : Option (Option Text))
     (left_old left_new taken_old taken_new : Option Text) (ending : Ending) : Type 0 where
   pub file : Option Text

@@ -14,11 +14,11 @@ use std::marker::Brand;
 use std::sync::ledger::Blank;
 use task_model::TaskText;
 
-/// Does what the words of a command line ask for, without the program's own name, where that needs no threads and no sockets, and answers the
-/// status. It always returns.
+/// Does what the words of a command line ask for, without the program's own name, where that needs no threads and no sockets, and answers
+/// the status. It always returns.
 ///
-/// `run FILE` reads the program in FILE, opens it, and runs the script on the input; `check FILE` writes the program's text again; `soak N SEED`
-/// runs inputs of its own (docs/FORMATS.md, "Words" and "Statuses"). A fault of `err` changes no status.
+/// `run FILE` reads the program in FILE, opens it, and runs the script on the input; `check FILE` writes the program's text again;
+/// `soak N SEED` runs inputs of its own (docs/FORMATS.md, "Words" and "Statuses"). A fault of `err` changes no status.
 pub fn plain<F: Files, I: Source, O: Sink, E: Sink>(
     alloc: Global,
     words: &[TaskText],
@@ -31,7 +31,8 @@ pub fn plain<F: Files, I: Source, O: Sink, E: Sink>(
     ensures other { MatchOption result (NeedsMore (command_of words.now)) (λ _. NeedsMore (command_of words.now) → ⊥) }
     ensures untouched { result ≡ None → (files.new ≡ files.old) × (input.new ≡ input.old) × (out.new ≡ out.old) × (err.new ≡ err.old) }
 
-    // What was written to both sinks, and the status. Where no line was run the input is untouched, and where nothing was to be written the output.
+    // What was written to both sinks, and the status. Where no line was run the input is untouched, and where nothing was to be written
+    // the output.
     ensures went { IfSome result (λ status. Went limits (command_of words.now) (F.holds files.old (named (command_of words.now)))
         (I.left input.old) (I.left input.new)
         (O.taken out.old) (O.taken out.new) (E.taken err.old) (E.taken err.new)

@@ -13,8 +13,8 @@ use task_model::TaskText;
 
 /// Does what the words of a command line ask for, without the program's own name, and answers the status.
 ///
-/// `run FILE` reads the program in FILE, opens it, and runs the script on the input; `check FILE` writes the program's text again; `soak N SEED`
-/// runs inputs of its own (docs/FORMATS.md, "Words" and "Statuses"). A fault of `err` changes no status.
+/// `run FILE` reads the program in FILE, opens it, and runs the script on the input; `check FILE` writes the program's text again;
+/// `soak N SEED` runs inputs of its own (docs/FORMATS.md, "Words" and "Statuses"). A fault of `err` changes no status.
 pub fn tophat<F: Files, I: Source, O: Sink, E: Sink>(
     alloc: Global,
     words: &[TaskText],
@@ -23,7 +23,8 @@ pub fn tophat<F: Files, I: Source, O: Sink, E: Sink>(
     out: &mut O,
     err: &mut E,
 ) -> u8
-    // What was written to both sinks, and the status. Where no line was run the input is untouched, and where nothing was to be written the output.
+    // What was written to both sinks, and the status. Where no line was run the input is untouched, and where nothing was to be written
+    // the output.
     ensures went { Went limits (command_of words.now) (F.holds files.old (named (command_of words.now))) (I.left input.old)
         (I.left input.new)
         (O.taken out.old) (O.taken out.new) (E.taken err.old) (E.taken err.new)

@@ -1,4 +1,5 @@
-//! What checking comes to: tables of programs with their first faults, by hand. Tests alone, but for `checked_text`, which bench/cases calls.
+//! What checking comes to: tables of programs with their first faults, by hand. Tests alone, but for `checked_text`, which bench/cases
+//! calls.
 #![tactic(auto)]
 
 mod checks;

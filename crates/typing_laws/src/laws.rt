@@ -80,7 +80,8 @@ pub fn tree_values_have_the_type()
         value_of s.tree s.store ≡ Some v → value_has v b ≡ true }
 {}
 
-/// What fits over a list of the places' types fits over one that it has grown to: the list of a fitting store serves all that fitted before.
+/// What fits over a list of the places' types fits over one that it has grown to: the list of a fitting store serves all that fitted
+/// before.
 pub fn grown_lists_serve()
     ensures names { (Σ Σ' : List BasicTerm) (env : EnvTerm) (s : List ParamTerm) → Grows Σ Σ' → EnvHas Σ env s → EnvHas Σ' env s }
     ensures conts { (c : CheckedTerm) (Σ Σ' : List BasicTerm) (k : LaterTerm) (a : Option BasicTerm) (b : BasicTerm) → Grows Σ Σ' →

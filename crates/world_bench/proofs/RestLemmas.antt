@@ -54,7 +54,8 @@ rest_all old new (e ∷ es) (r ∷ rs) a h = rest_all a.0 new es rs a.2 (rest_re
 rest_all old new [] (r ∷ rs) a h = absurd a
 rest_all old new (e ∷ es) [] a h = absurd a
 
-rest_run : (old new : WorldTerm) (es : List EntryTerm) (r : Result (Rowed Reply) RunStop) → Runs old es new r → old.next ≡ None → new.next ≡ None
+rest_run : (old new : WorldTerm) (es : List EntryTerm) (r : Result (Rowed Reply) RunStop) → Runs old es new r
+    → old.next ≡ None → new.next ≡ None
 rest_run old new es (Ok row) a h = rest_all old new es row.list a h
 rest_run old new es (Err stop) a h = rest_all old new a.0 stop.done.list a.4 h
 

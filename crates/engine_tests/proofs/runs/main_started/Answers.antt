@@ -9,4 +9,5 @@ use Rattle.engine_tests.proofs.runs.main_started.Goals as goal
 pub started-requires : goal.started-requires
 started-requires c =
     main_may (checked_term c.args.engine.now) (task_term c.in_ok-call.call) (names_term c.of_params-names.result) _
-    (rw c.checked.ensures at c.program-accepted.ensures.accepted) c.in_ok-call.ensures c.of_params-names.ensures (ap (map value_term) c.requires)
+    (rw c.checked.ensures at c.program-accepted.ensures.accepted) c.in_ok-call.ensures c.of_params-names.ensures
+    (ap (map value_term) c.requires)

@@ -13,6 +13,7 @@ settle-requires c = record { may = fits_settles c.requires }
 
 pub returns : goal.returns
 returns c =
-    led (Fits (checked_term c.args.engine.now)) _ (λ (u : Tree). at (tree_term u) (map value_term c.settle.new.store.list)) _ _ c.settle.result
+    led (Fits (checked_term c.args.engine.now)) _ (λ (u : Tree). at (tree_term u) (map value_term c.settle.new.store.list))
+    _ _ c.settle.result
     (settled_fits (checked_term c.args.engine.now) (rw c.checked.ensures at c.program-accepted.ensures.accepted)
     (at (tree_term c.args.t) (map value_term c.args.store.now.list)) c.requires) c.settle.ensures.spends
