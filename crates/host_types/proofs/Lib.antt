@@ -1,7 +1,6 @@
 pub mod ListLemmas
 pub mod ScopeLemmas
 pub mod TypeLemmas
-pub mod Weights
 pub mod TypingLemmas
 pub mod MetLemmas
 pub mod TaskTypingLemmas

@@ -14,4 +14,3 @@ pub mod SpelledLiterals
 pub mod TaskPlaces
 pub mod TaskProductions
 pub mod TokenLines
-pub mod Weights

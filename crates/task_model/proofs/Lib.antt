@@ -10,3 +10,4 @@ pub mod RanLemmas
 pub mod DemandLemmas
 pub mod BodyCounts
 pub mod BodyLemmas
+pub mod Weights

@@ -1,5 +1,6 @@
 //! The commands of the program: the words, the file and the script that come in, what is written, and how it ends.
-//! `tophat` is the top call: bytes in, bytes out, and the status. `plain` does the commands that need no threads and no sockets. `open_bytes` is the way from the bytes of a program to its world.
+//! `tophat` is the top call: bytes in, bytes out, and the status. `plain` does the commands that need no threads and no sockets.
+//! `open_bytes` is the way from the bytes of a program to its world.
 #![tactic(auto)]
 
 mod commands;

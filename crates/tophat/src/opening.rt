@@ -12,8 +12,8 @@ use std::sync::ledger::Ledger;
 use task_model::{Checked, Steps};
 use world_core::{OpenStop, World};
 
-/// Opens the program of these bytes within a budget of 1 to 1,000,000 units, or says why they have no world: the first fault of their text or of
-/// the program's types, an opening over the budget, or want of memory.
+/// Opens the program of these bytes within a budget of 1 to 1,000,000 units, or says why they have no world: the first fault of their text
+/// or of the program's types, an opening over the budget, or want of memory.
 pub fn open_bytes<L: Ledger>(
     alloc: Global,
     bytes: &[u8],

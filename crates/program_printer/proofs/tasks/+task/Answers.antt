@@ -1,5 +1,5 @@
 use Rattle.std.proofs.Common.{arith}
-use Rattle.program_printer.proofs.Weights.{weight-later}
+use Rattle.task_model.proofs.Weights.{weight-later}
 use Rattle.program_printer.proofs.tasks.+task.Goals as goal
 
 pub write_body-write_task-requires : goal.write_body-write_task-requires

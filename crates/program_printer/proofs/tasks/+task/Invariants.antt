@@ -1,6 +1,6 @@
 use Rattle.std.proofs.Common.{◌+◌, ◌*◌, max}
 use Rattle.task_model.specs.declared.task.Task.{size-Task}
-use Rattle.program_printer.proofs.Weights.{weight}
+use Rattle.task_model.proofs.Weights.{weight}
 use Rattle.program_printer.proofs.tasks.+task.Given as goal
 
 abbrev pub decreases-write_task : goal.decreases-write_task

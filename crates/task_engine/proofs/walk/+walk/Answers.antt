@@ -1,5 +1,5 @@
 use Rattle.std.proofs.Common.{arith}
-use Rattle.host_types.proofs.Weights.{weight-later}
+use Rattle.task_model.proofs.Weights.{weight-later}
 use Rattle.task_engine.proofs.walk.+walk.Goals as goal
 
 pub walk_step-walk_body-requires : goal.walk_step-walk_body-requires

@@ -1,6 +1,6 @@
 use Rattle.std.proofs.Common.{◌+◌, ◌*◌, max}
 use Rattle.task_model.specs.declared.task.Task.{size-Task}
-use Rattle.host_types.proofs.Weights.{weight}
+use Rattle.task_model.proofs.Weights.{weight}
 use Rattle.task_engine.proofs.walk.+walk.Given as goal
 
 abbrev pub decreases-walk : goal.decreases-walk
