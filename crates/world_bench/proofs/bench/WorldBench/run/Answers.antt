@@ -1,4 +1,4 @@
-use Rattle.world_bench.proofs.bench.WorldBench.run.Given as goal
+use Rattle.world_bench.proofs.bench.WorldBench.run.Goals as goal
 use Rattle.world_bench.proofs.RestLemmas.{rest_ran}
 
 abbrev pub invariant_of-self : goal.invariant_of-self
