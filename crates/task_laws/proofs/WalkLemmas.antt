@@ -9,9 +9,9 @@ use Rattle.task_model.specs.Checked.{Start, starts_in, nodes_of}
 use Rattle.task_model.specs.Grammar.{Form, task, series, choice, chain, internal, external, Parse, task_let, task_if, task_case, task_new, task_put, task_plain, task_then, task_next, task_edit, task_enter, task_share, task_fail, task_call, task_group, single, joined}
 use Rattle.task_model.specs.Meaning.{meaning, bodies, bodies_of}
 use Rattle.task_model.specs.Placed.{edit_nodes, task_firsts}
-use Rattle.task_laws.proofs.ParseLemmas.{IsTask, term_at, whole}
+use Rattle.task_laws.proofs.ParseLemmas.{IsTask, term_at, whole, body_of}
 use Rattle.task_laws.proofs.CountLemmas.{lists_head}
-use Rattle.task_laws.proofs.StartLemmas.{Known, known_first, known_second, Walked, Right, Stands, stands_first, stands_tail, halves, parts, right_starts, stay, composed, relisted, passed}
+use Rattle.task_laws.proofs.StartLemmas.{Known, known_first, known_second, Walked, Right, Stands, stands_tail, halves, parts, sides, right_starts, stay, composed, relisted, passed}
 
 module _ (program : ProgramTerm) (table : List ℕ) where
   -- the bodies from one number to another are passed
@@ -65,11 +65,7 @@ module _ (program : ProgramTerm) (table : List ℕ) where
       relisted program table ss next m _ _ after (append_assoc (bodies_of t xs next) (bodies_of u ys l) after)
       (composed program table ss next l m (bodies_of t xs next ++ mid) mid after w v)
 
-  -- the body of number l, whose task is this
-  abbrev body_of : {g : Form} → Parse g → List Text → Option Text → ℕ → BodyTerm
-  body_of {g} u xs o l = record { scope = xs; binder = o; task = term_at g (meaning u) (suc l) }
-
-  -- a task, and then such a body and those inside it
+  -- a task, and then a body of number l and those inside it
   parts_passed : {f g : Form} (t : Parse f) → IsTask f → (u : Parse g) → IsTask g → (xs ys : List Text) (o : Option Text) (next l : ℕ)
       → l ≡ next + bodies t → Passes t xs next → Passes u ys (suc l) → (n : ℕ) (after : List BodyTerm) (m : ℕ) → m ≡ suc l + bodies u
       → Stands program table next ((bodies_of t xs next ++ body_of u xs o l ∷ bodies_of u ys (suc l)) ++ after)
@@ -109,14 +105,14 @@ module _ (program : ProgramTerm) (table : List ℕ) where
       let more = body_of u xs None l ∷ bodies_of u xs (suc l) in
       let all = (first ++ more) ++ after in
       let v = n + edit_nodes (whole t xs) in
-      let ms = v ∷ task_firsts v (whole u xs) in
-      let ns = task_firsts n (whole t xs) ++ ms in
-      let tail = stands_tail program table next left all n ns s in
-      let z = passed program table left all ss next n (cov next (inl refl)) a (lists_head table next n ns s.2)
+      let ns = task_firsts n (whole t xs) in
+      let k = sides program table t p u xs next n after s in
+      let z = passed program table left all ss next n (cov next (inl refl)) a (lists_head table next n ns k.0.2)
       (right_starts program table t tt xs (suc next) n (more ++ after)
-      (stands_first program table (suc next) first more after (task_firsts n (whole t xs)) ms tail)) in
+      (stands_tail program table next left (first ++ (more ++ after)) n ns k.0)) in
       composed program table ss next (suc next) m (left ∷ all) all after z.0
-      (parts_passed t tt u tt xs xs None (suc next) l (omega arith) one two n after m (omega (arith, is)) tail z.0.starts z.0.right z.1
+      (parts_passed t tt u tt xs xs None (suc next) l (omega arith) one two n after m (omega (arith, is))
+      (stands_tail program table next left all n (ns ++ v ∷ task_firsts v (whole u xs)) s) z.0.starts z.0.right z.1
       (z.0.keeps l (cov l (inr (inl refl)))))
 
   no_body_passed : (next n : ℕ) → Passing next 0 [] [] []
