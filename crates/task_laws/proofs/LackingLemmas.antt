@@ -21,6 +21,7 @@ use Rattle.task_model.specs.declared.widget.Sign.TheVariants as signs
 use Rattle.task_model.proofs.PlanLemmas.{work_after, after_work}
 use Rattle.task_model.proofs.SignLemmas.{sign_failing}
 use Rattle.task_laws.proofs.FailingLemmas.{test_of}
+use Rattle.task_laws.proofs.LikeLemmas.{in_turn}
 use Rattle.task_laws.proofs.OfferListLemmas.{Matches, offered_some}
 
 module _ (c : CheckedTerm) (budget : ℕ) where
@@ -92,28 +93,7 @@ module _ (c : CheckedTerm) (budget : ℕ) where
       → plan_work (Derives (rule_of c)) (asks f o i ss σ) x n h → plan_work (Derives (rule_of c)) (asks g o i ss σ) y n h
   answered f g x y on None i ss σ n h d = absurd d
   answered f g x y on (Some b) i ss σ n h d =
-      let e = d.two in
-      record {
-        middle = d.middle;
-        n1 = d.n1;
-        h1 = d.h1;
-        n2 = d.n2;
-        h2 = d.h2;
-        one = d.one;
-        two = record {
-          middle = e.middle;
-          n1 = e.n1;
-          h1 = e.h1;
-          n2 = e.n2;
-          h2 = e.h2;
-          one = e.one;
-          two = on d.middle e.middle e.n2 e.h2 e.two;
-          units = e.units;
-          height = e.height;
-        };
-        units = d.units;
-        height = d.height;
-      }
+      in_turn d d.middle d.one (in_turn d.two d.two.middle d.two.one (on d.middle d.two.middle d.two.n2 d.two.h2 d.two.two))
 
   abbrev keeps : State → Bool → Plan (Option State)
   keeps s b = branch b (give None) (give (Some s))
