@@ -206,7 +206,8 @@ module _ (program : ProgramTerm) (table : List ℕ) where
   -- the sides of choices are bodies without a binder
   abbrev pub Unbound : {f : Form} → Parse f → List Text → ℕ → Type 0
   Unbound {f} d xs next = (n : ℕ) (after : List BodyTerm)
-      → Stands program table next (bodies_of d xs next ++ after) (task_firsts n (whole d xs)) → SidesBindNothing program (term_at f (meaning d) next)
+      → Stands program table next (bodies_of d xs next ++ after) (task_firsts n (whole d xs))
+      → SidesBindNothing program (term_at f (meaning d) next)
 
   halves_bind : {f g : Form} (t : Parse f) → IsTask f → (u : Parse g) (xs ys : List Text) (next : ℕ) → Unbound t xs next
       → Unbound u ys (next + bodies t) → (n : ℕ) (after : List BodyTerm)
