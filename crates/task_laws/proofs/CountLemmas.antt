@@ -4,11 +4,11 @@ use Rattle.std.specs.Prelude.{Some, None, slice_get, unwrap_or}
 use Rattle.task_model.specs.Text.{Text}
 use Rattle.task_model.specs.Task.{BodyTerm}
 use Rattle.task_model.specs.Checked.{nodes_in, body_nodes, counts_from}
-use Rattle.task_model.specs.Grammar.{Form, choice, chain, internal, external, Parse, task_let, task_if, task_case, task_new, task_put, task_plain, task_then, task_next, task_edit, task_enter, task_share, task_fail, task_call, task_group, single, joined}
+use Rattle.task_model.specs.Grammar.{Form, task, series, choice, chain, internal, external, Parse, task_let, task_if, task_case, task_new, task_put, task_plain, task_then, task_next, task_edit, task_enter, task_share, task_fail, task_call, task_group, single, joined}
 use Rattle.task_model.specs.Meaning.{meaning, bodies, bodies_of}
 use Rattle.task_model.specs.Placed.{edit_nodes, task_firsts}
 use Rattle.task_model.proofs.BodyCounts.{two, bodies_count}
-use Rattle.task_laws.proofs.ParseLemmas.{IsTask, term_at, whole, both, Finds, finds_first, finds_second}
+use Rattle.task_laws.proofs.ParseLemmas.{IsTask, term_at, whole, body_of, both, Finds, finds_first, finds_second}
 
 -- ---- counts by their numbers
 pub count_passed : (n : ℕ) (b : BodyTerm) (bs : List BodyTerm) (j : ℕ) → suc n ≤ j
@@ -58,45 +58,47 @@ module _ (all : List BodyTerm) where
       let e : next - next ≡ 0 = omega arith in h next (le_refl next) ∙ ap (λ k. slice_get (b ∷ bs) k) e
 
 -- a task has as many `edit` and `share` nodes as are counted
-pub counted : {f : Form} (d : Parse f) → IsTask f → (xs : List Text) (next : ℕ) (after : List BodyTerm) (i : ℕ) (cs : List ℕ)
-    → Counts i cs next (bodies_of d xs next ++ after) → nodes_in cs i (term_at f (meaning d) next) ≡ edit_nodes (whole d xs)
+abbrev pub IsCounted : {f : Form} → Parse f → List Text → ℕ → Type 0
+IsCounted {f} d xs next = (after : List BodyTerm) (i : ℕ) (cs : List ℕ) → Counts i cs next (bodies_of d xs next ++ after)
+    → nodes_in cs i (term_at f (meaning d) next) ≡ edit_nodes (whole d xs)
+
+halves_counted : {f g : Form} (t : Parse f) (u : Parse g) (xs ys : List Text) (next : ℕ) → IsCounted t xs next
+    → IsCounted u ys (next + bodies t) → (after : List BodyTerm) (i : ℕ) (cs : List ℕ)
+    → Counts i cs next ((bodies_of t xs next ++ bodies_of u ys (next + bodies t)) ++ after)
+    → nodes_in cs i (term_at f (meaning t) next) + nodes_in cs i (term_at g (meaning u) (next + bodies t))
+    ≡ edit_nodes (whole t xs) + edit_nodes (whole u ys)
+halves_counted t u xs ys next one two after i cs k =
+    let many = bodies_count t xs next in
+    let m = next + bodies t in
+    let inner = bodies_of u ys m in
+    both (λ y z. y + z) (one (inner ++ after) i cs (counts_first i cs next (bodies_of t xs next) inner after k))
+    (two after i cs (counts_second i cs next m (bodies_of t xs next) inner after (omega (arith, many)) k))
+
+step_counted : (t : Parse (series choice)) (p : ℕ) (x : Text) (q r : ℕ) (u : Parse task) (xs : List Text) (next : ℕ)
+    → IsCounted t xs next → IsCounted u (xs ++ x ∷ []) (suc (next + bodies t)) → IsCounted (task_then t p x q r u) xs next
+step_counted t p x q r u xs next one two after i cs k =
+    let many = bodies_count t xs next in
+    let m = next + bodies t in
+    let b = body_of u xs (Some x) m in
+    let inner = bodies_of u (xs ++ x ∷ []) (suc m) in
+    let there = counts_second i cs next m (bodies_of t xs next) (b ∷ inner) after (omega (arith, many)) k in
+    both (λ y z. y + z) (one (b ∷ inner ++ after) i cs (counts_first i cs next (bodies_of t xs next) (b ∷ inner) after k))
+    (there m (le_refl m) ∙ count_here m b (inner ++ after) ∙ two after (suc m) (counts_from (suc m) (inner ++ after)) (λ j le. refl))
+
+pub counted : {f : Form} (d : Parse f) → IsTask f → (xs : List Text) (next : ℕ) → IsCounted d xs next
 counted (task_let p x q r e s t) h xs next after i cs k = counted t tt _ next after i cs k
 counted (task_if p e q t r u) h xs next after i cs k =
-    let many = bodies_count t xs next in
-    let m = next + bodies t in
-    both (λ y z. y + z)
-    (counted t tt xs next _ i cs (counts_first i cs next (bodies_of t xs next) (bodies_of u xs m) after k))
-    (counted u tt xs m after i cs (counts_second i cs next m (bodies_of t xs next) (bodies_of u xs m) after (omega (arith, many)) k))
+    halves_counted t u xs xs next (counted t tt xs next) (counted u tt xs (next + bodies t)) after i cs k
 counted (task_case p e q r s a t b x i' j y k' c u) h xs next after i cs k =
-    let many = bodies_count t xs next in
-    let m = next + bodies t in
-    let inner = bodies_of u (xs ++ x ∷ y ∷ []) m in
-    both (λ y z. y + z)
-    (counted t tt xs next _ i cs (counts_first i cs next (bodies_of t xs next) inner after k))
-    (counted u tt (xs ++ x ∷ y ∷ []) m after i cs (counts_second i cs next m (bodies_of t xs next) inner after (omega (arith, many)) k))
+    let ys = xs ++ x ∷ y ∷ [] in
+    halves_counted t u xs ys next (counted t tt xs next) (counted u tt ys (next + bodies t)) after i cs k
 counted (task_new p x q r e s t) h xs next after i cs k = counted t tt _ next after i cs k
 counted (task_put x p q e r t) h xs next after i cs k = counted t tt xs next after i cs k
 counted (task_plain t) h xs next after i cs k = counted t tt xs next after i cs k
 counted (task_then t p x q r u) h xs next after i cs k =
-    let many = bodies_count t xs next in
-    let m = next + bodies t in
-    let b : BodyTerm = record { scope = xs; binder = Some x; task = meaning u (suc m) } in
-    let inner = bodies_of u (xs ++ x ∷ []) (suc m) in
-    let there = counts_second i cs next m (bodies_of t xs next) (b ∷ inner) after (omega (arith, many)) k in
-    both (λ y z. y + z)
-    (counted t tt xs next _ i cs (counts_first i cs next (bodies_of t xs next) (b ∷ inner) after k))
-    (there m (le_refl m) ∙ count_here m b (inner ++ after)
-    ∙ counted u tt (xs ++ x ∷ []) (suc m) after (suc m) (counts_from (suc m) (inner ++ after)) (λ j le. refl))
+    step_counted t p x q r u xs next (counted t tt xs next) (counted u tt (xs ++ x ∷ []) (suc (next + bodies t))) after i cs k
 counted (task_next t p x q r u) h xs next after i cs k =
-    let many = bodies_count t xs next in
-    let m = next + bodies t in
-    let b : BodyTerm = record { scope = xs; binder = Some x; task = meaning u (suc m) } in
-    let inner = bodies_of u (xs ++ x ∷ []) (suc m) in
-    let there = counts_second i cs next m (bodies_of t xs next) (b ∷ inner) after (omega (arith, many)) k in
-    both (λ y z. y + z)
-    (counted t tt xs next _ i cs (counts_first i cs next (bodies_of t xs next) (b ∷ inner) after k))
-    (there m (le_refl m) ∙ count_here m b (inner ++ after)
-    ∙ counted u tt (xs ++ x ∷ []) (suc m) after (suc m) (counts_from (suc m) (inner ++ after)) (λ j le. refl))
+    step_counted t p x q r u xs next (counted t tt xs next) (counted u tt (xs ++ x ∷ []) (suc (next + bodies t))) after i cs k
 counted (task_edit p e) h xs next after i cs k = refl
 counted (task_enter p b) h xs next after i cs k = refl
 counted (task_share p x q) h xs next after i cs k = refl
@@ -106,16 +108,12 @@ counted (task_group p t q) h xs next after i cs k = counted t tt xs next after i
 counted (single choice t) h xs next after i cs k = counted t tt xs next after i cs k
 counted (single chain t) h xs next after i cs k = counted t tt xs next after i cs k
 counted (joined choice t internal p u) h xs next after i cs k =
-    let many = bodies_count t xs next in
-    let m = next + bodies t in
-    both (λ y z. y + z)
-    (counted t tt xs next _ i cs (counts_first i cs next (bodies_of t xs next) (bodies_of u xs m) after k))
-    (counted u tt xs m after i cs (counts_second i cs next m (bodies_of t xs next) (bodies_of u xs m) after (omega (arith, many)) k))
+    halves_counted t u xs xs next (counted t tt xs next) (counted u tt xs (next + bodies t)) after i cs k
 counted (joined choice t external p u) h xs next after i cs k =
     let many = bodies_count t xs (suc next) in
     let m = suc (next + bodies t) in
-    let left : BodyTerm = record { scope = xs; binder = None; task = meaning t (suc next) } in
-    let right : BodyTerm = record { scope = xs; binder = None; task = meaning u (suc m) } in
+    let left = body_of t xs None next in
+    let right = body_of u xs None m in
     let first = bodies_of t xs (suc next) in
     let second = bodies_of u xs (suc m) in
     let there = counts_second i cs next m (left ∷ first) (right ∷ second) after (omega (arith, many)) k in
@@ -127,11 +125,7 @@ counted (joined choice t external p u) h xs next after i cs k =
     (there m (le_refl m) ∙ count_here m right (second ++ after)
     ∙ counted u tt xs (suc m) after (suc m) (counts_from (suc m) (second ++ after)) (λ j le. refl))
 counted (joined chain t o p u) h xs next after i cs k =
-    let many = bodies_count t xs next in
-    let m = next + bodies t in
-    both (λ y z. y + z)
-    (counted t tt xs next _ i cs (counts_first i cs next (bodies_of t xs next) (bodies_of u xs m) after k))
-    (counted u tt xs m after i cs (counts_second i cs next m (bodies_of t xs next) (bodies_of u xs m) after (omega (arith, many)) k))
+    halves_counted t u xs xs next (counted t tt xs next) (counted u tt xs (next + bodies t)) after i cs k
 counted d h xs next after i cs k = absurd h
 
 -- there is an entry for each body of a task
@@ -144,13 +138,9 @@ firsts_long (task_new p x q r e s t) h xs n = firsts_long t tt _ n
 firsts_long (task_put x p q e r t) h xs n = firsts_long t tt xs n
 firsts_long (task_plain t) h xs n = firsts_long t tt xs n
 firsts_long (task_then t p x q r u) h xs n =
-    let m = n + edit_nodes (whole t xs) in
-    two (task_firsts n (whole t xs)) (m ∷ task_firsts m (whole u (xs ++ x ∷ []))) (firsts_long t tt xs n)
-    (ap suc (firsts_long u tt (xs ++ x ∷ []) m))
+    two _ _ (firsts_long t tt xs n) (ap suc (firsts_long u tt (xs ++ x ∷ []) (n + edit_nodes (whole t xs))))
 firsts_long (task_next t p x q r u) h xs n =
-    let m = n + edit_nodes (whole t xs) in
-    two (task_firsts n (whole t xs)) (m ∷ task_firsts m (whole u (xs ++ x ∷ []))) (firsts_long t tt xs n)
-    (ap suc (firsts_long u tt (xs ++ x ∷ []) m))
+    two _ _ (firsts_long t tt xs n) (ap suc (firsts_long u tt (xs ++ x ∷ []) (n + edit_nodes (whole t xs))))
 firsts_long (task_edit p e) h xs n = refl
 firsts_long (task_enter p b) h xs n = refl
 firsts_long (task_share p x q) h xs n = refl

@@ -1,5 +1,5 @@
 -- Plans of inputs that come to nothing within a budget: at editors, and where what is tested is failing.
-use Rattle.std.proofs.Common.{◌≡◌, ℕ, ◌+◌, max, Bool, true, false, List, [], ◌∷◌, Option, Some, None, refl, sym, subst, arith}
+use Rattle.std.proofs.Common.{◌≡◌, ℕ, Bool, true, false, List, [], ◌∷◌, Option, Some, None, refl, sym, subst, arith}
 use Rattle.std.specs.Prelude.{◌⊎◌, slice_get}
 use mathlib.Core.Logic.{inl, inr}
 use Rattle.task_model.specs.Basic.{BasicTerm}
@@ -9,7 +9,6 @@ use Rattle.task_model.specs.Task.{BodyTerm}
 use Rattle.task_model.specs.Tree.{TreeTerm, State}
 use Rattle.task_model.specs.Input.{ActTerm, set_act, next_act, left_act, right_act}
 use Rattle.task_model.specs.Checked.{CheckedTerm}
-use Rattle.task_model.specs.Work.{gives}
 use Rattle.task_model.specs.Plan.{fails, normal, Plan, give, ask, known, plan_work, Derives}
 use Rattle.task_model.specs.Rules.{branch, opened_env, rule_of}
 use Rattle.task_model.specs.Judgements.{IsWithinBudget}
@@ -22,6 +21,7 @@ use Rattle.task_model.specs.declared.widget.Sign.TheVariants as signs
 use Rattle.task_model.proofs.PlanLemmas.{work_after, after_work}
 use Rattle.task_model.proofs.SignLemmas.{sign_failing}
 use Rattle.task_laws.proofs.FailingLemmas.{test_of}
+use Rattle.task_laws.proofs.LikeLemmas.{in_turn}
 use Rattle.task_laws.proofs.OfferListLemmas.{Matches, offered_some}
 
 module _ (c : CheckedTerm) (budget : ℕ) where
@@ -83,88 +83,38 @@ module _ (c : CheckedTerm) (budget : ℕ) where
   abbrev TestFails : ℕ → List SlotTerm → List ValueTerm → Type 0
   TestFails i ss σ = (n : ℕ) × (h : ℕ) × Test c (test_of c i ss σ) true n h × IsWithinBudget budget n h
 
-  abbrev tries : Option BodyTerm → ℕ → List SlotTerm → List ValueTerm → Plan Bool
-  tries o i ss σ = known o (λ b. ask (normal b.task (opened_env c i b ss) σ) (λ s. ask (fails s) (λ no. give no)))
+  -- what asks whether a body is failing, and goes on by the answer
+  abbrev asks : {X : Type 0} → (State → Bool → Plan X) → Option BodyTerm → ℕ → List SlotTerm → List ValueTerm → Plan X
+  asks f o i ss σ = known o (λ b. ask (normal b.task (opened_env c i b ss) σ) (λ s. ask (fails s) (λ no. f s no)))
 
-  abbrev keeps : Option BodyTerm → ℕ → List SlotTerm → List ValueTerm → Plan (Option State)
-  keeps o i ss σ = known o
-      (λ b. ask (normal b.task (opened_env c i b ss) σ) (λ s. ask (fails s) (λ no. branch no (give None) (give (Some s)))))
+  answered : {X Y : Type 0} (f : State → Bool → Plan X) (g : State → Bool → Plan Y) (x : X) (y : Y)
+      → ((s : State) (b : Bool) (n h : ℕ) → plan_work (Derives (rule_of c)) (f s b) x n h → plan_work (Derives (rule_of c)) (g s b) y n h)
+      → (o : Option BodyTerm) (i : ℕ) (ss : List SlotTerm) (σ : List ValueTerm) (n h : ℕ)
+      → plan_work (Derives (rule_of c)) (asks f o i ss σ) x n h → plan_work (Derives (rule_of c)) (asks g o i ss σ) y n h
+  answered f g x y on None i ss σ n h d = absurd d
+  answered f g x y on (Some b) i ss σ n h d =
+      in_turn d d.middle d.one (in_turn d.two d.two.middle d.two.one (on d.middle d.two.middle d.two.n2 d.two.h2 d.two.two))
 
-  none_failing : (o : Option BodyTerm) (i : ℕ) (ss : List SlotTerm) (σ : List ValueTerm) (n h : ℕ) → W (keeps o i ss σ) None n h
-      → Test c (tries o i ss σ) true n h
-  none_failing None i ss σ n h d = absurd d
-  none_failing (Some b) i ss σ n h d =
-      record {
-        middle = d.middle;
-        n1 = d.n1;
-        h1 = d.h1;
-        n2 = d.n2;
-        h2 = d.h2;
-        one = d.one;
-        two = by_answer d.middle d.n2 d.h2 d.two.middle d.two.n1 d.two.h1 d.two.n2 d.two.h2 d.two.one d.two.two d.two.units d.two.height;
-        units = d.units;
-        height = d.height;
-      }
-    where
-      by_answer : (s : State) (n h : ℕ) (m : Bool) (n1 h1 n2 h2 : ℕ) → Derives (rule_of c) (fails s) m n1 h1
-          → W (branch m (give None) (give (Some s))) None n2 h2 → n ≡ n1 + n2 → h ≡ max h1 h2 → Test c (ask (fails s) give) true n h
-      by_answer s n h true n1 h1 n2 h2 one two u g = record {
-        middle = true;
-        n1 = n1;
-        h1 = h1;
-        n2 = n2;
-        h2 = h2;
-        one = one;
-        two = record {
-          value = refl;
-          units = two.units;
-          height = two.height;
-        };
-        units = u;
-        height = g;
-      }
-      by_answer s n h false n1 h1 n2 h2 one two u g = let e = two.value in absurd (cc)
+  abbrev keeps : State → Bool → Plan (Option State)
+  keeps s b = branch b (give None) (give (Some s))
 
-  failing_none : (o : Option BodyTerm) (i : ℕ) (ss : List SlotTerm) (σ : List ValueTerm) (n h : ℕ) → Test c (tries o i ss σ) true n h
-      → W (keeps o i ss σ) None n h
-  failing_none None i ss σ n h d = absurd d
-  failing_none (Some b) i ss σ n h d =
-      record {
-        middle = d.middle;
-        n1 = d.n1;
-        h1 = d.h1;
-        n2 = d.n2;
-        h2 = d.h2;
-        one = d.one;
-        two = by_answer d.middle d.n2 d.h2 d.two.middle d.two.n1 d.two.h1 d.two.n2 d.two.h2 d.two.one d.two.two d.two.units d.two.height;
-        units = d.units;
-        height = d.height;
-      }
-    where
-      by_answer : (s : State) (n h : ℕ) (m : Bool) (n1 h1 n2 h2 : ℕ) → Derives (rule_of c) (fails s) m n1 h1 → gives m true n2 h2
-          → n ≡ n1 + n2 → h ≡ max h1 h2 → W (ask (fails s) (λ no. branch no (give None) (give (Some s)))) None n h
-      by_answer s n h true n1 h1 n2 h2 one two u g = record {
-        middle = true;
-        n1 = n1;
-        h1 = h1;
-        n2 = n2;
-        h2 = h2;
-        one = one;
-        two = record {
-          value = refl;
-          units = two.units;
-          height = two.height;
-        };
-        units = u;
-        height = g;
-      }
-      by_answer s n h false n1 h1 n2 h2 one two u g = let e = two.value in absurd (cc)
+  none_failing : (s : State) (b : Bool) (n h : ℕ) → W (keeps s b) None n h → Test c (give b) true n h
+  none_failing s true n h d = record { value = refl; units = d.units; height = d.height }
+  none_failing s false n h d = let e = d.value in absurd (cc)
+
+  failing_none : (s : State) (b : Bool) (n h : ℕ) → Test c (give b) true n h → W (keeps s b) None n h
+  failing_none s true n h d = record { value = refl; units = d.units; height = d.height }
+  failing_none s false n h d = let e = d.value in absurd (cc)
 
   lacks_fails : (i : ℕ) (ss : List SlotTerm) (σ : List ValueTerm) → Lacking (unless_failing c i ss σ) → TestFails i ss σ
-  lacks_fails i ss σ d = (d.0, d.1, none_failing (slice_get c.program.bodies i) i ss σ d.0 d.1 d.2, d.3)
+  lacks_fails i ss σ d =
+      let o = slice_get c.program.bodies i in
+      (d.0, d.1, answered keeps (λ s no. give no) None true none_failing o i ss σ d.0 d.1 d.2, d.3)
 
   fails_lacks : (i : ℕ) (ss : List SlotTerm) (σ : List ValueTerm) → TestFails i ss σ → Lacking (unless_failing c i ss σ)
-  fails_lacks i ss σ d = (d.0, d.1, failing_none (slice_get c.program.bodies i) i ss σ d.0 d.1 d.2, d.3)
+  fails_lacks i ss σ d =
+      let o = slice_get c.program.bodies i in
+      (d.0, d.1, answered (λ s no. give no) keeps true None failing_none o i ss σ d.0 d.1 d.2, d.3)
 
   -- ---- an editor's offer
   if_total : (b : BasicTerm) (v : ValueTerm) (f : ValueTerm → State) → Matches (offered (set_offer b) signs.Yes) [] (set_act v)

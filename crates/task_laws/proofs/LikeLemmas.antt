@@ -3,7 +3,23 @@
 use Rattle.std.proofs.Common.{◌≡◌, ◌↔◌, ℕ, zero, suc, List, refl, sym, subst}
 use Rattle.task_model.specs.Value.{ValueTerm}
 use Rattle.task_model.specs.Tree.{State, at}
+use Rattle.task_model.specs.Work.{Work, then_on}
 use Rattle.task_model.specs.Plan.{Judgement, gives_value, evaluates, fails, strides, settles, normal, Derived, Plan, give, stuck, ask, unit, stride_on, after, StrideList, last_stride, more_strides, Parts, plan_work, derives_at}
+
+-- one and then another, in as many units and as high, where each may be another
+pub in_turn : {A B C D : Type 0} {a : Work A} {b : Work B} {f : A → Work C} {g : B → Work D} {v : C} {w : D} {n h : ℕ}
+    → (d : then_on a f v n h) → (x : B) → b x d.n1 d.h1 → g x w d.n2 d.h2 → then_on b g w n h
+in_turn d x one two = record {
+  middle = x;
+  n1 = d.n1;
+  h1 = d.h1;
+  n2 = d.n2;
+  h2 = d.h2;
+  one = one;
+  two = two;
+  units = d.units;
+  height = d.height;
+}
 
 -- the same judgement over another store
 abbrev pub over : Judgement → List ValueTerm → Judgement
@@ -84,41 +100,15 @@ module _ (Pre : Judgement → List ValueTerm → Type 0) (Post : (q : Judgement)
       work_alike R p p' like_stuck v n h d = absurd d
       work_alike R p p' (like_ask q τ f g a r) v n h d =
           let one = alike q τ a d.middle d.n1 d.h1 d.one in
-          let two = work_alike R (f d.middle) (g (result_over q τ d.middle one.0)) (r d.middle one.0 one.2) v d.n2 d.h2 d.two in (
-            two.0,
-            record {
-              middle = result_over q τ d.middle one.0;
-              n1 = d.n1;
-              h1 = d.h1;
-              n2 = d.n2;
-              h2 = d.h2;
-              one = one.1;
-              two = two.1;
-              units = d.units;
-              height = d.height;
-            },
-            two.2,
-          )
+          let two = work_alike R (f d.middle) (g (result_over q τ d.middle one.0)) (r d.middle one.0 one.2) v d.n2 d.h2 d.two in
+          (two.0, in_turn d (result_over q τ d.middle one.0) one.1 two.1, two.2)
       work_alike R p p' (like_unit p1 p1' r) v n h d =
           let one = work_alike R p1 p1' r v d.less h d.part in
           (one.0, record { less = d.less; part = one.1; units = d.units }, one.2)
       work_alike R p p' (like_strides s τ f g a r) v n h d =
           let one = strides_alike s τ a d.middle d.n1 d.h1 d.one in
-          let two = work_alike R (f d.middle) (g (at d.middle.tree one.0)) (r d.middle one.0 one.2) v d.n2 d.h2 d.two in (
-            two.0,
-            record {
-              middle = at d.middle.tree one.0;
-              n1 = d.n1;
-              h1 = d.h1;
-              n2 = d.n2;
-              h2 = d.h2;
-              one = one.1;
-              two = two.1;
-              units = d.units;
-              height = d.height;
-            },
-            two.2,
-          )
+          let two = work_alike R (f d.middle) (g (at d.middle.tree one.0)) (r d.middle one.0 one.2) v d.n2 d.h2 d.two in
+          (two.0, in_turn d (at d.middle.tree one.0) one.1 two.1, two.2)
 
     -- the results of q over both stores
     abbrev pub Results : (q : Judgement) (τ : List ValueTerm) → Derived q → Derived (over q τ) → Type 0

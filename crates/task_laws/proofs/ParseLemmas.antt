@@ -1,6 +1,6 @@
 -- Tasks as they stand in a parse, with their bodies in place.
 use Rattle.std.proofs.Common.{◌≡◌, ℕ, suc, ◌+◌, ◌≤◌, true, false, List, [], ◌∷◌, ◌++◌, length, refl, ap, ◌∙◌, subst, arith, le_refl, append_assoc}
-use Rattle.std.specs.Prelude.{Some, None, ◌==◌}
+use Rattle.std.specs.Prelude.{Option, Some, None, ◌==◌}
 use Rattle.std.proofs.lemmas.Bool.Decides.{nat_tests}
 use Rattle.task_model.specs.Text.{Text}
 use Rattle.task_model.specs.Task.{TaskTerm, share, BodyTerm}
@@ -24,6 +24,10 @@ term_at task_atom m next = m next
 term_at (series choice) m next = m next
 term_at (series chain) m next = m next
 term_at f m next = share []
+
+-- the body of this number, whose task is this
+abbrev pub body_of : {f : Form} → Parse f → List Text → Option Text → ℕ → BodyTerm
+body_of {f} d xs binder next = record { scope = xs; binder = binder; task = term_at f (meaning d) (suc next) }
 
 -- the task of a parse with its bodies in place, where these names are in scope
 abbrev pub whole : {f : Form} → Parse f → List Text → FullTask
@@ -99,47 +103,50 @@ pub both : {A B C : Type 0} (make : A → B → C) {a a' : A} {b b' : B} → a �
 both make {a' = a'} {b = b} e k = ap (λ z. make z b) e ∙ ap (λ z. make a' z) k
 
 -- where the list has the bodies of a parse, its task is whole
-pub in_place : {f : Form} (d : Parse f) → IsTask f → (xs : List Text) (next : ℕ) (after : List BodyTerm) (i : ℕ) (fs : List FullBody)
-    → Places i fs next (bodies_of d xs next ++ after) → full_in i fs (term_at f (meaning d) next) ≡ whole d xs
+abbrev pub IsInPlace : {f : Form} → Parse f → List Text → ℕ → Type 0
+IsInPlace {f} d xs next = (after : List BodyTerm) (i : ℕ) (fs : List FullBody) → Places i fs next (bodies_of d xs next ++ after)
+    → full_in i fs (term_at f (meaning d) next) ≡ whole d xs
+
+halves_in_place : {f g : Form} (make : FullTask → FullTask → FullTask) (t : Parse f) (u : Parse g) (xs ys : List Text) (next : ℕ)
+    → IsInPlace t xs next → IsInPlace u ys (next + bodies t) → (after : List BodyTerm) (i : ℕ) (fs : List FullBody)
+    → Places i fs next ((bodies_of t xs next ++ bodies_of u ys (next + bodies t)) ++ after)
+    → make (full_in i fs (term_at f (meaning t) next)) (full_in i fs (term_at g (meaning u) (next + bodies t)))
+    ≡ make (whole t xs) (whole u ys)
+halves_in_place make t u xs ys next one two after i fs k =
+    let many = bodies_count t xs next in
+    let m = next + bodies t in
+    let inner = bodies_of u ys m in
+    both make (one (inner ++ after) i fs (places_first i fs next (bodies_of t xs next) inner after k))
+    (two after i fs (places_second i fs next m (bodies_of t xs next) inner after (omega (arith, many)) k))
+
+step_in_place : (t : Parse (series choice)) (p : ℕ) (x : Text) (q r : ℕ) (u : Parse task) (xs : List Text) (next : ℕ)
+    → IsInPlace t xs next → IsInPlace u (xs ++ x ∷ []) (suc (next + bodies t)) → IsInPlace (task_then t p x q r u) xs next
+step_in_place t p x q r u xs next one two after i fs k =
+    let many = bodies_count t xs next in
+    let m = next + bodies t in
+    let b = body_of u xs (Some x) m in
+    let inner = bodies_of u (xs ++ x ∷ []) (suc m) in
+    let there = places_second i fs next m (bodies_of t xs next) (b ∷ inner) after (omega (arith, many)) k in
+    ap (λ z. step_over (full_in i fs (meaning t next)) z) (there m (le_refl m) ∙ body_here m b (inner ++ after))
+    ∙ both (λ y z. full_step y xs x z) (one (b ∷ inner ++ after) i fs (places_first i fs next (bodies_of t xs next) (b ∷ inner) after k))
+    (two after (suc m) (full_bodies (suc m) (inner ++ after)) (λ j le. refl))
+
+pub in_place : {f : Form} (d : Parse f) → IsTask f → (xs : List Text) (next : ℕ) → IsInPlace d xs next
 in_place (task_let p x q r e s t) h xs next after i fs k = ap (λ z. full_let x (meaning e) z) (in_place t tt _ next after i fs k)
 in_place (task_if p e q t r u) h xs next after i fs k =
-    let many = bodies_count t xs next in
-    both (λ y z. full_if (meaning e) y z)
-    (in_place t tt xs next _ i fs (places_first i fs next (bodies_of t xs next) (bodies_of u xs (next + bodies t)) after k))
-    (in_place u tt xs (next + bodies t) after i fs
-    (places_second i fs next (next + bodies t) (bodies_of t xs next) (bodies_of u xs (next + bodies t)) after (omega (arith, many)) k))
+    halves_in_place (λ y z. full_if (meaning e) y z) t u xs xs next (in_place t tt xs next) (in_place u tt xs (next + bodies t))
+    after i fs k
 in_place (task_case p e q r s a t b x i' j y k' c u) h xs next after i fs k =
-    let many = bodies_count t xs next in
-    let inner = bodies_of u (xs ++ x ∷ y ∷ []) (next + bodies t) in
-    both (λ v z. full_case (meaning e) v x y z)
-    (in_place t tt xs next _ i fs (places_first i fs next (bodies_of t xs next) inner after k))
-    (in_place u tt (xs ++ x ∷ y ∷ []) (next + bodies t) after i fs
-    (places_second i fs next (next + bodies t) (bodies_of t xs next) inner after (omega (arith, many)) k))
+    let ys = xs ++ x ∷ y ∷ [] in
+    halves_in_place (λ v z. full_case (meaning e) v x y z) t u xs ys next (in_place t tt xs next) (in_place u tt ys (next + bodies t))
+    after i fs k
 in_place (task_new p x q r e s t) h xs next after i fs k = ap (λ z. full_new x (meaning e) z) (in_place t tt _ next after i fs k)
 in_place (task_put x p q e r t) h xs next after i fs k = ap (λ z. full_put x (meaning e) z) (in_place t tt xs next after i fs k)
 in_place (task_plain t) h xs next after i fs k = in_place t tt xs next after i fs k
 in_place (task_then t p x q r u) h xs next after i fs k =
-    let many = bodies_count t xs next in
-    let m = next + bodies t in
-    let b : BodyTerm = record { scope = xs; binder = Some x; task = meaning u (suc m) } in
-    let inner = bodies_of u (xs ++ x ∷ []) (suc m) in
-    let later = full_bodies (suc m) (inner ++ after) in
-    let there = places_second i fs next m (bodies_of t xs next) (b ∷ inner) after (omega (arith, many)) k in
-    ap (λ z. step_over (full_in i fs (meaning t next)) z) (there m (le_refl m) ∙ body_here m b (inner ++ after))
-    ∙ both (λ y z. full_step y xs x z)
-    (in_place t tt xs next _ i fs (places_first i fs next (bodies_of t xs next) (b ∷ inner) after k))
-    (in_place u tt (xs ++ x ∷ []) (suc m) after (suc m) later (λ j le. refl))
+    step_in_place t p x q r u xs next (in_place t tt xs next) (in_place u tt (xs ++ x ∷ []) (suc (next + bodies t))) after i fs k
 in_place (task_next t p x q r u) h xs next after i fs k =
-    let many = bodies_count t xs next in
-    let m = next + bodies t in
-    let b : BodyTerm = record { scope = xs; binder = Some x; task = meaning u (suc m) } in
-    let inner = bodies_of u (xs ++ x ∷ []) (suc m) in
-    let later = full_bodies (suc m) (inner ++ after) in
-    let there = places_second i fs next m (bodies_of t xs next) (b ∷ inner) after (omega (arith, many)) k in
-    ap (λ z. step_over (full_in i fs (meaning t next)) z) (there m (le_refl m) ∙ body_here m b (inner ++ after))
-    ∙ both (λ y z. full_step y xs x z)
-    (in_place t tt xs next _ i fs (places_first i fs next (bodies_of t xs next) (b ∷ inner) after k))
-    (in_place u tt (xs ++ x ∷ []) (suc m) after (suc m) later (λ j le. refl))
+    step_in_place t p x q r u xs next (in_place t tt xs next) (in_place u tt (xs ++ x ∷ []) (suc (next + bodies t))) after i fs k
 in_place (task_edit p e) h xs next after i fs k = refl
 in_place (task_enter p b) h xs next after i fs k = refl
 in_place (task_share p x q) h xs next after i fs k = refl
@@ -149,16 +156,12 @@ in_place (task_group p t q) h xs next after i fs k = in_place t tt xs next after
 in_place (single choice t) h xs next after i fs k = in_place t tt xs next after i fs k
 in_place (single chain t) h xs next after i fs k = in_place t tt xs next after i fs k
 in_place (joined choice t internal p u) h xs next after i fs k =
-    let many = bodies_count t xs next in
-    both (λ y z. full_or y z)
-    (in_place t tt xs next _ i fs (places_first i fs next (bodies_of t xs next) (bodies_of u xs (next + bodies t)) after k))
-    (in_place u tt xs (next + bodies t) after i fs
-    (places_second i fs next (next + bodies t) (bodies_of t xs next) (bodies_of u xs (next + bodies t)) after (omega (arith, many)) k))
+    halves_in_place (λ y z. full_or y z) t u xs xs next (in_place t tt xs next) (in_place u tt xs (next + bodies t)) after i fs k
 in_place (joined choice t external p u) h xs next after i fs k =
     let many = bodies_count t xs (suc next) in
     let m = suc (next + bodies t) in
-    let left : BodyTerm = record { scope = xs; binder = None; task = meaning t (suc next) } in
-    let right : BodyTerm = record { scope = xs; binder = None; task = meaning u (suc m) } in
+    let left = body_of t xs None next in
+    let right = body_of u xs None m in
     let first = bodies_of t xs (suc next) in
     let second = bodies_of u xs (suc m) in
     let there = places_second i fs next m (left ∷ first) (right ∷ second) after (omega (arith, many)) k in
@@ -171,9 +174,5 @@ in_place (joined choice t external p u) h xs next after i fs k =
     (subst (λ l. Places (suc next) (full_bodies (suc next) ((first ++ right ∷ second) ++ after)) (suc next) l) whole_first (λ j le. refl)))
     (in_place u tt xs (suc m) after (suc m) (full_bodies (suc m) (second ++ after)) (λ j le. refl))
 in_place (joined chain t o p u) h xs next after i fs k =
-    let many = bodies_count t xs next in
-    both (λ y z. full_and y z)
-    (in_place t tt xs next _ i fs (places_first i fs next (bodies_of t xs next) (bodies_of u xs (next + bodies t)) after k))
-    (in_place u tt xs (next + bodies t) after i fs
-    (places_second i fs next (next + bodies t) (bodies_of t xs next) (bodies_of u xs (next + bodies t)) after (omega (arith, many)) k))
+    halves_in_place (λ y z. full_and y z) t u xs xs next (in_place t tt xs next) (in_place u tt xs (next + bodies t)) after i fs k
 in_place d h xs next after i fs k = absurd h

@@ -9,12 +9,12 @@ use Rattle.task_model.specs.Text.{Text}
 use Rattle.task_model.specs.Task.{TaskTerm, BodyTerm}
 use Rattle.task_model.specs.Program.{ProgramTerm}
 use Rattle.task_model.specs.Checked.{Start, nodes_in, starts_in, start_of, all_starts, nodes_of, counts_of, counts_from, body_nodes}
-use Rattle.task_model.specs.Grammar.{Form, choice, chain, internal, external, Parse, task_let, task_if, task_case, task_new, task_put, task_plain, task_then, task_next, task_edit, task_enter, task_share, task_fail, task_call, task_group, single, joined}
+use Rattle.task_model.specs.Grammar.{Form, task, series, choice, chain, internal, external, Parse, task_let, task_if, task_case, task_new, task_put, task_plain, task_then, task_next, task_edit, task_enter, task_share, task_fail, task_call, task_group, single, joined}
 use Rattle.task_model.specs.Meaning.{meaning, bodies, bodies_of}
 use Rattle.task_model.specs.TaskDemands.{bodies_in_place}
 use Rattle.task_model.specs.Placed.{edit_nodes, task_firsts}
 use Rattle.task_model.proofs.BodyCounts.{bodies_count}
-use Rattle.task_laws.proofs.ParseLemmas.{IsTask, term_at, whole, Places, places_first, places_second, body_passed}
+use Rattle.task_laws.proofs.ParseLemmas.{IsTask, term_at, whole, body_of, Places, places_first, places_second, body_passed}
 use Rattle.task_laws.proofs.CountLemmas.{Counts, counts_first, counts_second, count_passed, count_here, counted, firsts_long, Lists, lists_first, lists_second, lists_tail, lists_head, item_passed, Items, items_first, items_second}
 
 -- a body's start is among these
@@ -131,6 +131,27 @@ module _ (program : ProgramTerm) (table : List ℕ) where
         there,
       )
 
+  -- both sides of an external choice, each of which is a body
+  pub sides : (t : Parse (series choice)) (p : ℕ) (u : Parse (series chain)) (xs : List Text) (next n : ℕ) (after : List BodyTerm)
+      → Stands next (bodies_of (joined choice t external p u) xs next ++ after) (task_firsts n (whole (joined choice t external p u) xs))
+      → Stands next (body_of t xs None next ∷ (bodies_of t xs (suc next)
+      ++ (body_of u xs None (suc (next + bodies t)) ∷ bodies_of u xs (suc (suc (next + bodies t))) ++ after)))
+      (n ∷ task_firsts n (whole t xs))
+      × Stands (suc (next + bodies t)) (body_of u xs None (suc (next + bodies t)) ∷ bodies_of u xs (suc (suc (next + bodies t))) ++ after)
+      ((n + edit_nodes (whole t xs)) ∷ task_firsts (n + edit_nodes (whole t xs)) (whole u xs))
+  sides t p u xs next n after s =
+      let m = suc (next + bodies t) in
+      let c = n + edit_nodes (whole t xs) in
+      let first = body_of t xs None next ∷ bodies_of t xs (suc next) in
+      let second = body_of u xs None m ∷ bodies_of u xs (suc m) in
+      let ns = n ∷ task_firsts n (whole t xs) in
+      let ms = c ∷ task_firsts c (whole u xs) in
+      let many = bodies_count t xs (suc next) in
+      let long = firsts_long t tt xs n in (
+        stands_first next first second after ns ms s,
+        stands_second next m first second after ns ms (omega (arith, many)) (omega (arith, long)) s,
+      )
+
   -- ---- starts that are right
   pair_right : (t u : TaskTerm) (n c : ℕ) → nodes_of program t ≡ c → All Right (starts_in program n t)
       → All Right (starts_in program (n + c) u) → All Right (starts_in program n t ++ starts_in program (n + nodes_of program t) u)
@@ -161,38 +182,46 @@ module _ (program : ProgramTerm) (table : List ℕ) where
       ∙ counted t h xs (suc next) (more ++ after) (suc next) cs
       (counts_first (suc next) cs (suc next) (bodies_of t xs (suc next)) more after (λ j le. refl))
 
-  pub right_starts : {f : Form} (d : Parse f) → IsTask f → (xs : List Text) (next n : ℕ) (after : List BodyTerm)
-      → Stands next (bodies_of d xs next ++ after) (task_firsts n (whole d xs))
+  -- where a task stands in the program, the starts of its bodies are right
+  abbrev pub StartsRight : {f : Form} → Parse f → List Text → ℕ → Type 0
+  StartsRight {f} d xs next = (n : ℕ) (after : List BodyTerm) → Stands next (bodies_of d xs next ++ after) (task_firsts n (whole d xs))
       → All Right (starts_in program n (term_at f (meaning d) next))
+
+  halves_right : {f g : Form} (t : Parse f) → IsTask f → (u : Parse g) (xs ys : List Text) (next : ℕ) → StartsRight t xs next
+      → StartsRight u ys (next + bodies t) → (n : ℕ) (after : List BodyTerm)
+      → Stands next ((bodies_of t xs next ++ bodies_of u ys (next + bodies t)) ++ after)
+      (task_firsts n (whole t xs) ++ task_firsts (n + edit_nodes (whole t xs)) (whole u ys))
+      → All Right (starts_in program n (term_at f (meaning t) next)
+      ++ starts_in program (n + nodes_of program (term_at f (meaning t) next)) (term_at g (meaning u) (next + bodies t)))
+  halves_right {f} {g} t h u xs ys next one two n after s =
+      let k = halves t h u xs ys next n after s in
+      let m = next + bodies t in
+      let c = edit_nodes (whole t xs) in
+      pair_right (term_at f (meaning t) next) (term_at g (meaning u) m) n c k.0 (one n (bodies_of u ys m ++ after) k.1)
+      (two (n + c) after k.2)
+
+  over_right : (t : Parse (series choice)) (p : ℕ) (x : Text) (q r : ℕ) (u : Parse task) (xs : List Text) (next : ℕ)
+      → StartsRight t xs next → StartsRight (task_then t p x q r u) xs next
+  over_right t p x q r u xs next one n after s =
+      let m = next + bodies t in
+      let c = edit_nodes (whole t xs) in
+      let b = body_of u xs (Some x) m in
+      let inner = bodies_of u (xs ++ x ∷ []) (suc m) in
+      let k = parts t tt xs next n m refl b inner after (n + c) (task_firsts (n + c) (whole u (xs ++ x ∷ []))) s in
+      step_right (meaning t next) m n c k.0 (one n (b ∷ inner ++ after) k.1) k.2
+
+  pub right_starts : {f : Form} (d : Parse f) → IsTask f → (xs : List Text) (next : ℕ) → StartsRight d xs next
   right_starts (task_let p x q r e i t) h xs next n after s = right_starts t tt (xs ++ x ∷ []) next n after s
   right_starts (task_if p e q t r u) h xs next n after s =
-      let k = halves t tt u xs xs next n after s in
-      let m = next + bodies t in
-      pair_right (meaning t next) (meaning u m) n (edit_nodes (whole t xs)) k.0
-      (right_starts t tt xs next n (bodies_of u xs m ++ after) k.1) (right_starts u tt xs m (n + edit_nodes (whole t xs)) after k.2)
+      halves_right t tt u xs xs next (right_starts t tt xs next) (right_starts u tt xs (next + bodies t)) n after s
   right_starts (task_case p e q r i a t b x i' j y k' c u) h xs next n after s =
       let ys = xs ++ x ∷ y ∷ [] in
-      let k = halves t tt u xs ys next n after s in
-      let m = next + bodies t in
-      pair_right (meaning t next) (meaning u m) n (edit_nodes (whole t xs)) k.0
-      (right_starts t tt xs next n (bodies_of u ys m ++ after) k.1) (right_starts u tt ys m (n + edit_nodes (whole t xs)) after k.2)
+      halves_right t tt u xs ys next (right_starts t tt xs next) (right_starts u tt ys (next + bodies t)) n after s
   right_starts (task_new p x q r e i t) h xs next n after s = right_starts t tt (xs ++ x ∷ []) next n after s
   right_starts (task_put x p q e r t) h xs next n after s = right_starts t tt xs next n after s
   right_starts (task_plain t) h xs next n after s = right_starts t tt xs next n after s
-  right_starts (task_then t p x q r u) h xs next n after s =
-      let m = next + bodies t in
-      let c = edit_nodes (whole t xs) in
-      let b : BodyTerm = record { scope = xs; binder = Some x; task = meaning u (suc m) } in
-      let inner = bodies_of u (xs ++ x ∷ []) (suc m) in
-      let k = parts t tt xs next n m refl b inner after (n + c) (task_firsts (n + c) (whole u (xs ++ x ∷ []))) s in
-      step_right (meaning t next) m n c k.0 (right_starts t tt xs next n (b ∷ inner ++ after) k.1) k.2
-  right_starts (task_next t p x q r u) h xs next n after s =
-      let m = next + bodies t in
-      let c = edit_nodes (whole t xs) in
-      let b : BodyTerm = record { scope = xs; binder = Some x; task = meaning u (suc m) } in
-      let inner = bodies_of u (xs ++ x ∷ []) (suc m) in
-      let k = parts t tt xs next n m refl b inner after (n + c) (task_firsts (n + c) (whole u (xs ++ x ∷ []))) s in
-      step_right (meaning t next) m n c k.0 (right_starts t tt xs next n (b ∷ inner ++ after) k.1) k.2
+  right_starts (task_then t p x q r u) h xs next n after s = over_right t p x q r u xs next (right_starts t tt xs next) n after s
+  right_starts (task_next t p x q r u) h xs next n after s = over_right t p x q r u xs next (right_starts t tt xs next) n after s
   right_starts (task_edit p e) h xs next n after s = All-nil Right
   right_starts (task_enter p b) h xs next n after s = All-nil Right
   right_starts (task_share p x q) h xs next n after s = All-nil Right
@@ -202,28 +231,16 @@ module _ (program : ProgramTerm) (table : List ℕ) where
   right_starts (single choice t) h xs next n after s = right_starts t tt xs next n after s
   right_starts (single chain t) h xs next n after s = right_starts t tt xs next n after s
   right_starts (joined choice t internal p u) h xs next n after s =
-      let k = halves t tt u xs xs next n after s in
-      let m = next + bodies t in
-      pair_right (meaning t next) (meaning u m) n (edit_nodes (whole t xs)) k.0
-      (right_starts t tt xs next n (bodies_of u xs m ++ after) k.1) (right_starts u tt xs m (n + edit_nodes (whole t xs)) after k.2)
+      halves_right t tt u xs xs next (right_starts t tt xs next) (right_starts u tt xs (next + bodies t)) n after s
   right_starts (joined choice t external p u) h xs next n after s =
       let m = suc (next + bodies t) in
-      let c = edit_nodes (whole t xs) in
-      let left : BodyTerm = record { scope = xs; binder = None; task = meaning t (suc next) } in
-      let right : BodyTerm = record { scope = xs; binder = None; task = meaning u (suc m) } in
-      let first = bodies_of t xs (suc next) in
-      let second = bodies_of u xs (suc m) in
-      let ms = task_firsts (n + c) (whole u xs) in
-      let ns = task_firsts n (whole t xs) ++ (n + c) ∷ ms in
-      let tail = stands_tail next left ((first ++ right ∷ second) ++ after) n ns s in
-      let k = parts t tt xs (suc next) n m (omega arith) right second after (n + c) ms tail in
-      sides_right next m n (body_nodes (counts_of program) 0 next) c (first_side t tt xs next left refl (right ∷ second) after s.1)
-      (lists_head table next n ns s.2) k.2
+      let c = n + edit_nodes (whole t xs) in
+      let k = sides t p u xs next n after s in
+      sides_right next m n (body_nodes (counts_of program) 0 next) (edit_nodes (whole t xs))
+      (first_side t tt xs next (body_of t xs None next) refl (body_of u xs None m ∷ bodies_of u xs (suc m)) after s.1)
+      (lists_head table next n (task_firsts n (whole t xs)) k.0.2) (lists_head table m c (task_firsts c (whole u xs)) k.1.2)
   right_starts (joined chain t o p u) h xs next n after s =
-      let k = halves t tt u xs xs next n after s in
-      let m = next + bodies t in
-      pair_right (meaning t next) (meaning u m) n (edit_nodes (whole t xs)) k.0
-      (right_starts t tt xs next n (bodies_of u xs m ++ after) k.1) (right_starts u tt xs m (n + edit_nodes (whole t xs)) after k.2)
+      halves_right t tt u xs xs next (right_starts t tt xs next) (right_starts u tt xs (next + bodies t)) n after s
   right_starts d h xs next n after s = absurd h
 
   -- ---- passing bodies

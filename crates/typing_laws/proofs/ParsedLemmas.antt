@@ -1,5 +1,5 @@
 -- Each body of a program that is written has a parse, and stands in the program as it does in the parse.
-use Rattle.std.proofs.Common.{◌≡◌, ◌⊎◌, inl, inr, true, false, ℕ, suc, ◌+◌, ◌<◌, ◌≤◌, List, [], ◌∷◌, ◌++◌, length, Option, Some, None, refl, sym, ap, ◌∙◌, subst, arith, le_refl}
+use Rattle.std.proofs.Common.{◌≡◌, ◌⊎◌, inl, inr, false, ℕ, suc, ◌+◌, ◌<◌, ◌≤◌, List, [], ◌∷◌, ◌++◌, length, Option, Some, None, refl, sym, ap, ◌∙◌, subst, arith, le_refl}
 use Rattle.std.specs.Prelude.{slice_get, ◌==◌}
 use Rattle.std.proofs.lemmas.Bool.Decides.{nat_tests}
 use Rattle.std.specs.List.{All}
@@ -17,9 +17,9 @@ use Rattle.task_model.specs.TaskDemands.{bodies_in_place}
 use Rattle.task_model.specs.Placed.{Placed, edit_nodes, task_firsts, what_firsts, firsts_in, firsts_of}
 use Rattle.task_model.specs.Written.{IsWritten}
 use Rattle.task_model.proofs.BodyCounts.{bodies_count}
-use Rattle.task_laws.proofs.ParseLemmas.{IsTask, term_at, whole, body_here, in_place}
-use Rattle.task_laws.proofs.CountLemmas.{firsts_long, lists_head, items_head}
-use Rattle.task_laws.proofs.StartLemmas.{Stands, stands_first, stands_second, stands_tail, halves, parts, right_starts}
+use Rattle.task_laws.proofs.ParseLemmas.{IsTask, term_at, whole, body_of, body_here, in_place}
+use Rattle.task_laws.proofs.CountLemmas.{lists_head, items_head}
+use Rattle.task_laws.proofs.StartLemmas.{Stands, stands_first, stands_second, stands_tail, halves, parts, sides, right_starts}
 use Rattle.task_laws.proofs.PlacedLemmas.{placed_whole}
 use Rattle.task_laws.proofs.TableLemmas.{all_edits, firsts_more, program_starts, stands_whole, nodes_before}
 use Rattle.typing_laws.specs.Texts.{HasShortTexts, TaskTextsAreShort}
@@ -75,18 +75,35 @@ module _ (program : ProgramTerm) (table : List ℕ) where
   ends_at : (next m l : ℕ) → m ≡ l → AreParsed next m → AreParsed next l
   ends_at next m l e p = subst (AreParsed next) e p
 
-  -- a step: its left, its body and what is inside that
-  step_parsed : (t : Parse (series choice)) (u : Parse task) (x : Text) (xs : List Text) (next n : ℕ) (after : List BodyTerm)
-      → AllWithin (tokens u) → Stands program table (next + bodies t)
-      (record { scope = xs; binder = Some x; task = meaning u (suc (next + bodies t)) }
-      ∷ (bodies_of u (xs ++ x ∷ []) (suc (next + bodies t)) ++ after))
-      ((n + edit_nodes (whole t xs)) ∷ task_firsts (n + edit_nodes (whole t xs)) (whole u (xs ++ x ∷ [])))
-      → AreParsed next (next + bodies t) → AreParsed (suc (next + bodies t)) (suc (next + bodies t) + bodies u)
-      → AreParsed next (next + (bodies t + suc (bodies u)))
-  step_parsed t u x xs next n after w s p q =
+  -- the bodies inside a task have parses
+  abbrev pub HasParses : {f : Form} → Parse f → List Text → ℕ → Type 0
+  HasParses d xs next = (n : ℕ) (after : List BodyTerm)
+      → Stands program table next (bodies_of d xs next ++ after) (task_firsts n (whole d xs)) → AreParsed next (next + bodies d)
+
+  -- two tasks side by side
+  halves_parsed : {f g : Form} (t : Parse f) → IsTask f → (u : Parse g) (xs ys : List Text) (next : ℕ) → HasParses t xs next
+      → HasParses u ys (next + bodies t) → (n : ℕ) (after : List BodyTerm)
+      → Stands program table next ((bodies_of t xs next ++ bodies_of u ys (next + bodies t)) ++ after)
+      (task_firsts n (whole t xs) ++ task_firsts (n + edit_nodes (whole t xs)) (whole u ys))
+      → AreParsed next (next + (bodies t + bodies u))
+  halves_parsed t h u xs ys next one two n after s =
+      let k = halves program table t h u xs ys next n after s in
       let m = next + bodies t in
+      ends_at next (m + bodies u) (next + (bodies t + bodies u)) (omega arith)
+      (both_parsed next m (m + bodies u) (one n (bodies_of u ys m ++ after) k.1) (two (n + edit_nodes (whole t xs)) after k.2))
+
+  -- a step: its left, its body and what is inside that
+  step_parsed : (t : Parse (series choice)) (p : ℕ) (x : Text) (q r : ℕ) (u : Parse task) (xs : List Text) (next : ℕ)
+      → AllWithin (tokens u) → HasParses t xs next → HasParses u (xs ++ x ∷ []) (suc (next + bodies t))
+      → HasParses (task_then t p x q r u) xs next
+  step_parsed t p x q r u xs next w one two n after s =
+      let m = next + bodies t in
+      let c = n + edit_nodes (whole t xs) in
+      let b = body_of u xs (Some x) m in
+      let inner = bodies_of u (xs ++ x ∷ []) (suc m) in
+      let k = parts program table t tt xs next n m refl b inner after c (task_firsts c (whole u (xs ++ x ∷ []))) s in
       ends_at next (suc m + bodies u) (next + (bodies t + suc (bodies u))) (omega arith)
-      (both_parsed next m (suc m + bodies u) p
+      (both_parsed next m (suc m + bodies u) (one n (b ∷ inner ++ after) k.1)
       (one_parsed m (suc m + bodies u) (record {
         form = task;
         inner = u;
@@ -94,53 +111,32 @@ module _ (program : ProgramTerm) (table : List ℕ) where
         within = w;
         scope = xs;
         binder = Some x;
-        first = n + edit_nodes (whole t xs);
+        first = c;
         after = after;
-        stands = s;
-      }) q))
+        stands = k.4;
+      }) (two c after k.3)))
 
   -- each body inside a task has a parse
-  pub parsed : {f : Form} (d : Parse f) → IsTask f → AllWithin (tokens d) → (xs : List Text) (next n : ℕ) (after : List BodyTerm)
-      → Stands program table next (bodies_of d xs next ++ after) (task_firsts n (whole d xs)) → AreParsed next (next + bodies d)
+  pub parsed : {f : Form} (d : Parse f) → IsTask f → AllWithin (tokens d) → (xs : List Text) (next : ℕ) → HasParses d xs next
   parsed (task_let p x q r e i t) h w xs next n after s = parsed t tt (two (tokens e) (tokens t) _ w.1.1.1).1 (xs ++ x ∷ []) next n after s
   parsed (task_if p e q t r u) h w xs next n after s =
       let (first, second, third) = three (tokens e) (tokens t) (tokens u) _ _ w.1 in
-      let k = halves program table t tt u xs xs next n after s in
-      let m = next + bodies t in
-      ends_at next (m + bodies u) (next + (bodies t + bodies u)) (omega arith)
-      (both_parsed next m (m + bodies u) (parsed t tt second xs next n (bodies_of u xs m ++ after) k.1)
-      (parsed u tt third xs m (n + edit_nodes (whole t xs)) after k.2))
+      halves_parsed t tt u xs xs next (parsed t tt second xs next) (parsed u tt third xs (next + bodies t)) n after s
   parsed (task_case p e q r i a t b x i' j y k' c u) h w xs next n after s =
       let (first, second, third) = three (tokens e) _ _ _ _ w.1 in
       let ys = xs ++ x ∷ y ∷ [] in
-      let k = halves program table t tt u xs ys next n after s in
-      let m = next + bodies t in
-      ends_at next (m + bodies u) (next + (bodies t + bodies u)) (omega arith)
-      (both_parsed next m (m + bodies u) (parsed t tt second.1.1.1 xs next n (bodies_of u ys m ++ after) k.1)
-      (parsed u tt third.1.1.1.1 ys m (n + edit_nodes (whole t xs)) after k.2))
+      halves_parsed t tt u xs ys next (parsed t tt second.1.1.1 xs next) (parsed u tt third.1.1.1.1 ys (next + bodies t)) n after s
   parsed (task_new p x q r e i t) h w xs next n after s = parsed t tt (two (tokens e) (tokens t) _ w.1.1.1).1 (xs ++ x ∷ []) next n after s
   parsed (task_put x p q e r t) h w xs next n after s = parsed t tt (two (tokens e) (tokens t) _ w.1.1).1 xs next n after s
   parsed (task_plain t) h w xs next n after s = parsed t tt w xs next n after s
   parsed (task_then t p x q r u) h w xs next n after s =
       let (first, second) = two (tokens t) _ _ w in
-      let m = next + bodies t in
-      let c = edit_nodes (whole t xs) in
-      let b : BodyTerm = record { scope = xs; binder = Some x; task = meaning u (suc m) } in
-      let inner = bodies_of u (xs ++ x ∷ []) (suc m) in
-      let ms = task_firsts (n + c) (whole u (xs ++ x ∷ [])) in
-      let k = parts program table t tt xs next n m refl b inner after (n + c) ms s in
-      step_parsed t u x xs next n after second.1.1 k.4 (parsed t tt first xs next n (b ∷ inner ++ after) k.1)
-      (parsed u tt second.1.1 (xs ++ x ∷ []) (suc m) (n + c) after k.3)
+      step_parsed t p x q r u xs next second.1.1 (parsed t tt first xs next)
+      (parsed u tt second.1.1 (xs ++ x ∷ []) (suc (next + bodies t))) n after s
   parsed (task_next t p x q r u) h w xs next n after s =
       let (first, second) = two (tokens t) _ _ w in
-      let m = next + bodies t in
-      let c = edit_nodes (whole t xs) in
-      let b : BodyTerm = record { scope = xs; binder = Some x; task = meaning u (suc m) } in
-      let inner = bodies_of u (xs ++ x ∷ []) (suc m) in
-      let ms = task_firsts (n + c) (whole u (xs ++ x ∷ [])) in
-      let k = parts program table t tt xs next n m refl b inner after (n + c) ms s in
-      step_parsed t u x xs next n after second.1.1 k.4 (parsed t tt first xs next n (b ∷ inner ++ after) k.1)
-      (parsed u tt second.1.1 (xs ++ x ∷ []) (suc m) (n + c) after k.3)
+      step_parsed t p x q r u xs next second.1.1 (parsed t tt first xs next)
+      (parsed u tt second.1.1 (xs ++ x ∷ []) (suc (next + bodies t))) n after s
   parsed (task_edit p e) h w xs next n after s = none_parsed next
   parsed (task_enter p b) h w xs next n after s = none_parsed next
   parsed (task_share p x q) h w xs next n after s = none_parsed next
@@ -151,26 +147,16 @@ module _ (program : ProgramTerm) (table : List ℕ) where
   parsed (single chain t) h w xs next n after s = parsed t tt w xs next n after s
   parsed (joined choice t internal p u) h w xs next n after s =
       let (first, second) = two (tokens t) (tokens u) _ w in
-      let k = halves program table t tt u xs xs next n after s in
-      let m = next + bodies t in
-      ends_at next (m + bodies u) (next + (bodies t + bodies u)) (omega arith)
-      (both_parsed next m (m + bodies u) (parsed t tt first xs next n (bodies_of u xs m ++ after) k.1)
-      (parsed u tt second xs m (n + edit_nodes (whole t xs)) after k.2))
+      halves_parsed t tt u xs xs next (parsed t tt first xs next) (parsed u tt second xs (next + bodies t)) n after s
   parsed (joined choice t external p u) h w xs next n after s =
       let (before, behind) = two (tokens t) (tokens u) _ w in
       let m = suc (next + bodies t) in
-      let c = edit_nodes (whole t xs) in
-      let left : BodyTerm = record { scope = xs; binder = None; task = term_at (series choice) (meaning t) (suc next) } in
-      let right : BodyTerm = record { scope = xs; binder = None; task = term_at (series chain) (meaning u) (suc m) } in
+      let c = n + edit_nodes (whole t xs) in
+      let left = body_of t xs None next in
+      let right = body_of u xs None m in
       let first = bodies_of t xs (suc next) in
       let second = bodies_of u xs (suc m) in
-      let ns = task_firsts n (whole t xs) in
-      let ms = task_firsts (n + c) (whole u xs) in
-      let many = bodies_count t xs (suc next) in
-      let long = firsts_long t tt xs n in
-      let l = stands_first program table next (left ∷ first) (right ∷ second) after (n ∷ ns) ((n + c) ∷ ms) s in
-      let r = stands_second program table next m (left ∷ first) (right ∷ second) after (n ∷ ns) ((n + c) ∷ ms) (omega (arith, many))
-      (omega (arith, long)) s in
+      let k = sides program table t p u xs next n after s in
       ends_at next (suc m + bodies u) (next + (suc (bodies t) + suc (bodies u))) (omega arith)
       (both_parsed next m (suc m + bodies u)
       (one_parsed next m (record {
@@ -182,10 +168,10 @@ module _ (program : ProgramTerm) (table : List ℕ) where
         binder = None;
         first = n;
         after = right ∷ second ++ after;
-        stands = l;
+        stands = k.0;
       }) (ends_at (suc next) (suc next + bodies t) m (omega arith)
-      (parsed t tt before xs (suc next) n (right ∷ second ++ after) (stands_tail program table next left (first ++
-      (right ∷ second ++ after)) n ns l))))
+      (parsed t tt before xs (suc next) n (right ∷ second ++ after)
+      (stands_tail program table next left (first ++ (right ∷ second ++ after)) n (task_firsts n (whole t xs)) k.0))))
       (one_parsed m (suc m + bodies u) (record {
         form = series chain;
         inner = u;
@@ -193,17 +179,13 @@ module _ (program : ProgramTerm) (table : List ℕ) where
         within = behind;
         scope = xs;
         binder = None;
-        first = n + c;
+        first = c;
         after = after;
-        stands = r;
-      }) (parsed u tt behind xs (suc m) (n + c) after (stands_tail program table m right (second ++ after) (n + c) ms r))))
+        stands = k.1;
+      }) (parsed u tt behind xs (suc m) c after (stands_tail program table m right (second ++ after) c (task_firsts c (whole u xs)) k.1))))
   parsed (joined chain t o p u) h w xs next n after s =
       let (first, second) = two (tokens t) (tokens u) _ w in
-      let k = halves program table t tt u xs xs next n after s in
-      let m = next + bodies t in
-      ends_at next (m + bodies u) (next + (bodies t + bodies u)) (omega arith)
-      (both_parsed next m (m + bodies u) (parsed t tt first xs next n (bodies_of u xs m ++ after) k.1)
-      (parsed u tt second xs m (n + edit_nodes (whole t xs)) after k.2))
+      halves_parsed t tt u xs xs next (parsed t tt first xs next) (parsed u tt second xs (next + bodies t)) n after s
   parsed d h w xs next n after s = absurd h
 
   -- ---- what is found at a body's number
@@ -222,36 +204,42 @@ module _ (program : ProgramTerm) (table : List ℕ) where
       sym (ap (λ (f : FullBody). f.binder) is) ∙ none
 
   -- the sides of choices are bodies without a binder
-  pub sides_bind : {f : Form} (d : Parse f) → IsTask f → (xs : List Text) (next n : ℕ) (after : List BodyTerm)
+  abbrev pub Unbound : {f : Form} → Parse f → List Text → ℕ → Type 0
+  Unbound {f} d xs next = (n : ℕ) (after : List BodyTerm)
       → Stands program table next (bodies_of d xs next ++ after) (task_firsts n (whole d xs))
       → SidesBindNothing program (term_at f (meaning d) next)
+
+  halves_bind : {f g : Form} (t : Parse f) → IsTask f → (u : Parse g) (xs ys : List Text) (next : ℕ) → Unbound t xs next
+      → Unbound u ys (next + bodies t) → (n : ℕ) (after : List BodyTerm)
+      → Stands program table next ((bodies_of t xs next ++ bodies_of u ys (next + bodies t)) ++ after)
+      (task_firsts n (whole t xs) ++ task_firsts (n + edit_nodes (whole t xs)) (whole u ys))
+      → SidesBindNothing program (term_at f (meaning t) next) × SidesBindNothing program (term_at g (meaning u) (next + bodies t))
+  halves_bind t h u xs ys next one two n after s =
+      let k = halves program table t h u xs ys next n after s in
+      (one n (bodies_of u ys (next + bodies t) ++ after) k.1, two (n + edit_nodes (whole t xs)) after k.2)
+
+  over_bind : (t : Parse (series choice)) (p : ℕ) (x : Text) (q r : ℕ) (u : Parse task) (xs : List Text) (next : ℕ)
+      → Unbound t xs next → Unbound (task_then t p x q r u) xs next
+  over_bind t p x q r u xs next one n after s =
+      let m = next + bodies t in
+      let c = n + edit_nodes (whole t xs) in
+      let b = body_of u xs (Some x) m in
+      let inner = bodies_of u (xs ++ x ∷ []) (suc m) in
+      one n (b ∷ inner ++ after)
+      (parts program table t tt xs next n m refl b inner after c (task_firsts c (whole u (xs ++ x ∷ []))) s).1
+
+  pub sides_bind : {f : Form} (d : Parse f) → IsTask f → (xs : List Text) (next : ℕ) → Unbound d xs next
   sides_bind (task_let p x q r e i t) h xs next n after s = sides_bind t tt (xs ++ x ∷ []) next n after s
   sides_bind (task_if p e q t r u) h xs next n after s =
-      let k = halves program table t tt u xs xs next n after s in
-      let m = next + bodies t in
-      (sides_bind t tt xs next n (bodies_of u xs m ++ after) k.1, sides_bind u tt xs m (n + edit_nodes (whole t xs)) after k.2)
+      halves_bind t tt u xs xs next (sides_bind t tt xs next) (sides_bind u tt xs (next + bodies t)) n after s
   sides_bind (task_case p e q r i a t b x i' j y k' c u) h xs next n after s =
       let ys = xs ++ x ∷ y ∷ [] in
-      let k = halves program table t tt u xs ys next n after s in
-      let m = next + bodies t in
-      (sides_bind t tt xs next n (bodies_of u ys m ++ after) k.1, sides_bind u tt ys m (n + edit_nodes (whole t xs)) after k.2)
+      halves_bind t tt u xs ys next (sides_bind t tt xs next) (sides_bind u tt ys (next + bodies t)) n after s
   sides_bind (task_new p x q r e i t) h xs next n after s = sides_bind t tt (xs ++ x ∷ []) next n after s
   sides_bind (task_put x p q e r t) h xs next n after s = sides_bind t tt xs next n after s
   sides_bind (task_plain t) h xs next n after s = sides_bind t tt xs next n after s
-  sides_bind (task_then t p x q r u) h xs next n after s =
-      let m = next + bodies t in
-      let c = n + edit_nodes (whole t xs) in
-      let b : BodyTerm = record { scope = xs; binder = Some x; task = meaning u (suc m) } in
-      let inner = bodies_of u (xs ++ x ∷ []) (suc m) in
-      let k = parts program table t tt xs next n m refl b inner after c (task_firsts c (whole u (xs ++ x ∷ []))) s in
-      sides_bind t tt xs next n (b ∷ inner ++ after) k.1
-  sides_bind (task_next t p x q r u) h xs next n after s =
-      let m = next + bodies t in
-      let c = n + edit_nodes (whole t xs) in
-      let b : BodyTerm = record { scope = xs; binder = Some x; task = meaning u (suc m) } in
-      let inner = bodies_of u (xs ++ x ∷ []) (suc m) in
-      let k = parts program table t tt xs next n m refl b inner after c (task_firsts c (whole u (xs ++ x ∷ []))) s in
-      sides_bind t tt xs next n (b ∷ inner ++ after) k.1
+  sides_bind (task_then t p x q r u) h xs next n after s = over_bind t p x q r u xs next (sides_bind t tt xs next) n after s
+  sides_bind (task_next t p x q r u) h xs next n after s = over_bind t p x q r u xs next (sides_bind t tt xs next) n after s
   sides_bind (task_edit p e) h xs next n after s = tt
   sides_bind (task_enter p b) h xs next n after s = tt
   sides_bind (task_share p x q) h xs next n after s = tt
@@ -261,30 +249,18 @@ module _ (program : ProgramTerm) (table : List ℕ) where
   sides_bind (single choice t) h xs next n after s = sides_bind t tt xs next n after s
   sides_bind (single chain t) h xs next n after s = sides_bind t tt xs next n after s
   sides_bind (joined choice t internal p u) h xs next n after s =
-      let k = halves program table t tt u xs xs next n after s in
-      let m = next + bodies t in
-      (sides_bind t tt xs next n (bodies_of u xs m ++ after) k.1, sides_bind u tt xs m (n + edit_nodes (whole t xs)) after k.2)
+      halves_bind t tt u xs xs next (sides_bind t tt xs next) (sides_bind u tt xs (next + bodies t)) n after s
   sides_bind (joined choice t external p u) h xs next n after s =
       let m = suc (next + bodies t) in
-      let c = edit_nodes (whole t xs) in
-      let left : BodyTerm = record { scope = xs; binder = None; task = term_at (series choice) (meaning t) (suc next) } in
-      let right : BodyTerm = record { scope = xs; binder = None; task = term_at (series chain) (meaning u) (suc m) } in
-      let first = bodies_of t xs (suc next) in
-      let second = bodies_of u xs (suc m) in
-      let ns = task_firsts n (whole t xs) in
-      let ms = task_firsts (n + c) (whole u xs) in
-      let many = bodies_count t xs (suc next) in
-      let long = firsts_long t tt xs n in
-      let l = stands_first program table next (left ∷ first) (right ∷ second) after (n ∷ ns) ((n + c) ∷ ms) s in
-      let r = stands_second program table next m (left ∷ first) (right ∷ second) after (n ∷ ns) ((n + c) ∷ ms) (omega (arith, many))
-      (omega (arith, long)) s in (
-        binds_nothing next left (first ++ (right ∷ second ++ after)) n ns l refl,
-        binds_nothing m right (second ++ after) (n + c) ms r refl,
+      let c = n + edit_nodes (whole t xs) in
+      let right = body_of u xs None m in
+      let second = bodies_of u xs (suc m) ++ after in
+      let k = sides program table t p u xs next n after s in (
+        binds_nothing next (body_of t xs None next) (bodies_of t xs (suc next) ++ (right ∷ second)) n (task_firsts n (whole t xs)) k.0 refl,
+        binds_nothing m right second c (task_firsts c (whole u xs)) k.1 refl,
       )
   sides_bind (joined chain t o p u) h xs next n after s =
-      let k = halves program table t tt u xs xs next n after s in
-      let m = next + bodies t in
-      (sides_bind t tt xs next n (bodies_of u xs m ++ after) k.1, sides_bind u tt xs m (n + edit_nodes (whole t xs)) after k.2)
+      halves_bind t tt u xs xs next (sides_bind t tt xs next) (sides_bind u tt xs (next + bodies t)) n after s
   sides_bind d h xs next n after s = absurd h
 
 -- ---- bodies
