@@ -12,7 +12,7 @@ use Rattle.exact_reading.proofs.Productions.{Least, bind_right, bind_stop, by_pr
 use Rattle.exact_reading.proofs.Peeking.{peeked}
 use Rattle.exact_reading.proofs.Starts.{After, after_right}
 use Rattle.exact_reading.proofs.Symbols.{Sym, one, part, Values, Led, Seq, Sequence, size_above, least_seq, open_up}
-use Rattle.program_grammar.proofs.GrammarLemmas.{grammar, head, head_first, known_head, head_starts, starts, a_sign}
+use Rattle.program_grammar.proofs.GrammarLemmas.{grammar, head, head_first, known_head, starts_not, a_sign}
 use Rattle.program_grammar.proofs.RuleLemmas.{built, build_up}
 
 -- a listing in parentheses begins with one
@@ -139,8 +139,7 @@ goes front [] s e = ([], e ∙ sym (append_nil front))
 goes front (t ∷ rest) s (y, e) = (t ∷ y, e)
 
 no_close_starts : (d : Parse expression) (q : ℕ) → head d ≡ symbol signs.Close q → ⊥
-no_close_starts d q e =
-    let yes' : starts expression (symbol signs.Close q) ≡ true = subst (λ t. starts expression t ≡ true) e (head_starts d) in absurd cc
+no_close_starts d q e = starts_not d (symbol signs.Close q) refl e
 
 module _ (p : ℕ) where
   -- an atom that begins with this parenthesis

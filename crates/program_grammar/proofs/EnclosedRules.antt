@@ -9,7 +9,7 @@ use Rattle.exact_reading.proofs.Sequences.{append_nil}
 use Rattle.exact_reading.proofs.Productions.{by_production}
 use Rattle.exact_reading.proofs.Starts.{After, after_right}
 use Rattle.exact_reading.proofs.Symbols.{Sym, one, part, Values, Seq, Sequence, open_up}
-use Rattle.program_grammar.proofs.GrammarLemmas.{grammar, head, head_first, known_head, head_starts, starts, a_sign}
+use Rattle.program_grammar.proofs.GrammarLemmas.{grammar, head, head_first, known_head, starts_not, starts, a_sign}
 use Rattle.program_grammar.proofs.RuleLemmas.{built, build_up}
 
 goes : {T : Type 0} (front rest s : List T) → SharesPrefix front rest s → (w : List T) × (s ≡ front ++ w)
@@ -22,11 +22,7 @@ close_starts_none arguments q = refl
 
 module _ (l : Listing) (p : ℕ) where
   no_close_starts : (d : Parse (series (list l))) (q : ℕ) → head d ≡ symbol signs.Close q → ⊥
-  no_close_starts d q e =
-      let yes' : starts (series (list l)) (symbol signs.Close q) ≡ true = subst (λ t. starts (series (list l)) t ≡ true) e (head_starts d)
-      in
-      let no' = close_starts_none l q in
-      cc
+  no_close_starts d q e = starts_not d (symbol signs.Close q) (close_starts_none l q) e
 
   abbrev pub full_symbols : List (Sym grammar)
   full_symbols = part (series (list l)) ∷ one (a_sign signs.Close) ∷ []
