@@ -1,5 +1,5 @@
 -- The productions of expressions.
-use Rattle.std.proofs.Common.{◌≡◌, ℕ, Bool, true, false, List, [], ◌∷◌, ◌++◌, refl, sym, ap, ◌∙◌, subst, arith, append_assoc, ◌⊎◌, inl, inr}
+use Rattle.std.proofs.Common.{◌≡◌, ℕ, Bool, true, false, List, [], ◌∷◌, ◌++◌, refl, sym, ap, ◌∙◌, arith, append_assoc, ◌⊎◌, inl, inr}
 use Rattle.task_model.specs.Text.{Text}
 use Rattle.task_model.specs.declared.keyword.Keyword.TheVariants as words
 use Rattle.task_model.specs.declared.symbol.Symbol.{Symbol}
@@ -27,41 +27,26 @@ told choice o (symbol signs.InternalChoice p) = internal
 told choice o (symbol signs.ExternalChoice p) = external
 told s o t = o
 
-told_operator : {s : Series} (d o : Operator s) (p : ℕ) → told s d (operator o p) ≡ o
+operator_told : {s : Series} (d o : Operator s) (p : ℕ) → (told s d (operator o p) ≡ o) × (token_place (operator o p) ≡ p)
 unfolding told
-told_operator (comma l) (comma m) p = refl
-told_operator d internal p = refl
-told_operator d external p = refl
-told_operator together together p = refl
-told_operator or or p = refl
-told_operator and and p = refl
-told_operator d plus p = refl
-told_operator d minus p = refl
-told_operator d join p = refl
-told_operator d times p = refl
-told_operator d quot p = refl
-told_operator d rem p = refl
-
-place_operator : {s : Series} (o : Operator s) (p : ℕ) → token_place (operator o p) ≡ p
-place_operator (comma l) p = refl
-place_operator internal p = refl
-place_operator external p = refl
-place_operator together p = refl
-place_operator or p = refl
-place_operator and p = refl
-place_operator plus p = refl
-place_operator minus p = refl
-place_operator join p = refl
-place_operator times p = refl
-place_operator quot p = refl
-place_operator rem p = refl
+operator_told (comma l) (comma m) p = (refl, refl)
+operator_told d internal p = (refl, refl)
+operator_told d external p = (refl, refl)
+operator_told together together p = (refl, refl)
+operator_told or or p = (refl, refl)
+operator_told and and p = (refl, refl)
+operator_told d plus p = (refl, refl)
+operator_told d minus p = (refl, refl)
+operator_told d join p = (refl, refl)
+operator_told d times p = (refl, refl)
+operator_told d quot p = (refl, refl)
+operator_told d rem p = (refl, refl)
 
 pub operators_apart : (s : Series) → Apart s
-operators_apart s o q p n e = (
-  sym (told_operator o o p) ∙ ap (told s o) e ∙ told_operator o q n,
-  sym (place_operator o p) ∙ ap token_place e
-      ∙ place_operator q n,
-)
+operators_apart s o q p n e =
+    let first = operator_told o o p in
+    let second = operator_told o q n in
+    (sym first.0 ∙ ap (told s o) e ∙ second.0, sym first.1 ∙ ap token_place e ∙ second.1)
 
 -- ---- operators before an operand
 told_prefix : Lexeme → Prefix
@@ -241,7 +226,8 @@ module _ (f : Form) where
   abbrev pub if_symbols : List (Sym grammar)
   if_symbols = part expression ∷ one (a_word words.Then) ∷ part f ∷ one (a_word words.Else) ∷ part f ∷ []
 
-  pub if_tokens : (p : ℕ) (vs : Values grammar if_symbols) → (keyword words.If p ∷ tokens vs.0) ++ (keyword words.Then vs.1.0 ∷ tokens vs.1.1.0)
+  pub if_tokens : (p : ℕ) (vs : Values grammar if_symbols)
+      → (keyword words.If p ∷ tokens vs.0) ++ (keyword words.Then vs.1.0 ∷ tokens vs.1.1.0)
       ++ (keyword words.Else vs.1.1.1.0 ∷ tokens vs.1.1.1.1.0) ≡ keyword words.If p ∷ tokens_of if_symbols vs
   if_tokens p vs = append_assoc (keyword words.If p ∷ tokens vs.0) (keyword words.Then vs.1.0 ∷ tokens vs.1.1.0)
       (keyword words.Else vs.1.1.1.0 ∷ tokens vs.1.1.1.1.0)

@@ -135,6 +135,11 @@ module _ {f : Form} {up : ℕ} {t : Lexeme} (R : Rule f up t) where
       → Right (Of f) (IsWithinLevels room) (EndsForm f) ts (Err (Fault TooNested (length ts)))
   too_deep {rest = rest} e lt = led_deep grammar up R.symbols R.build 0 (Of f) rule_in (rule_out rest) e lt
 
+-- what was seen in front stands first
+pub seen_first : {T : Type 0} (front rest s : List T) → SharesPrefix front rest s → (w : List T) × (s ≡ front ++ w)
+seen_first front [] s e = ([], e ∙ sym (append_nil front))
+seen_first front (t ∷ rest) s (y, e) = (t ∷ y, e)
+
 -- the tokens begin as no parse does
 pub no_parse : {f : Form} → Some f → (ts : List Lexeme) → ((d : Parse f) (s : List Lexeme) → ts ≡ head d ∷ s → ⊥) → {room : ℕ}
     → Right (Of f) (IsWithinLevels room) (EndsForm f) ts (Err (Fault Unexpected (length ts)))
