@@ -7,13 +7,13 @@ use Rattle.exact_reading.specs.Reading.{Language, IsWithinLevels, SharesPrefix, 
 use Rattle.task_model.specs.Lexemes.{Lexeme, symbol, name}
 use Rattle.task_model.specs.Grammar.{expression, atom, enclosed, Listing, arguments, Parse, digits, quoted, constant, nothing, named, content, call, group, pair, elements, nil, empty, full, tokens, levels}
 use Rattle.program_grammar.specs.Languages.{Of, EndsForm, stops_at}
-use Rattle.exact_reading.proofs.Sequences.{Bind, append_nil, begins_shorter}
+use Rattle.exact_reading.proofs.Sequences.{Bind, begins_shorter}
 use Rattle.exact_reading.proofs.Productions.{Least, bind_right, bind_stop, by_production, tok_right, least_alive, least_ever}
 use Rattle.exact_reading.proofs.Peeking.{peeked}
 use Rattle.exact_reading.proofs.Starts.{After, after_right}
 use Rattle.exact_reading.proofs.Symbols.{Sym, one, part, Values, Led, Seq, Sequence, size_above, least_seq, open_up}
-use Rattle.program_grammar.proofs.GrammarLemmas.{grammar, head, head_first, known_head, head_starts, starts, a_sign}
-use Rattle.program_grammar.proofs.RuleLemmas.{built, build_up}
+use Rattle.program_grammar.proofs.GrammarLemmas.{grammar, head, head_first, known_head, starts_not, a_sign}
+use Rattle.program_grammar.proofs.RuleLemmas.{built, build_up, seen_first}
 
 -- a listing in parentheses begins with one
 enclosed_open : {l : Listing} (d : Parse (enclosed l)) → (p : ℕ) × (w : List Lexeme) × (tokens d ≡ symbol signs.Open p ∷ w)
@@ -134,13 +134,8 @@ module _ (x : Text) (p : ℕ) where
           (known_head y.0 tt (name x p) ts a z h.0 (begins_shorter [] (name x p ∷ []) ts (a ++ z) b)) h.0 h.1
 
 -- ---- parentheses
-goes : {T : Type 0} (front rest s : List T) → SharesPrefix front rest s → (w : List T) × (s ≡ front ++ w)
-goes front [] s e = ([], e ∙ sym (append_nil front))
-goes front (t ∷ rest) s (y, e) = (t ∷ y, e)
-
 no_close_starts : (d : Parse expression) (q : ℕ) → head d ≡ symbol signs.Close q → ⊥
-no_close_starts d q e =
-    let yes' : starts expression (symbol signs.Close q) ≡ true = subst (λ t. starts expression t ≡ true) e (head_starts d) in absurd cc
+no_close_starts d q e = starts_not d (symbol signs.Close q) refl e
 
 module _ (p : ℕ) where
   -- an atom that begins with this parenthesis
@@ -179,7 +174,7 @@ module _ (p : ℕ) where
           → SharesPrefix (symbol signs.Open p ∷ (symbol signs.Close q ∷ [])) s (a ++ z)
           → (a ≡ symbol signs.Open p ∷ (symbol signs.Close q ∷ [])) × (y ≡ (nothing p q, 1))
       only a y z h b =
-          let (w, e') = goes (symbol signs.Open p ∷ (symbol signs.Close q ∷ [])) s (a ++ z) b in
+          let (w, e') = seen_first (symbol signs.Open p ∷ (symbol signs.Close q ∷ [])) s (a ++ z) b in
           let open_first : SharesPrefix [] (symbol signs.Open p ∷ (symbol signs.Close q ∷ w)) (a ++ z) = (symbol signs.Close q ∷ w, e') in
           by_open (λ d. tokens d ≡ a → levels d ≡ y.1 → (a ≡ symbol signs.Open p ∷ (symbol signs.Close q ∷ []))
           × ◌≡◌ {A = Parse atom × ℕ} (d, y.1) (nothing p q, 1))

@@ -1,20 +1,15 @@
 -- Listings in parentheses.
-use Rattle.std.proofs.Common.{◌≡◌, ℕ, ◌+◌, max, true, false, List, [], ◌∷◌, ◌++◌, Ok, refl, sym, ap, ◌∙◌, subst, arith, append_assoc}
+use Rattle.std.proofs.Common.{◌≡◌, ℕ, ◌+◌, max, false, List, [], ◌∷◌, ◌++◌, Ok, refl, sym, ap, ◌∙◌, subst, arith, append_assoc}
 use Rattle.task_model.specs.declared.symbol.Symbol.TheVariants as signs
 use Rattle.exact_reading.specs.Reading.{Language, IsWithinLevels, SharesPrefix, Answer, Right}
 use Rattle.task_model.specs.Lexemes.{Lexeme, symbol}
 use Rattle.task_model.specs.Grammar.{series, enclosed, Listing, parameters, arguments, list, Parse, empty, full, tokens, levels}
 use Rattle.program_grammar.specs.Languages.{Of, EndsForm}
-use Rattle.exact_reading.proofs.Sequences.{append_nil}
 use Rattle.exact_reading.proofs.Productions.{by_production}
 use Rattle.exact_reading.proofs.Starts.{After, after_right}
 use Rattle.exact_reading.proofs.Symbols.{Sym, one, part, Values, Seq, Sequence, open_up}
-use Rattle.program_grammar.proofs.GrammarLemmas.{grammar, head, head_first, known_head, head_starts, starts, a_sign}
-use Rattle.program_grammar.proofs.RuleLemmas.{built, build_up}
-
-goes : {T : Type 0} (front rest s : List T) → SharesPrefix front rest s → (w : List T) × (s ≡ front ++ w)
-goes front [] s e = ([], e ∙ sym (append_nil front))
-goes front (t ∷ rest) s (y, e) = (t ∷ y, e)
+use Rattle.program_grammar.proofs.GrammarLemmas.{grammar, head, head_first, known_head, starts_not, starts, a_sign}
+use Rattle.program_grammar.proofs.RuleLemmas.{built, build_up, seen_first}
 
 close_starts_none : (l : Listing) (q : ℕ) → starts (series (list l)) (symbol signs.Close q) ≡ false
 close_starts_none parameters q = refl
@@ -22,11 +17,7 @@ close_starts_none arguments q = refl
 
 module _ (l : Listing) (p : ℕ) where
   no_close_starts : (d : Parse (series (list l))) (q : ℕ) → head d ≡ symbol signs.Close q → ⊥
-  no_close_starts d q e =
-      let yes' : starts (series (list l)) (symbol signs.Close q) ≡ true = subst (λ t. starts (series (list l)) t ≡ true) e (head_starts d)
-      in
-      let no' = close_starts_none l q in
-      cc
+  no_close_starts d q e = starts_not d (symbol signs.Close q) (close_starts_none l q) e
 
   abbrev pub full_symbols : List (Sym grammar)
   full_symbols = part (series (list l)) ∷ one (a_sign signs.Close) ∷ []
@@ -60,7 +51,7 @@ module _ (l : Listing) (p : ℕ) where
           → SharesPrefix (symbol signs.Open p ∷ (symbol signs.Close q ∷ [])) s (a ++ z)
           → (a ≡ symbol signs.Open p ∷ (symbol signs.Close q ∷ [])) × ◌≡◌ {A = Parse (enclosed l) × ℕ} (d, n) (empty l p q, 0)
       only (empty m i j) n a z t k b =
-          let (w, e') = goes (symbol signs.Open p ∷ (symbol signs.Close q ∷ [])) s (a ++ z) b in
+          let (w, e') = seen_first (symbol signs.Open p ∷ (symbol signs.Close q ∷ [])) s (a ++ z) b in
           let same : symbol signs.Open i ∷ (symbol signs.Close j ∷ z) ≡ symbol signs.Open p ∷ (symbol signs.Close q ∷ w) =
           ap (λ r. r ++ z) t ∙ e' in
           let i_is : i ≡ p = cc in
@@ -70,7 +61,7 @@ module _ (l : Listing) (p : ℕ) where
             ap (λ x. (empty l i j, x)) (sym k) ∙ ap (λ x. (empty l x j, 0)) i_is ∙ ap (λ x. (empty l p x, 0)) j_is,
           )
       only (full m i es j) n a z t k b =
-          let (w, e') = goes (symbol signs.Open p ∷ (symbol signs.Close q ∷ [])) s (a ++ z) b in
+          let (w, e') = seen_first (symbol signs.Open p ∷ (symbol signs.Close q ∷ [])) s (a ++ z) b in
           let same : symbol signs.Open i ∷ ((tokens es ++ (symbol signs.Close j ∷ [])) ++ z) ≡ symbol signs.Open p
           ∷ (symbol signs.Close q ∷ w) =
           ap (λ r. r ++ z) t ∙ e' in

@@ -1,15 +1,15 @@
 -- The productions of expressions.
-use Rattle.std.proofs.Common.{◌≡◌, ℕ, Bool, true, false, List, [], ◌∷◌, refl, sym, ap, ◌∙◌, subst, arith, append_assoc, ◌⊎◌, inl, inr}
+use Rattle.std.proofs.Common.{◌≡◌, ℕ, Bool, true, false, List, [], ◌∷◌, ◌++◌, refl, sym, ap, ◌∙◌, arith, append_assoc, ◌⊎◌, inl, inr}
 use Rattle.task_model.specs.Text.{Text}
 use Rattle.task_model.specs.declared.keyword.Keyword.TheVariants as words
 use Rattle.task_model.specs.declared.symbol.Symbol.{Symbol}
 use Rattle.task_model.specs.declared.symbol.Symbol.TheVariants as signs
 use Rattle.task_model.specs.Lexemes.{Lexeme, keyword, symbol, name, number, quoted_text}
-use Rattle.task_model.specs.Grammar.{basic, expression, comparison, listed, operand, atom, series, arguments, Series, list, choice, either, sum, product, Operator, comma, internal, external, together, or, and, plus, minus, join, times, quot, rem, operator, Relation, equal, unequal, less, less_equal, greater, greater_equal, relation, Prefix, negative, not, fst, snd, len, prefix, truth, Parse, let_in, if_then, case_of, plain, uncompared, compared, unlisted, cons, prefixed, unprefixed, digits, quoted, constant, content, elements, nil, tokens}
+use Rattle.task_model.specs.Grammar.{Form, basic, expression, comparison, listed, operand, atom, series, arguments, Series, list, choice, either, sum, product, Operator, comma, internal, external, together, or, and, plus, minus, join, times, quot, rem, operator, Relation, equal, unequal, less, less_equal, greater, greater_equal, relation, Prefix, negative, not, fst, snd, len, prefix, truth, Parse, let_in, if_then, case_of, plain, uncompared, compared, unlisted, cons, prefixed, unprefixed, digits, quoted, constant, content, elements, nil, tokens}
 use Rattle.task_model.specs.Lexemes.{token_place}
 use Rattle.program_grammar.specs.Languages.{stops_at, rank, reach}
 use Rattle.exact_reading.proofs.Symbols.{Sym, one, part, Values}
-use Rattle.program_grammar.proofs.GrammarLemmas.{grammar, head, head_starts, starts, a_word, a_sign, a_name}
+use Rattle.program_grammar.proofs.GrammarLemmas.{grammar, head, starts_not, starts, a_word, a_sign, a_name}
 use Rattle.program_grammar.proofs.RuleLemmas.{Rule, tokens_of}
 use Rattle.program_grammar.proofs.SeriesLemmas.{Apart}
 use Rattle.program_grammar.proofs.PassingLemmas.{Passing}
@@ -27,41 +27,26 @@ told choice o (symbol signs.InternalChoice p) = internal
 told choice o (symbol signs.ExternalChoice p) = external
 told s o t = o
 
-told_operator : {s : Series} (d o : Operator s) (p : ℕ) → told s d (operator o p) ≡ o
+operator_told : {s : Series} (d o : Operator s) (p : ℕ) → (told s d (operator o p) ≡ o) × (token_place (operator o p) ≡ p)
 unfolding told
-told_operator (comma l) (comma m) p = refl
-told_operator d internal p = refl
-told_operator d external p = refl
-told_operator together together p = refl
-told_operator or or p = refl
-told_operator and and p = refl
-told_operator d plus p = refl
-told_operator d minus p = refl
-told_operator d join p = refl
-told_operator d times p = refl
-told_operator d quot p = refl
-told_operator d rem p = refl
-
-place_operator : {s : Series} (o : Operator s) (p : ℕ) → token_place (operator o p) ≡ p
-place_operator (comma l) p = refl
-place_operator internal p = refl
-place_operator external p = refl
-place_operator together p = refl
-place_operator or p = refl
-place_operator and p = refl
-place_operator plus p = refl
-place_operator minus p = refl
-place_operator join p = refl
-place_operator times p = refl
-place_operator quot p = refl
-place_operator rem p = refl
+operator_told (comma l) (comma m) p = (refl, refl)
+operator_told d internal p = (refl, refl)
+operator_told d external p = (refl, refl)
+operator_told together together p = (refl, refl)
+operator_told or or p = (refl, refl)
+operator_told and and p = (refl, refl)
+operator_told d plus p = (refl, refl)
+operator_told d minus p = (refl, refl)
+operator_told d join p = (refl, refl)
+operator_told d times p = (refl, refl)
+operator_told d quot p = (refl, refl)
+operator_told d rem p = (refl, refl)
 
 pub operators_apart : (s : Series) → Apart s
-operators_apart s o q p n e = (
-  sym (told_operator o o p) ∙ ap (told s o) e ∙ told_operator o q n,
-  sym (place_operator o p) ∙ ap token_place e
-      ∙ place_operator q n,
-)
+operators_apart s o q p n e =
+    let first = operator_told o o p in
+    let second = operator_told o q n in
+    (sym first.0 ∙ ap (told s o) e ∙ second.0, sym first.1 ∙ ap token_place e ∙ second.1)
 
 -- ---- operators before an operand
 told_prefix : Lexeme → Prefix
@@ -102,10 +87,7 @@ prefix_back o p (prefixed q r a) e =
     let op_is : q ≡ o = sym (prefix_told q r) ∙ ap told_prefix e ∙ prefix_told o p in
     let place_is : r ≡ p = sym (prefix_place q r) ∙ ap token_place e ∙ prefix_place o p in
     ((a, tt), sym (ap (λ x. prefixed x r a) op_is ∙ ap (λ x. prefixed o x a) place_is))
-prefix_back o p (unprefixed a) e =
-    let yes' : starts atom (prefix o p) ≡ true = subst (λ t. starts atom t ≡ true) e (head_starts a) in
-    let no' = no_atom_starts o p in
-    absurd cc
+prefix_back o p (unprefixed a) e = absurd (starts_not a (prefix o p) (no_atom_starts o p) e)
 
 abbrev pub prefix_rule : (o : Prefix) (p : ℕ) → Rule operand 1 (prefix o p)
 prefix_rule o p = record {
@@ -236,93 +218,103 @@ listings = record {
   apart = λ l m e. cc;
 }
 
--- ---- let, if, case
-abbrev pub let_symbols : List (Sym grammar)
-let_symbols = one a_name ∷ one (a_sign signs.Define) ∷ part expression ∷ one (a_word words.In) ∷ part expression ∷ []
+-- ---- the symbols behind `let`, `if` and `case`, of expressions and of tasks alike: the parts that differ are of this form
+module _ (f : Form) where
+  abbrev pub binding_symbols : List (Sym grammar)
+  binding_symbols = one a_name ∷ one (a_sign signs.Define) ∷ part expression ∷ one (a_word words.In) ∷ part f ∷ []
 
-abbrev pub let_build : ℕ → Values grammar let_symbols → Parse expression
+  abbrev pub if_symbols : List (Sym grammar)
+  if_symbols = part expression ∷ one (a_word words.Then) ∷ part f ∷ one (a_word words.Else) ∷ part f ∷ []
+
+  pub if_tokens : (p : ℕ) (vs : Values grammar if_symbols)
+      → (keyword words.If p ∷ tokens vs.0) ++ (keyword words.Then vs.1.0 ∷ tokens vs.1.1.0)
+      ++ (keyword words.Else vs.1.1.1.0 ∷ tokens vs.1.1.1.1.0) ≡ keyword words.If p ∷ tokens_of if_symbols vs
+  if_tokens p vs = append_assoc (keyword words.If p ∷ tokens vs.0) (keyword words.Then vs.1.0 ∷ tokens vs.1.1.0)
+      (keyword words.Else vs.1.1.1.0 ∷ tokens vs.1.1.1.1.0)
+
+  abbrev pub case_symbols : List (Sym grammar)
+  case_symbols =
+      part expression ∷ one (a_word words.Of) ∷ one (a_sign signs.OpenBracket) ∷ one (a_sign signs.CloseBracket)
+      ∷ one (a_sign signs.Arrow) ∷ part f
+      ∷ one (a_sign signs.Bar) ∷ one a_name ∷ one (a_sign signs.Cons) ∷ one a_name ∷ one (a_sign signs.Arrow) ∷ part f ∷ []
+
+  -- the tokens from `of` to the bar, and those behind
+  abbrev empty_tokens : Values grammar case_symbols → List Lexeme
+  empty_tokens vs = keyword words.Of vs.1.0 ∷ symbol signs.OpenBracket vs.1.1.0 ∷ symbol signs.CloseBracket vs.1.1.1.0
+      ∷ symbol signs.Arrow vs.1.1.1.1.0 ∷ tokens vs.1.1.1.1.1.0
+
+  abbrev more_tokens : Values grammar case_symbols → List Lexeme
+  more_tokens vs =
+      let after = vs.1.1.1.1.1.1 in
+      symbol signs.Bar after.0 ∷ name after.1.0.0 after.1.0.1 ∷ symbol signs.Cons after.1.1.0 ∷ name after.1.1.1.0.0 after.1.1.1.0.1
+      ∷ symbol signs.Arrow after.1.1.1.1.0 ∷ tokens after.1.1.1.1.1.0
+
+  pub case_tokens : (p : ℕ) (vs : Values grammar case_symbols)
+      → (keyword words.Case p ∷ tokens vs.0) ++ empty_tokens vs ++ more_tokens vs ≡ keyword words.Case p ∷ tokens_of case_symbols vs
+  case_tokens p vs = append_assoc (keyword words.Case p ∷ tokens vs.0) (empty_tokens vs) (more_tokens vs)
+
+-- ---- let, if, case
+abbrev pub let_build : ℕ → Values grammar (binding_symbols expression) → Parse expression
 let_build p vs = let_in p vs.0.0 vs.0.1 vs.1.0 vs.1.1.0 vs.1.1.1.0 vs.1.1.1.1.0
 
-pub let_back : (p : ℕ) (d : Parse expression) → head d ≡ keyword words.Let p → (vs : Values grammar let_symbols) × (let_build p vs ≡ d)
+pub let_back : (p : ℕ) (d : Parse expression) → head d ≡ keyword words.Let p
+    → (vs : Values grammar (binding_symbols expression)) × (let_build p vs ≡ d)
 let_back p (let_in q x r s e t d) h = let same : q ≡ p = cc in (((x, r), (s, (e, (t, (d, tt))))), ap (λ n. let_in n x r s e t d) (sym same))
-let_back p (plain e) h =
-    let yes' : starts (series either) (keyword words.Let p) ≡ true = subst (λ t. starts (series either) t ≡ true) h (head_starts e) in
-    absurd cc
+let_back p (plain e) h = absurd (starts_not e (keyword words.Let p) refl h)
 let_back p d h = absurd cc
 
 abbrev pub let_rule : (p : ℕ) → Rule expression 1 (keyword words.Let p)
 let_rule p = record {
   some = tt;
-  symbols = let_symbols;
+  symbols = binding_symbols expression;
   build = let_build p;
   tokens_are = λ vs. refl;
   levels_are = λ vs. omega arith;
   back = let_back p;
 }
 
-abbrev pub if_symbols : List (Sym grammar)
-if_symbols = part expression ∷ one (a_word words.Then) ∷ part expression ∷ one (a_word words.Else) ∷ part expression ∷ []
-
-abbrev pub if_build : ℕ → Values grammar if_symbols → Parse expression
+abbrev pub if_build : ℕ → Values grammar (if_symbols expression) → Parse expression
 if_build p vs = if_then p vs.0 vs.1.0 vs.1.1.0 vs.1.1.1.0 vs.1.1.1.1.0
 
-pub if_back : (p : ℕ) (d : Parse expression) → head d ≡ keyword words.If p → (vs : Values grammar if_symbols) × (if_build p vs ≡ d)
+pub if_back : (p : ℕ) (d : Parse expression) → head d ≡ keyword words.If p
+    → (vs : Values grammar (if_symbols expression)) × (if_build p vs ≡ d)
 if_back p (if_then q e r a s b) h = let same : q ≡ p = cc in ((e, (r, (a, (s, (b, tt))))), ap (λ n. if_then n e r a s b) (sym same))
-if_back p (plain e) h =
-    let yes' : starts (series either) (keyword words.If p) ≡ true = subst (λ t. starts (series either) t ≡ true) h (head_starts e) in
-    absurd cc
+if_back p (plain e) h = absurd (starts_not e (keyword words.If p) refl h)
 if_back p d h = absurd cc
 
 abbrev pub if_rule : (p : ℕ) → Rule expression 1 (keyword words.If p)
 if_rule p = record {
   some = tt;
-  symbols = if_symbols;
+  symbols = if_symbols expression;
   build = if_build p;
-  tokens_are = λ vs. append_assoc (keyword words.If p ∷ tokens vs.0) (keyword words.Then vs.1.0 ∷ tokens vs.1.1.0)
-      (keyword words.Else vs.1.1.1.0 ∷ tokens vs.1.1.1.1.0);
+  tokens_are = if_tokens expression p;
   levels_are = λ vs. omega arith;
   back = if_back p;
 }
 
-abbrev pub case_symbols : List (Sym grammar)
-case_symbols =
-    part expression ∷ one (a_word words.Of) ∷ one (a_sign signs.OpenBracket) ∷ one (a_sign signs.CloseBracket) ∷ one (a_sign signs.Arrow)
-    ∷ part expression
-    ∷ one (a_sign signs.Bar) ∷ one a_name ∷ one (a_sign signs.Cons) ∷ one a_name ∷ one (a_sign signs.Arrow) ∷ part expression ∷ []
-
-abbrev pub case_build : ℕ → Values grammar case_symbols → Parse expression
+abbrev pub case_build : ℕ → Values grammar (case_symbols expression) → Parse expression
 case_build p vs =
     let after = vs.1.1.1.1.1.1 in
     case_of p vs.0 vs.1.0 vs.1.1.0 vs.1.1.1.0 vs.1.1.1.1.0 vs.1.1.1.1.1.0 after.0 after.1.0.0 after.1.0.1 after.1.1.0 after.1.1.1.0.0
     after.1.1.1.0.1 after.1.1.1.1.0 after.1.1.1.1.1.0
 
-pub case_back : (p : ℕ) (d : Parse expression) → head d ≡ keyword words.Case p → (vs : Values grammar case_symbols) × (case_build p vs ≡ d)
+pub case_back : (p : ℕ) (d : Parse expression) → head d ≡ keyword words.Case p
+    → (vs : Values grammar (case_symbols expression)) × (case_build p vs ≡ d)
 case_back p (case_of o e q r s a d b x i j y k c u) h =
     let same : o ≡ p = cc in (
       (e, (q, (r, (s, (a, (d, (b, ((x, i), (j, ((y, k), (c, (u, tt)))))))))))),
       ap
           (λ n. case_of n e q r s a d b x i j y k c u) (sym same),
     )
-case_back p (plain e) h =
-    let yes' : starts (series either) (keyword words.Case p) ≡ true = subst (λ t. starts (series either) t ≡ true) h (head_starts e) in
-    absurd cc
+case_back p (plain e) h = absurd (starts_not e (keyword words.Case p) refl h)
 case_back p d h = absurd cc
-
-pub case_tokens : (p : ℕ) (vs : Values grammar case_symbols) → tokens (case_build p vs) ≡ keyword words.Case p ∷ tokens_of case_symbols vs
-case_tokens p vs =
-    let after = vs.1.1.1.1.1.1 in
-    append_assoc (keyword words.Case p ∷ tokens vs.0)
-    (keyword words.Of vs.1.0 ∷ symbol signs.OpenBracket vs.1.1.0 ∷ symbol signs.CloseBracket vs.1.1.1.0 ∷ symbol signs.Arrow vs.1.1.1.1.0
-    ∷ tokens vs.1.1.1.1.1.0)
-    (symbol signs.Bar after.0 ∷ name after.1.0.0 after.1.0.1 ∷ symbol signs.Cons after.1.1.0 ∷ name after.1.1.1.0.0 after.1.1.1.0.1
-    ∷ symbol signs.Arrow after.1.1.1.1.0 ∷ tokens after.1.1.1.1.1.0)
 
 abbrev pub case_rule : (p : ℕ) → Rule expression 1 (keyword words.Case p)
 case_rule p = record {
   some = tt;
-  symbols = case_symbols;
+  symbols = case_symbols expression;
   build = case_build p;
-  tokens_are = case_tokens p;
+  tokens_are = case_tokens expression p;
   levels_are = λ vs. omega arith;
   back = case_back p;
 }

@@ -1,5 +1,5 @@
 -- What holds of each parse: its levels, and its first token.
-use Rattle.std.proofs.Common.{◌≡◌, ℕ, zero, suc, ◌≤◌, Bool, true, false, List, [], ◌∷◌, ◌++◌, refl, sym, ap, ◌∙◌, arith}
+use Rattle.std.proofs.Common.{◌≡◌, ℕ, zero, suc, ◌≤◌, Bool, true, false, List, [], ◌∷◌, ◌++◌, refl, sym, ap, ◌∙◌, subst, arith}
 use Rattle.std.specs.Prelude.{◌||◌}
 use Rattle.task_model.specs.Text.{Text}
 use Rattle.task_model.specs.declared.keyword.Keyword.{Keyword}
@@ -315,6 +315,10 @@ head_starts (constant b p) = start_of_truth b p
 head_starts (single s a) = sym (part_starts s (head a)) ∙ head_starts a
 head_starts (joined s a o p b) = head_starts a
 head_starts d = refl
+
+-- nothing that a form never starts with is the first token of a parse
+pub starts_not : {f : Form} (d : Parse f) (t : Lexeme) → starts f t ≡ false → head d ≡ t → ⊥
+starts_not {f} d t none h = let yes' : starts f t ≡ true = subst (λ u. starts f u ≡ true) h (head_starts d) in cc
 
 -- ---- what may follow
 pub stops_less : (most fewer : ℕ) (r : ℕ) → fewer ≤ most → stops_at most r ≡ true → stops_at fewer r ≡ true

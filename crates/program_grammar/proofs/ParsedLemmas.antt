@@ -1,9 +1,8 @@
 -- What a node comes to by what its parts come to. The code counts a level as `1 + n` where a parse has `suc n`.
-use Rattle.std.proofs.Common.{◌≡◌, ℕ, suc, ◌+◌, List, [], map, sym, ap, ◌∙◌, arith}
-use Rattle.task_model.specs.Host.{HostTerm, host_term, op_expr}
+use Rattle.std.proofs.Common.{◌≡◌, ℕ, suc, ◌+◌, List, [], sym, ap, ◌∙◌, arith}
+use Rattle.task_model.specs.Host.{HostTerm, op_expr}
 use Rattle.task_model.specs.declared.host.Op.{Op}
 use Rattle.task_model.specs.declared.host.Host.{Host}
-use Rattle.task_model.specs.Task.{body_term}
 use Rattle.program_grammar.specs.declared.parsed.Parsed.{Parsed}
 use Rattle.task_model.specs.Basic.{BasicTerm}
 use Rattle.program_grammar.specs.Parts.{shown_host, ParsedTerm, PartsTerm, Listed, one_part, both_parts, node, over_type, over_list, over_one, over_two, over_three, grouped}
@@ -75,42 +74,7 @@ module _ {V : Type 0} where
 pub group_shown : (a r : Parsed Host) {p : ℕ}
     → r.term ≡ a.term → r.levels ≡ 1 + a.levels → r.start ≡ p → r.places ≡ a.places → r.bodies ≡ a.bodies
     → shown_host r ≡ grouped p (shown_host a)
-group_shown a r {p = p} term levels start places bodies =
-    ap (λ t. record {
-      term = host_term t.value;
-      levels = r.levels;
-      start = r.start;
-      places = r.places.items;
-      bodies = map body_term r.bodies.items;
-    }) term
-    ∙ ap (λ n. record {
-      term = host_term a.term.value;
-      levels = n;
-      start = r.start;
-      places = r.places.items;
-      bodies = map body_term r.bodies.items;
-    }) levels
-    ∙ ap (λ n. record {
-      term = host_term a.term.value;
-      levels = 1 + a.levels;
-      start = n;
-      places = r.places.items;
-      bodies = map body_term r.bodies.items;
-    }) start
-    ∙ ap (λ l. record {
-      term = host_term a.term.value;
-      levels = 1 + a.levels;
-      start = p;
-      places = l.items;
-      bodies = map body_term r.bodies.items;
-    }) places
-    ∙ ap (λ l. record {
-      term = host_term a.term.value;
-      levels = 1 + a.levels;
-      start = p;
-      places = a.places.items;
-      bodies = map body_term l.items;
-    }) bodies
+group_shown a r term levels start places bodies = cc
 
 -- an operator between two expressions
 pub operated_is : {op op' : Op} {p : ℕ} {a a' b b' r : ParsedTerm HostTerm}

@@ -1,14 +1,15 @@
 -- A production of a node: its first token, and its symbols.
 use Rattle.std.proofs.Common.{◌≡◌, ℕ, ◌+◌, ◌≤◌, ◌<◌, max, List, [], ◌∷◌, ◌++◌, length, Err, refl, sym, ap, ◌∙◌, subst}
 use Rattle.exact_reading.specs.declared.stop.ParseStop.TheVariants.{Fault}
-use Rattle.exact_reading.specs.declared.stop.FaultKind.TheVariants.{TooNested}
+use Rattle.exact_reading.specs.declared.stop.FaultKind.TheVariants.{Unexpected, TooNested}
 use Rattle.exact_reading.specs.Reading.{IsWithinLevels, SharesPrefix, Answer, Right}
 use Rattle.task_model.specs.Lexemes.{Lexeme}
 use Rattle.task_model.specs.Grammar.{Form, Parse, tokens, levels}
 use Rattle.program_grammar.specs.Languages.{Of, EndsForm}
 use Rattle.exact_reading.proofs.Sequences.{append_nil}
+use Rattle.exact_reading.proofs.Productions.{refused_first}
 use Rattle.exact_reading.proofs.Symbols.{Sym, tok, one, part, Values, Seq, Sequence, size, Led, led_right, led_deep}
-use Rattle.program_grammar.proofs.GrammarLemmas.{grammar, Some, head, known_head, class_token}
+use Rattle.program_grammar.proofs.GrammarLemmas.{grammar, Some, head, begins_head, known_head, class_token}
 
 -- the tokens of symbols with these parts
 abbrev pub tokens_of : (s : List (Sym grammar)) → Values grammar s → List Lexeme
@@ -133,3 +134,13 @@ module _ {f : Form} {up : ℕ} {t : Lexeme} (R : Rule f up t) where
   pub too_deep : {room : ℕ} {ts rest : List Lexeme} → ts ≡ t ∷ rest → room < size grammar up R.symbols 0
       → Right (Of f) (IsWithinLevels room) (EndsForm f) ts (Err (Fault TooNested (length ts)))
   too_deep {rest = rest} e lt = led_deep grammar up R.symbols R.build 0 (Of f) rule_in (rule_out rest) e lt
+
+-- what was seen in front stands first
+pub seen_first : {T : Type 0} (front rest s : List T) → SharesPrefix front rest s → (w : List T) × (s ≡ front ++ w)
+seen_first front [] s e = ([], e ∙ sym (append_nil front))
+seen_first front (t ∷ rest) s (y, e) = (t ∷ y, e)
+
+-- the tokens begin as no parse does
+pub no_parse : {f : Form} → Some f → (ts : List Lexeme) → ((d : Parse f) (s : List Lexeme) → ts ≡ head d ∷ s → ⊥) → {room : ℕ}
+    → Right (Of f) (IsWithinLevels room) (EndsForm f) ts (Err (Fault Unexpected (length ts)))
+no_parse {f} some ts none = refused_first (Of f) ts (λ a y z h _ b. let (s, is) = begins_head y.0 some a z ts h.0 b in none y.0 s is)

@@ -65,55 +65,33 @@ ungrown (single s a) is = (a, is, refl)
 ungrown (joined s d o p b) is = ungrown d (record { op = o; place = p; part = b } ∷ is)
 
 -- ---- what follows
-part_reach : (s : Series) → reach (part_of s) ≤ reach (series s)
-part_reach (list parameters) = omega arith
-part_reach (list arguments) = omega arith
-part_reach choice = omega arith
-part_reach chain = omega arith
-part_reach either = omega arith
-part_reach both = omega arith
-part_reach sum = omega arith
-part_reach product = omega arith
+-- a part reaches no further than the series, and there is one of a level
+part_bounds : (s : Series) → (reach (part_of s) ≤ reach (series s)) × (levels (smallest (part_of s)) ≤ 1)
+part_bounds (list parameters) = (omega arith, omega arith)
+part_bounds (list arguments) = (omega arith, omega arith)
+part_bounds choice = (omega arith, omega arith)
+part_bounds chain = (omega arith, omega arith)
+part_bounds either = (omega arith, omega arith)
+part_bounds both = (omega arith, omega arith)
+part_bounds sum = (omega arith, omega arith)
+part_bounds product = (omega arith, omega arith)
 
-operator_past : {s : Series} (o : Operator s) (p : ℕ) → stops_at (reach (part_of s)) (rank (operator o p)) ≡ true
-operator_past (comma parameters) p = refl
-operator_past (comma arguments) p = refl
-operator_past internal p = refl
-operator_past external p = refl
-operator_past together p = refl
-operator_past or p = refl
-operator_past and p = refl
-operator_past plus p = refl
-operator_past minus p = refl
-operator_past join p = refl
-operator_past times p = refl
-operator_past quot p = refl
-operator_past rem p = refl
-
-operator_within : {s : Series} (o : Operator s) (p : ℕ) → stops_at (reach (series s)) (rank (operator o p)) ≡ false
-operator_within (comma parameters) p = refl
-operator_within (comma arguments) p = refl
-operator_within internal p = refl
-operator_within external p = refl
-operator_within together p = refl
-operator_within or p = refl
-operator_within and p = refl
-operator_within plus p = refl
-operator_within minus p = refl
-operator_within join p = refl
-operator_within times p = refl
-operator_within quot p = refl
-operator_within rem p = refl
-
-small_part : (s : Series) → levels (smallest (part_of s)) ≤ 1
-small_part (list parameters) = omega arith
-small_part (list arguments) = omega arith
-small_part choice = omega arith
-small_part chain = omega arith
-small_part either = omega arith
-small_part both = omega arith
-small_part sum = omega arith
-small_part product = omega arith
+-- an operator ends a part, and goes on with the series
+operator_bounds : {s : Series} (o : Operator s) (p : ℕ)
+    → (stops_at (reach (part_of s)) (rank (operator o p)) ≡ true) × (stops_at (reach (series s)) (rank (operator o p)) ≡ false)
+operator_bounds (comma parameters) p = (refl, refl)
+operator_bounds (comma arguments) p = (refl, refl)
+operator_bounds internal p = (refl, refl)
+operator_bounds external p = (refl, refl)
+operator_bounds together p = (refl, refl)
+operator_bounds or p = (refl, refl)
+operator_bounds and p = (refl, refl)
+operator_bounds plus p = (refl, refl)
+operator_bounds minus p = (refl, refl)
+operator_bounds join p = (refl, refl)
+operator_bounds times p = (refl, refl)
+operator_bounds quot p = (refl, refl)
+operator_bounds rem p = (refl, refl)
 
 module _ (s : Series) where
   tail_follow : (x : Parse (series s) × ℕ) (b : List Lexeme) (y : Parse (series s) × ℕ) (z : List Lexeme) → Tail s x b y
@@ -121,8 +99,8 @@ module _ (s : Series) where
   tail_follow x b y z h hz = go h.items h.are
     where
       go : (is : List (Item s)) → b ≡ tail_tokens is → EndsForm (part_of s) (b ++ z)
-      go [] e = subst (λ l. EndsForm (part_of s) (l ++ z)) (sym e) (stops_within (part_of s) (series s) (part_reach s) z hz)
-      go (i ∷ is) e = subst (λ l. EndsForm (part_of s) (l ++ z)) (sym e) (operator_past i.op i.place)
+      go [] e = subst (λ l. EndsForm (part_of s) (l ++ z)) (sym e) (stops_within (part_of s) (series s) (part_bounds s).0 z hz)
+      go (i ∷ is) e = subst (λ l. EndsForm (part_of s) (l ++ z)) (sym e) (operator_bounds i.op i.place).0
 
   above_tail : (x : Parse (series s) × ℕ) (b : List Lexeme) (y : Parse (series s) × ℕ) → Tail s x b y → x.1 ≤ y.1
   above_tail x b y h = let e : y.1 ≡ grown_levels x.1 h.items = ap (λ q. q.1) h.is in let n = not_fewer x.1 h.items in omega (arith, e, n)
@@ -190,7 +168,7 @@ module _ (s : Series) where
 
   least_more : (x : Parse (series s) × ℕ) (o : Operator s) (p : ℕ) → 1 ≤ x.1 → Least (above s + x.1) (More s x o p)
   least_more x o p pos =
-      let small = small_part s in
+      let small = (part_bounds s).1 in
       least_bind (above s + x.1) (Of (part_of s)) (λ r. Tail s (Grow s x o p r)) (λ r. above s + max x.1 r.1)
       (λ r. least_tail (Grow s x o p r)) (tokens (smallest (part_of s))) (smallest (part_of s), levels (smallest (part_of s)))
       (refl, refl) (omega (arith, small, pos)) (λ _ _ _. omega arith)
@@ -221,7 +199,7 @@ module _ (s : Series) where
             let (w, b') = b in
             let same : z ≡ operator o p ∷ w = ap (λ l. l ++ z) (sym e) ∙ b' in
             let yes' : stops_at (reach (series s)) (rank (operator o p)) ≡ true = subst (EndsForm (series s)) same hz in
-            let no' = operator_within o p in
+            let no' = (operator_bounds o p).1 in
             absurd cc
         go (i ∷ is) e v =
             let (w, b') = b in

@@ -6,7 +6,6 @@ use Rattle.task_model.specs.declared.symbol.Symbol.TheVariants as signs
 use Rattle.exact_reading.specs.declared.stop.ParseStop.TheVariants.{Fault}
 use Rattle.exact_reading.specs.declared.stop.FaultKind.TheVariants.{Unexpected}
 use Rattle.exact_reading.specs.Reading.{IsWithinLevels, Right}
-use Rattle.exact_reading.proofs.Productions.{refused_first}
 use Rattle.exact_reading.proofs.Symbols.{Sym, one, part, Values}
 use Rattle.task_model.specs.Lexemes.{Lexeme, keyword, symbol}
 use Rattle.task_model.specs.Grammar.{basic, Scalar, unit, bool, int, text, scalar, Parse, scalar_type, pair_type, list_type, tokens, levels}
@@ -15,8 +14,8 @@ use Rattle.task_model.specs.Basic as types
 use Rattle.program_grammar.specs.Languages.{Of, EndsForm}
 use Rattle.task_model.specs.Meaning.{meaning}
 use Rattle.program_grammar.specs.Parts.{shown_type}
-use Rattle.program_grammar.proofs.GrammarLemmas.{grammar, head, begins_head, a_sign}
-use Rattle.program_grammar.proofs.RuleLemmas.{Rule}
+use Rattle.program_grammar.proofs.GrammarLemmas.{grammar, head, a_sign}
+use Rattle.program_grammar.proofs.RuleLemmas.{Rule, no_parse}
 
 unscalar : Keyword → Scalar
 unscalar words.Bool = bool
@@ -116,4 +115,4 @@ module _ (ts : List Lexeme) (no_word : (b : Scalar) (p : ℕ) (s : List Lexeme) 
   none (list_type p a q) s e = no_list p s e
 
   pub no_type : {room : ℕ} → Right (Of basic) (IsWithinLevels room) (EndsForm basic) ts (Err (Fault Unexpected (length ts)))
-  no_type = refused_first (Of basic) ts (λ a y z h _ b. let (s, is) = begins_head y.0 tt a z ts h.0 b in none y.0 s is)
+  no_type = no_parse tt ts none
