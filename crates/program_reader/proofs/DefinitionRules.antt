@@ -1,6 +1,7 @@
 -- The productions of parameters and definitions.
 use Rattle.std.proofs.Common.{◌≡◌, ℕ, ◌+◌, ◌≤◌, max, true, false, List, [], ◌∷◌, ◌++◌, length, Err, refl, sym, ap, ◌∙◌, subst, arith, append_assoc}
 use Rattle.task_model.specs.Text.{Text}
+use Rattle.task_model.specs.declared.keyword.Keyword.{Keyword}
 use Rattle.task_model.specs.declared.keyword.Keyword.TheVariants as words
 use Rattle.task_model.specs.declared.symbol.Symbol.TheVariants as signs
 use Rattle.exact_reading.specs.declared.stop.ParseStop.TheVariants.{Fault}
@@ -10,63 +11,57 @@ use Rattle.exact_reading.proofs.Productions.{by_production}
 use Rattle.exact_reading.proofs.Starts.{After, after_right, starts_none}
 use Rattle.exact_reading.proofs.Symbols.{Sym, one, part, Values, Seq, Sequence, Led, led_right, open_up}
 use Rattle.task_model.specs.Lexemes.{Lexeme, keyword, symbol, name}
-use Rattle.task_model.specs.Grammar.{definition, parameter, basic, task, expression, enclosed, parameters, Parse, function, task_named, value_named, reference_named, tokens, levels}
+use Rattle.task_model.specs.Grammar.{Form, definition, parameter, basic, task, expression, enclosed, parameters, Parse, function, task_named, value_named, reference_named, tokens, levels}
 use Rattle.program_grammar.specs.Languages.{Of, EndsForm}
 use Rattle.program_grammar.proofs.GrammarLemmas.{grammar, head, head_first, head_starts, starts, smallest, a_sign, a_name}
 use Rattle.program_grammar.proofs.RuleLemmas.{Rule, tokens_of, built, build_up}
 
--- ---- definitions
-abbrev pub function_symbols : List (Sym grammar)
-function_symbols = one a_name ∷ part (enclosed parameters) ∷ one (a_sign signs.Colon) ∷ part basic ∷ one (a_sign signs.Define)
-    ∷ part expression ∷ []
+-- ---- definitions: the symbols behind `fun` and `task`, whose bodies are of this form
+module _ (f : Form) where
+  abbrev pub definition_symbols : List (Sym grammar)
+  definition_symbols = one a_name ∷ part (enclosed parameters) ∷ one (a_sign signs.Colon) ∷ part basic ∷ one (a_sign signs.Define)
+      ∷ part f ∷ []
 
-abbrev pub function_build : ℕ → Values grammar function_symbols → Parse definition
+  pub definition_tokens : (word : Keyword) (p : ℕ) (vs : Values grammar definition_symbols)
+      → (keyword word p ∷ name vs.0.0 vs.0.1 ∷ tokens vs.1.0) ++ (symbol signs.Colon vs.1.1.0 ∷ tokens vs.1.1.1.0)
+      ++ (symbol signs.Define vs.1.1.1.1.0 ∷ tokens vs.1.1.1.1.1.0) ≡ keyword word p ∷ tokens_of definition_symbols vs
+  definition_tokens word p vs = append_assoc (keyword word p ∷ name vs.0.0 vs.0.1 ∷ tokens vs.1.0)
+      (symbol signs.Colon vs.1.1.0 ∷ tokens vs.1.1.1.0) (symbol signs.Define vs.1.1.1.1.0 ∷ tokens vs.1.1.1.1.1.0)
+
+abbrev pub function_build : ℕ → Values grammar (definition_symbols expression) → Parse definition
 function_build p vs = function p vs.0.0 vs.0.1 vs.1.0 vs.1.1.0 vs.1.1.1.0 vs.1.1.1.1.0 vs.1.1.1.1.1.0
 
-pub function_back : (p : ℕ) (d : Parse definition) → head d ≡ keyword words.Fun p → (vs : Values grammar function_symbols)
+pub function_back : (p : ℕ) (d : Parse definition) → head d ≡ keyword words.Fun p → (vs : Values grammar (definition_symbols expression))
     × (function_build p vs ≡ d)
 function_back p (function q x i ps r b s e) h = let same : q ≡ p = cc in
     (((x, i), (ps, (r, (b, (s, (e, tt)))))), ap (λ n. function n x i ps r b s e) (sym same))
 function_back p d h = absurd cc
 
-pub function_tokens : (p : ℕ) (vs : Values grammar function_symbols) → tokens (function_build p vs) ≡ keyword words.Fun p
-    ∷ tokens_of function_symbols vs
-function_tokens p vs = append_assoc (keyword words.Fun p ∷ name vs.0.0 vs.0.1 ∷ tokens vs.1.0)
-    (symbol signs.Colon vs.1.1.0 ∷ tokens vs.1.1.1.0)
-    (symbol signs.Define vs.1.1.1.1.0 ∷ tokens vs.1.1.1.1.1.0)
-
 abbrev pub function_rule : (p : ℕ) → Rule definition 0 (keyword words.Fun p)
 function_rule p = record {
   some = tt;
-  symbols = function_symbols;
+  symbols = definition_symbols expression;
   build = function_build p;
-  tokens_are = function_tokens p;
+  tokens_are = definition_tokens expression words.Fun p;
   levels_are = λ vs. omega arith;
   back = function_back p;
 }
 
-abbrev pub task_symbols : List (Sym grammar)
-task_symbols = one a_name ∷ part (enclosed parameters) ∷ one (a_sign signs.Colon) ∷ part basic ∷ one (a_sign signs.Define) ∷ part task ∷ []
-
-abbrev pub task_build : ℕ → Values grammar task_symbols → Parse definition
+abbrev pub task_build : ℕ → Values grammar (definition_symbols task) → Parse definition
 task_build p vs = task_named p vs.0.0 vs.0.1 vs.1.0 vs.1.1.0 vs.1.1.1.0 vs.1.1.1.1.0 vs.1.1.1.1.1.0
 
-pub task_back : (p : ℕ) (d : Parse definition) → head d ≡ keyword words.Task p → (vs : Values grammar task_symbols) × (task_build p vs ≡ d)
+pub task_back : (p : ℕ) (d : Parse definition) → head d ≡ keyword words.Task p → (vs : Values grammar (definition_symbols task)) ×
+    (task_build p vs ≡ d)
 task_back p (task_named q x i ps r b s e) h = let same : q ≡ p = cc in
     (((x, i), (ps, (r, (b, (s, (e, tt)))))), ap (λ n. task_named n x i ps r b s e) (sym same))
 task_back p d h = absurd cc
 
-pub task_tokens : (p : ℕ) (vs : Values grammar task_symbols) → tokens (task_build p vs) ≡ keyword words.Task p ∷ tokens_of task_symbols vs
-task_tokens p vs = append_assoc (keyword words.Task p ∷ name vs.0.0 vs.0.1 ∷ tokens vs.1.0)
-    (symbol signs.Colon vs.1.1.0 ∷ tokens vs.1.1.1.0)
-    (symbol signs.Define vs.1.1.1.1.0 ∷ tokens vs.1.1.1.1.1.0)
-
 abbrev pub task_rule : (p : ℕ) → Rule definition 0 (keyword words.Task p)
 task_rule p = record {
   some = tt;
-  symbols = task_symbols;
+  symbols = definition_symbols task;
   build = task_build p;
-  tokens_are = task_tokens p;
+  tokens_are = definition_tokens task words.Task p;
   levels_are = λ vs. omega arith;
   back = task_back p;
 }

@@ -70,41 +70,50 @@ behind scope binder t u ys vs h k = ap (λ t. record {
   task = t;
 } ∷ ys) h ∙ ap (λ l. record { scope = scope; binder = binder; task = renumbered u } ∷ l) k
 
+-- the bodies of two parts, the second behind the first, and of a step, by those of both
+two_next : {f g : Form} (t : Parse f) (u : Parse g) (scope inner : List Text) (next : ℕ)
+    → bodies_of t scope (suc next) ≡ map body_renumbered (bodies_of t scope next)
+    → bodies_of u inner (suc (next + bodies t)) ≡ map body_renumbered (bodies_of u inner (next + bodies t))
+    → bodies_of t scope (suc next) ++ bodies_of u inner (suc next + bodies t)
+    ≡ map body_renumbered (bodies_of t scope next ++ bodies_of u inner (next + bodies t))
+two_next t u scope inner next left right =
+    ap (λ n. bodies_of t scope (suc next) ++ bodies_of u inner n) (later next (bodies t)) ∙ both _ _ _ _ left right
+
+step_next : (t : Parse (series choice)) (p : ℕ) (x : Text) (q r : ℕ) (u : Parse task) (scope : List Text) (next : ℕ)
+    → bodies_of t scope (suc next) ≡ map body_renumbered (bodies_of t scope next)
+    → bodies_of u (scope ++ x ∷ []) (suc (suc (next + bodies t)))
+    ≡ map body_renumbered (bodies_of u (scope ++ x ∷ []) (suc (next + bodies t)))
+    → bodies_of (task_then t p x q r u) scope (suc next) ≡ map body_renumbered (bodies_of (task_then t p x q r u) scope next)
+step_next t p x q r u scope next left right =
+    ap (λ n. bodies_of t scope (suc next) ++ (record {
+      scope = scope;
+      binder = Some x;
+      task = meaning u (suc n);
+    } ∷ bodies_of u (scope ++ x ∷ []) (suc n))) (later next (bodies t))
+    ∙ both _ _ _ _ left (behind _ _ _ _ _ _ (term_next u (suc (next + bodies t))) right)
+
 pub bodies_next : {f : Form} (d : Parse f) (scope : List Text) (next : ℕ) → bodies_of d scope (suc next)
     ≡ map body_renumbered (bodies_of d scope next)
-bodies_next (more_definitions ds d) scope next = ap (λ n. bodies_of ds scope (suc next) ++ bodies_of d scope n) (later next (bodies ds))
-    ∙ both _ _ _ _ (bodies_next ds scope next) (bodies_next d scope (next + bodies ds))
+bodies_next (more_definitions ds d) scope next = two_next ds d scope scope next (bodies_next ds scope next)
+    (bodies_next d scope (next + bodies ds))
 bodies_next (task_named p x q ps r b s t) scope next = bodies_next t _ next
 bodies_next (task_let p x q r e s t) scope next = bodies_next t _ next
-bodies_next (task_if p e q t r u) scope next = ap (λ n. bodies_of t scope (suc next) ++ bodies_of u scope n) (later next (bodies t))
-    ∙ both _ _ _ _ (bodies_next t scope next) (bodies_next u scope (next + bodies t))
-bodies_next (task_case p e q r s a t b x i j y k c u) scope next = ap
-    (λ n. bodies_of t scope (suc next) ++ bodies_of u (scope ++ x ∷ y ∷ []) n) (later next (bodies t))
-    ∙ both _ _ _ _ (bodies_next t scope next) (bodies_next u _ (next + bodies t))
+bodies_next (task_if p e q t r u) scope next = two_next t u scope scope next (bodies_next t scope next)
+    (bodies_next u scope (next + bodies t))
+bodies_next (task_case p e q r s a t b x i j y k c u) scope next = two_next t u scope (scope ++ x ∷ y ∷ []) next
+    (bodies_next t scope next) (bodies_next u _ (next + bodies t))
 bodies_next (task_new p x q r e s t) scope next = bodies_next t _ next
 bodies_next (task_put x p q e r t) scope next = bodies_next t scope next
 bodies_next (task_plain t) scope next = bodies_next t scope next
-bodies_next (task_then t p x q r u) scope next =
-    ap (λ n. bodies_of t scope (suc next) ++ (record {
-      scope = scope;
-      binder = Some x;
-      task = meaning u (suc n);
-    } ∷ bodies_of u (scope ++ x ∷ []) (suc n))) (later next (bodies t))
-    ∙ both _ _ _ _ (bodies_next t scope next)
-    (behind _ _ _ _ _ _ (term_next u (suc (next + bodies t))) (bodies_next u _ (suc (next + bodies t))))
-bodies_next (task_next t p x q r u) scope next =
-    ap (λ n. bodies_of t scope (suc next) ++ (record {
-      scope = scope;
-      binder = Some x;
-      task = meaning u (suc n);
-    } ∷ bodies_of u (scope ++ x ∷ []) (suc n))) (later next (bodies t))
-    ∙ both _ _ _ _ (bodies_next t scope next)
-    (behind _ _ _ _ _ _ (term_next u (suc (next + bodies t))) (bodies_next u _ (suc (next + bodies t))))
+bodies_next (task_then t p x q r u) scope next = step_next t p x q r u scope next (bodies_next t scope next)
+    (bodies_next u _ (suc (next + bodies t)))
+bodies_next (task_next t p x q r u) scope next = step_next t p x q r u scope next (bodies_next t scope next)
+    (bodies_next u _ (suc (next + bodies t)))
 bodies_next (task_group p t q) scope next = bodies_next t scope next
 bodies_next (single choice t) scope next = bodies_next t scope next
 bodies_next (single chain t) scope next = bodies_next t scope next
-bodies_next (joined choice t internal p u) scope next = ap (λ n. bodies_of t scope (suc next) ++ bodies_of u scope n)
-    (later next (bodies t)) ∙ both _ _ _ _ (bodies_next t scope next) (bodies_next u scope (next + bodies t))
+bodies_next (joined choice t internal p u) scope next = two_next t u scope scope next (bodies_next t scope next)
+    (bodies_next u scope (next + bodies t))
 bodies_next (joined choice t external p u) scope next =
     ap (λ n. (record {
       scope = scope;
@@ -132,8 +141,8 @@ bodies_next (joined choice t external p u) scope next =
     } ∷ bodies_of u scope (suc (suc (next + bodies t))))
     (behind _ _ _ _ _ _ (term_next t (suc next)) (bodies_next t scope (suc next)))
     (behind _ _ _ _ _ _ (term_next u (suc (suc (next + bodies t)))) (bodies_next u scope (suc (suc (next + bodies t)))))
-bodies_next (joined chain t o p u) scope next = ap (λ n. bodies_of t scope (suc next) ++ bodies_of u scope n) (later next (bodies t))
-    ∙ both _ _ _ _ (bodies_next t scope next) (bodies_next u scope (next + bodies t))
+bodies_next (joined chain t o p u) scope next = two_next t u scope scope next (bodies_next t scope next)
+    (bodies_next u scope (next + bodies t))
 bodies_next (single (list parameters) a) scope next = refl
 bodies_next (single (list arguments) a) scope next = refl
 bodies_next (joined (list parameters) a o p b) scope next = refl

@@ -37,8 +37,29 @@ module _ (a_name : Text → Text) (a_number : Text → Text) (a_quote : Text →
   respelled_prefix snd p = refl
   respelled_prefix len p = refl
 
-  two : (ws bs cs ds : List Lexeme) → ws ≡ map respell cs → bs ≡ map respell ds → ws ++ bs ≡ map respell (cs ++ ds)
-  two ws bs cs ds h k = ap (λ l. l ++ bs) h ∙ ap (λ l. map respell cs ++ l) k ∙ sym (map-append respell cs ds)
+  -- these tokens are those, respelled
+  record Again (new old : List Lexeme) : Type 0 where
+    same : new ≡ map respell old
+
+  nothing_again : Again [] []
+  nothing_again = record { same = refl }
+
+  -- a token that stays as it is
+  kept : {t : Lexeme} {new old : List Lexeme} → respell t ≡ t → Again new old → Again (t ∷ new) (t ∷ old)
+  kept {t} {new} {old} e h = record { same = ap (λ u. u ∷ new) (sym e) ∙ ap (λ l. respell t ∷ l) h.same }
+
+  behind : (ts : List Lexeme) {new old : List Lexeme} → Again new old → Again (map respell ts ++ new) (ts ++ old)
+  behind ts h = record { same = ap (λ l. map respell ts ++ l) h.same ∙ sym (map-append respell ts _) }
+
+  two : {new old new' old' : List Lexeme} → Again new old → Again new' old' → Again (new ++ new') (old ++ old')
+  two {new} {old} {new'} {old'} h k = record {
+    same = ap (λ l. l ++ new') h.same ∙ ap (λ l. map respell old ++ l) k.same ∙ sym (map-append respell old old');
+  }
+
+  -- three parts, each behind these tokens
+  three : (ts us vs : List Lexeme) {a b c a' b' c' : List Lexeme} → Again a' a → Again b' b → Again c' c
+      → Again ((map respell ts ++ a') ++ (map respell us ++ b') ++ (map respell vs ++ c')) ((ts ++ a) ++ (us ++ b) ++ (vs ++ c))
+  three ts us vs h k l = two (two (behind ts h) (behind us k)) (behind vs l)
 
   abbrev pub respelled : {f : Form} → Parse f → Parse f
   respelled no_definitions = no_definitions
@@ -92,153 +113,74 @@ module _ (a_name : Text → Text) (a_number : Text → Text) (a_quote : Text →
   respelled (empty l p q) = empty l p q
   respelled (full l p es q) = full l p (respelled es) q
 
+  again : {f : Form} (d : Parse f) → Again (tokens (respelled d)) (tokens d)
+  again no_definitions = nothing_again
+  again (more_definitions ds d) = two (again ds) (again d)
+  again (function p x q ps r b s e) = three (keyword words.Fun p ∷ name x q ∷ []) (symbol signs.Colon r ∷ []) (symbol signs.Define s ∷ [])
+      (again ps) (again b) (again e)
+  again (task_named p x q ps r b s t) = three (keyword words.Task p ∷ name x q ∷ []) (symbol signs.Colon r ∷ [])
+      (symbol signs.Define s ∷ []) (again ps) (again b) (again t)
+  again (value_named x p q b) = behind (name x p ∷ symbol signs.Colon q ∷ []) (again b)
+  again (reference_named x p q r b) = behind (name x p ∷ symbol signs.Colon q ∷ keyword words.Ref r ∷ []) (again b)
+  again (scalar_type b p) = record { same = refl }
+  again (pair_type p a q b r) = three (symbol signs.Open p ∷ []) (symbol signs.Comma q ∷ []) (symbol signs.Close r ∷ []) (again a)
+      (again b) nothing_again
+  again (list_type p a q) = two (behind (symbol signs.OpenBracket p ∷ []) (again a))
+      (behind (symbol signs.CloseBracket q ∷ []) nothing_again)
+  again (task_let p x q r e s t) = two (behind (keyword words.Let p ∷ name x q ∷ symbol signs.Define r ∷ []) (again e))
+      (behind (keyword words.In s ∷ []) (again t))
+  again (task_if p e q t r u) = three (keyword words.If p ∷ []) (keyword words.Then q ∷ []) (keyword words.Else r ∷ []) (again e)
+      (again t) (again u)
+  again (task_case p e q r s a t b x i j y k c u) = three (keyword words.Case p ∷ [])
+      (keyword words.Of q ∷ symbol signs.OpenBracket r ∷ symbol signs.CloseBracket s ∷ symbol signs.Arrow a ∷ [])
+      (symbol signs.Bar b ∷ name x i ∷ symbol signs.Cons j ∷ name y k ∷ symbol signs.Arrow c ∷ []) (again e) (again t) (again u)
+  again (task_new p x q r e s t) = two (behind (keyword words.New p ∷ name x q ∷ symbol signs.Define r ∷ []) (again e))
+      (behind (keyword words.In s ∷ []) (again t))
+  again (task_put x p q e r t) = two (behind (name x p ∷ symbol signs.Assign q ∷ []) (again e))
+      (behind (symbol signs.Semicolon r ∷ []) (again t))
+  again (task_plain t) = again t
+  again (task_then t p x q r u) = two (again t) (behind (symbol signs.InternalStep p ∷ name x q ∷ symbol signs.Dot r ∷ []) (again u))
+  again (task_next t p x q r u) = two (again t) (behind (symbol signs.UserStep p ∷ name x q ∷ symbol signs.Dot r ∷ []) (again u))
+  again (task_edit p e) = behind (keyword words.Edit p ∷ []) (again e)
+  again (task_enter p b) = behind (keyword words.Enter p ∷ []) (again b)
+  again (task_share p x q) = record { same = refl }
+  again (task_fail p b) = behind (keyword words.Fail p ∷ []) (again b)
+  again (task_call x p es) = behind (name x p ∷ []) (again es)
+  again (task_group p t q) = two (behind (symbol signs.Open p ∷ []) (again t)) (behind (symbol signs.Close q ∷ []) nothing_again)
+  again (let_in p x q r e s d) = two (behind (keyword words.Let p ∷ name x q ∷ symbol signs.Define r ∷ []) (again e))
+      (behind (keyword words.In s ∷ []) (again d))
+  again (if_then p e q a r b) = three (keyword words.If p ∷ []) (keyword words.Then q ∷ []) (keyword words.Else r ∷ []) (again e)
+      (again a) (again b)
+  again (case_of p e q r s a d b x i j y k c u) = three (keyword words.Case p ∷ [])
+      (keyword words.Of q ∷ symbol signs.OpenBracket r ∷ symbol signs.CloseBracket s ∷ symbol signs.Arrow a ∷ [])
+      (symbol signs.Bar b ∷ name x i ∷ symbol signs.Cons j ∷ name y k ∷ symbol signs.Arrow c ∷ []) (again e) (again d) (again u)
+  again (plain e) = again e
+  again (uncompared a) = again a
+  again (compared a o p b) = two (again a) (behind (symbol (relation o) p ∷ []) (again b))
+  again (unlisted a) = again a
+  again (cons a p b) = two (again a) (behind (symbol signs.Cons p ∷ []) (again b))
+  again (prefixed o p a) = kept (respelled_prefix o p) (again a)
+  again (unprefixed a) = again a
+  again (digits t p) = record { same = refl }
+  again (quoted t v p) = record { same = refl }
+  again (constant b p) = record { same = refl }
+  again (nothing p q) = record { same = refl }
+  again (named x p) = record { same = refl }
+  again (content p x q) = record { same = refl }
+  again (call x p es) = behind (name x p ∷ []) (again es)
+  again (group p e q) = two (behind (symbol signs.Open p ∷ []) (again e)) (behind (symbol signs.Close q ∷ []) nothing_again)
+  again (pair p a q b r) = three (symbol signs.Open p ∷ []) (symbol signs.Comma q ∷ []) (symbol signs.Close r ∷ []) (again a)
+      (again b) nothing_again
+  again (elements p es q) = two (behind (symbol signs.OpenBracket p ∷ []) (again es))
+      (behind (symbol signs.CloseBracket q ∷ []) nothing_again)
+  again (nil p b) = behind (keyword words.Nil p ∷ []) (again b)
+  again (single s a) = again a
+  again (joined s a o p b) = two (again a) (kept (respelled_operator o p) (again b))
+  again (empty l p q) = record { same = refl }
+  again (full l p es q) = two (behind (symbol signs.Open p ∷ []) (again es)) (behind (symbol signs.Close q ∷ []) nothing_again)
+
   pub tokens_respelled : {f : Form} (d : Parse f) → tokens (respelled d) ≡ map respell (tokens d)
-  tokens_respelled no_definitions = refl
-  tokens_respelled (more_definitions ds d) = two (tokens (respelled ds)) (tokens (respelled d)) (tokens ds) (tokens d) (tokens_respelled ds)
-      (tokens_respelled d)
-  tokens_respelled (function p x q ps r b s e) = two ((keyword words.Fun p ∷ name (a_name x) q ∷ tokens (respelled ps))
-      ++ (symbol signs.Colon r ∷ tokens (respelled b))) (symbol signs.Define s ∷ tokens (respelled e))
-      ((keyword words.Fun p ∷ name x q ∷ tokens ps) ++ (symbol signs.Colon r ∷ tokens b)) (symbol signs.Define s ∷ tokens e)
-      (two (keyword words.Fun p ∷ name (a_name x) q ∷ tokens (respelled ps)) (symbol signs.Colon r ∷ tokens (respelled b))
-      (keyword words.Fun p ∷ name x q ∷ tokens ps) (symbol signs.Colon r ∷ tokens b)
-      (ap (λ l. keyword words.Fun p ∷ name (a_name x) q ∷ l) (tokens_respelled ps))
-      (ap (λ l. symbol signs.Colon r ∷ l) (tokens_respelled b)))
-      (ap (λ l. symbol signs.Define s ∷ l) (tokens_respelled e))
-  tokens_respelled (task_named p x q ps r b s t) = two ((keyword words.Task p ∷ name (a_name x) q ∷ tokens (respelled ps))
-      ++ (symbol signs.Colon r ∷ tokens (respelled b))) (symbol signs.Define s ∷ tokens (respelled t))
-      ((keyword words.Task p ∷ name x q ∷ tokens ps) ++ (symbol signs.Colon r ∷ tokens b)) (symbol signs.Define s ∷ tokens t)
-      (two (keyword words.Task p ∷ name (a_name x) q ∷ tokens (respelled ps)) (symbol signs.Colon r ∷ tokens (respelled b))
-      (keyword words.Task p ∷ name x q ∷ tokens ps) (symbol signs.Colon r ∷ tokens b)
-      (ap (λ l. keyword words.Task p ∷ name (a_name x) q ∷ l) (tokens_respelled ps))
-      (ap (λ l. symbol signs.Colon r ∷ l) (tokens_respelled b)))
-      (ap (λ l. symbol signs.Define s ∷ l) (tokens_respelled t))
-  tokens_respelled (value_named x p q b) = ap (λ l. name (a_name x) p ∷ symbol signs.Colon q ∷ l) (tokens_respelled b)
-  tokens_respelled (reference_named x p q r b) = ap (λ l. name (a_name x) p ∷ symbol signs.Colon q ∷ keyword words.Ref r ∷ l)
-      (tokens_respelled b)
-  tokens_respelled (scalar_type b p) = refl
-  tokens_respelled (pair_type p a q b r) = two
-      ((symbol signs.Open p ∷ tokens (respelled a)) ++ (symbol signs.Comma q ∷ tokens (respelled b)))
-      (symbol signs.Close r ∷ []) ((symbol signs.Open p ∷ tokens a) ++ (symbol signs.Comma q ∷ tokens b)) (symbol signs.Close r ∷ [])
-      (two (symbol signs.Open p ∷ tokens (respelled a)) (symbol signs.Comma q ∷ tokens (respelled b)) (symbol signs.Open p ∷ tokens a)
-      (symbol signs.Comma q ∷ tokens b) (ap (λ l. symbol signs.Open p ∷ l) (tokens_respelled a))
-      (ap (λ l. symbol signs.Comma q ∷ l) (tokens_respelled b))) refl
-  tokens_respelled (list_type p a q) = two (symbol signs.OpenBracket p ∷ tokens (respelled a)) (symbol signs.CloseBracket q ∷ [])
-      (symbol signs.OpenBracket p ∷ tokens a) (symbol signs.CloseBracket q ∷ [])
-      (ap (λ l. symbol signs.OpenBracket p ∷ l) (tokens_respelled a))
-      refl
-  tokens_respelled (task_let p x q r e s t) = two (keyword words.Let p ∷ name (a_name x) q ∷ symbol signs.Define r ∷ tokens (respelled e))
-      (keyword words.In s ∷ tokens (respelled t)) (keyword words.Let p ∷ name x q ∷ symbol signs.Define r ∷ tokens e)
-      (keyword words.In s ∷ tokens t)
-      (ap (λ l. keyword words.Let p ∷ name (a_name x) q ∷ symbol signs.Define r ∷ l) (tokens_respelled e))
-      (ap (λ l. keyword words.In s ∷ l) (tokens_respelled t))
-  tokens_respelled (task_if p e q t r u) = two
-      ((keyword words.If p ∷ tokens (respelled e)) ++ (keyword words.Then q ∷ tokens (respelled t)))
-      (keyword words.Else r ∷ tokens (respelled u)) ((keyword words.If p ∷ tokens e) ++ (keyword words.Then q ∷ tokens t))
-      (keyword words.Else r ∷ tokens u) (two (keyword words.If p ∷ tokens (respelled e)) (keyword words.Then q ∷ tokens (respelled t))
-      (keyword words.If p ∷ tokens e) (keyword words.Then q ∷ tokens t) (ap (λ l. keyword words.If p ∷ l) (tokens_respelled e))
-      (ap (λ l. keyword words.Then q ∷ l) (tokens_respelled t))) (ap (λ l. keyword words.Else r ∷ l) (tokens_respelled u))
-  tokens_respelled (task_case p e q r s a t b x i j y k c u) = two
-      ((keyword words.Case p ∷ tokens (respelled e))
-      ++ (keyword words.Of q ∷ symbol signs.OpenBracket r ∷ symbol signs.CloseBracket s ∷ symbol signs.Arrow a ∷ tokens (respelled t)))
-      (symbol signs.Bar b ∷ name (a_name x) i ∷ symbol signs.Cons j ∷ name (a_name y) k ∷ symbol signs.Arrow c ∷ tokens (respelled u))
-      ((keyword words.Case p ∷ tokens e)
-      ++ (keyword words.Of q ∷ symbol signs.OpenBracket r ∷ symbol signs.CloseBracket s ∷ symbol signs.Arrow a
-      ∷ tokens t)) (symbol signs.Bar b ∷ name x i ∷ symbol signs.Cons j ∷ name y k ∷ symbol signs.Arrow c ∷ tokens u)
-      (two (keyword words.Case p ∷ tokens (respelled e)) (keyword words.Of q ∷ symbol signs.OpenBracket r ∷ symbol signs.CloseBracket s
-      ∷ symbol signs.Arrow a ∷ tokens (respelled t)) (keyword words.Case p ∷ tokens e)
-      (keyword words.Of q ∷ symbol signs.OpenBracket r ∷ symbol signs.CloseBracket s ∷ symbol signs.Arrow a ∷ tokens t)
-      (ap (λ l. keyword words.Case p ∷ l) (tokens_respelled e))
-      (ap (λ l. keyword words.Of q ∷ symbol signs.OpenBracket r ∷ symbol signs.CloseBracket s ∷ symbol signs.Arrow a ∷ l)
-      (tokens_respelled t)))
-      (ap (λ l. symbol signs.Bar b ∷ name (a_name x) i ∷ symbol signs.Cons j ∷ name (a_name y) k ∷ symbol signs.Arrow c ∷ l)
-      (tokens_respelled u))
-  tokens_respelled (task_new p x q r e s t) = two (keyword words.New p ∷ name (a_name x) q ∷ symbol signs.Define r ∷ tokens (respelled e))
-      (keyword words.In s ∷ tokens (respelled t)) (keyword words.New p ∷ name x q ∷ symbol signs.Define r ∷ tokens e)
-      (keyword words.In s ∷ tokens t)
-      (ap (λ l. keyword words.New p ∷ name (a_name x) q ∷ symbol signs.Define r ∷ l) (tokens_respelled e))
-      (ap (λ l. keyword words.In s ∷ l) (tokens_respelled t))
-  tokens_respelled (task_put x p q e r t) = two (name (a_name x) p ∷ symbol signs.Assign q ∷ tokens (respelled e))
-      (symbol signs.Semicolon r ∷ tokens (respelled t)) (name x p ∷ symbol signs.Assign q ∷ tokens e) (symbol signs.Semicolon r ∷ tokens t)
-      (ap (λ l. name (a_name x) p ∷ symbol signs.Assign q ∷ l) (tokens_respelled e))
-      (ap (λ l. symbol signs.Semicolon r ∷ l) (tokens_respelled t))
-  tokens_respelled (task_plain t) = tokens_respelled t
-  tokens_respelled (task_then t p x q r u) = two (tokens (respelled t))
-      (symbol signs.InternalStep p ∷ name (a_name x) q ∷ symbol signs.Dot r
-      ∷ tokens (respelled u)) (tokens t) (symbol signs.InternalStep p ∷ name x q ∷ symbol signs.Dot r ∷ tokens u) (tokens_respelled t)
-      (ap (λ l. symbol signs.InternalStep p ∷ name (a_name x) q ∷ symbol signs.Dot r ∷ l) (tokens_respelled u))
-  tokens_respelled (task_next t p x q r u) = two (tokens (respelled t)) (symbol signs.UserStep p ∷ name (a_name x) q ∷ symbol signs.Dot r
-      ∷ tokens (respelled u)) (tokens t) (symbol signs.UserStep p ∷ name x q ∷ symbol signs.Dot r ∷ tokens u) (tokens_respelled t)
-      (ap (λ l. symbol signs.UserStep p ∷ name (a_name x) q ∷ symbol signs.Dot r ∷ l) (tokens_respelled u))
-  tokens_respelled (task_edit p e) = ap (λ l. keyword words.Edit p ∷ l) (tokens_respelled e)
-  tokens_respelled (task_enter p b) = ap (λ l. keyword words.Enter p ∷ l) (tokens_respelled b)
-  tokens_respelled (task_share p x q) = refl
-  tokens_respelled (task_fail p b) = ap (λ l. keyword words.Fail p ∷ l) (tokens_respelled b)
-  tokens_respelled (task_call x p es) = ap (λ l. name (a_name x) p ∷ l) (tokens_respelled es)
-  tokens_respelled (task_group p t q) = two (symbol signs.Open p ∷ tokens (respelled t)) (symbol signs.Close q ∷ [])
-      (symbol signs.Open p ∷ tokens t) (symbol signs.Close q ∷ []) (ap (λ l. symbol signs.Open p ∷ l) (tokens_respelled t)) refl
-  tokens_respelled (let_in p x q r e s d) = two (keyword words.Let p ∷ name (a_name x) q ∷ symbol signs.Define r ∷ tokens (respelled e))
-      (keyword words.In s ∷ tokens (respelled d)) (keyword words.Let p ∷ name x q ∷ symbol signs.Define r ∷ tokens e)
-      (keyword words.In s ∷ tokens d)
-      (ap (λ l. keyword words.Let p ∷ name (a_name x) q ∷ symbol signs.Define r ∷ l) (tokens_respelled e))
-      (ap (λ l. keyword words.In s ∷ l) (tokens_respelled d))
-  tokens_respelled (if_then p e q a r b) = two
-      ((keyword words.If p ∷ tokens (respelled e)) ++ (keyword words.Then q ∷ tokens (respelled a)))
-      (keyword words.Else r ∷ tokens (respelled b)) ((keyword words.If p ∷ tokens e) ++ (keyword words.Then q ∷ tokens a))
-      (keyword words.Else r ∷ tokens b) (two (keyword words.If p ∷ tokens (respelled e)) (keyword words.Then q ∷ tokens (respelled a))
-      (keyword words.If p ∷ tokens e) (keyword words.Then q ∷ tokens a) (ap (λ l. keyword words.If p ∷ l) (tokens_respelled e))
-      (ap (λ l. keyword words.Then q ∷ l) (tokens_respelled a))) (ap (λ l. keyword words.Else r ∷ l) (tokens_respelled b))
-  tokens_respelled (case_of p e q r s a d b x i j y k c u) = two
-      ((keyword words.Case p ∷ tokens (respelled e))
-      ++ (keyword words.Of q ∷ symbol signs.OpenBracket r ∷ symbol signs.CloseBracket s ∷ symbol signs.Arrow a ∷ tokens (respelled d)))
-      (symbol signs.Bar b ∷ name (a_name x) i ∷ symbol signs.Cons j ∷ name (a_name y) k ∷ symbol signs.Arrow c ∷ tokens (respelled u))
-      ((keyword words.Case p ∷ tokens e)
-      ++ (keyword words.Of q ∷ symbol signs.OpenBracket r ∷ symbol signs.CloseBracket s ∷ symbol signs.Arrow a
-      ∷ tokens d)) (symbol signs.Bar b ∷ name x i ∷ symbol signs.Cons j ∷ name y k ∷ symbol signs.Arrow c ∷ tokens u)
-      (two (keyword words.Case p ∷ tokens (respelled e)) (keyword words.Of q ∷ symbol signs.OpenBracket r ∷ symbol signs.CloseBracket s
-      ∷ symbol signs.Arrow a ∷ tokens (respelled d)) (keyword words.Case p ∷ tokens e)
-      (keyword words.Of q ∷ symbol signs.OpenBracket r ∷ symbol signs.CloseBracket s ∷ symbol signs.Arrow a ∷ tokens d)
-      (ap (λ l. keyword words.Case p ∷ l) (tokens_respelled e))
-      (ap (λ l. keyword words.Of q ∷ symbol signs.OpenBracket r ∷ symbol signs.CloseBracket s ∷ symbol signs.Arrow a ∷ l)
-      (tokens_respelled d)))
-      (ap (λ l. symbol signs.Bar b ∷ name (a_name x) i ∷ symbol signs.Cons j ∷ name (a_name y) k ∷ symbol signs.Arrow c ∷ l)
-      (tokens_respelled u))
-  tokens_respelled (plain e) = tokens_respelled e
-  tokens_respelled (uncompared a) = tokens_respelled a
-  tokens_respelled (compared a o p b) = two (tokens (respelled a)) (symbol (relation o) p ∷ tokens (respelled b)) (tokens a)
-      (symbol (relation o) p ∷ tokens b) (tokens_respelled a) (ap (λ l. symbol (relation o) p ∷ l) (tokens_respelled b))
-  tokens_respelled (unlisted a) = tokens_respelled a
-  tokens_respelled (cons a p b) = two (tokens (respelled a)) (symbol signs.Cons p ∷ tokens (respelled b)) (tokens a)
-      (symbol signs.Cons p ∷ tokens b) (tokens_respelled a) (ap (λ l. symbol signs.Cons p ∷ l) (tokens_respelled b))
-  tokens_respelled (prefixed o p a) = ap (λ t. t ∷ tokens (respelled a)) (sym (respelled_prefix o p)) ∙ ap (λ l. respell (prefix o p) ∷ l)
-      (tokens_respelled a)
-  tokens_respelled (unprefixed a) = tokens_respelled a
-  tokens_respelled (digits t p) = refl
-  tokens_respelled (quoted t v p) = refl
-  tokens_respelled (constant b p) = refl
-  tokens_respelled (nothing p q) = refl
-  tokens_respelled (named x p) = refl
-  tokens_respelled (content p x q) = refl
-  tokens_respelled (call x p es) = ap (λ l. name (a_name x) p ∷ l) (tokens_respelled es)
-  tokens_respelled (group p e q) = two (symbol signs.Open p ∷ tokens (respelled e)) (symbol signs.Close q ∷ [])
-      (symbol signs.Open p ∷ tokens e)
-      (symbol signs.Close q ∷ []) (ap (λ l. symbol signs.Open p ∷ l) (tokens_respelled e)) refl
-  tokens_respelled (pair p a q b r) = two ((symbol signs.Open p ∷ tokens (respelled a)) ++ (symbol signs.Comma q ∷ tokens (respelled b)))
-      (symbol signs.Close r ∷ []) ((symbol signs.Open p ∷ tokens a) ++ (symbol signs.Comma q ∷ tokens b)) (symbol signs.Close r ∷ [])
-      (two (symbol signs.Open p ∷ tokens (respelled a)) (symbol signs.Comma q ∷ tokens (respelled b)) (symbol signs.Open p ∷ tokens a)
-      (symbol signs.Comma q ∷ tokens b) (ap (λ l. symbol signs.Open p ∷ l) (tokens_respelled a))
-      (ap (λ l. symbol signs.Comma q ∷ l) (tokens_respelled b))) refl
-  tokens_respelled (elements p es q) = two (symbol signs.OpenBracket p ∷ tokens (respelled es)) (symbol signs.CloseBracket q ∷ [])
-      (symbol signs.OpenBracket p ∷ tokens es) (symbol signs.CloseBracket q ∷ [])
-      (ap (λ l. symbol signs.OpenBracket p ∷ l) (tokens_respelled es))
-      refl
-  tokens_respelled (nil p b) = ap (λ l. keyword words.Nil p ∷ l) (tokens_respelled b)
-  tokens_respelled (single s a) = tokens_respelled a
-  tokens_respelled (joined s a o p b) = two (tokens (respelled a)) (operator o p ∷ tokens (respelled b)) (tokens a)
-      (operator o p ∷ tokens b) (tokens_respelled a) (ap (λ t. t ∷ tokens (respelled b)) (sym (respelled_operator o p))
-      ∙ ap (λ l. respell (operator o p) ∷ l) (tokens_respelled b))
-  tokens_respelled (empty l p q) = refl
-  tokens_respelled (full l p es q) = two (symbol signs.Open p ∷ tokens (respelled es)) (symbol signs.Close q ∷ [])
-      (symbol signs.Open p ∷ tokens es) (symbol signs.Close q ∷ []) (ap (λ l. symbol signs.Open p ∷ l) (tokens_respelled es)) refl
+  tokens_respelled d = (again d).same
 
   pub levels_respelled : {f : Form} (d : Parse f) → levels (respelled d) ≡ levels d
   levels_respelled no_definitions = refl
