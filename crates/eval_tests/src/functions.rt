@@ -22,7 +22,8 @@ pub fn value_of(
     name: &TaskText,
     purse: &mut Purse,
 ) -> Option<Result<Value, Stop>>
-    ensures { IfSome result (λ r. (e : HostTerm) × (function_in (map def_term checked.now.program.defs.list) name.now ≡ Some (function_term [] e))
+    ensures { IfSome result (λ r. (e : HostTerm) × (function_in (map def_term checked.now.program.defs.list) name.now
+        ≡ Some (function_term [] e))
         × Spends (Gives (checked_term checked.now) e empty_env []) value_term purse.old purse.new r) }
 {
     match body_of(checked, name) {
@@ -37,7 +38,8 @@ pub fn value_of(
 
 // The body of the function of this name, where it has no parameters.
 fn body_of<'a>(checked: &'a Checked, name: &TaskText) -> Option<&'a Host>
-    ensures body { IfSome result (λ e. function_in (map def_term checked.now.program.defs.list) name.now ≡ Some (function_term [] (host_term e.now))) }
+    ensures body { IfSome result (λ e. function_in (map def_term checked.now.program.defs.list) name.now
+        ≡ Some (function_term [] (host_term e.now))) }
     ensures may { IfSome result (λ e. MayAsk (checked_term checked.now) (gives_value (host_term e.now) empty_env [])) }
 {
     match function_named(checked.program(), name) {

@@ -57,7 +57,8 @@ fn named<'t>(
     tokens: &'t [PositionedToken<'t>],
 ) -> Result<(Parsed<Host>, &'t [PositionedToken<'t>]), ParseStop>
     requires { 1 ≤ room }
-    ensures { Reads grammar.atom shown room (terms.name name.now place ∷ lexemes tokens.now) (seen (λ r. (shown_host r.0, lexemes r.1.now)) result) }
+    ensures { Reads grammar.atom shown room (terms.name name.now place ∷ lexemes tokens.now)
+        (seen (λ r. (shown_host r.0, lexemes r.1.now)) result) }
 {
     let Some(_) = strip_symbol(tokens, Symbol::Open) else {
         return Ok((Parsed::named(alloc, name, place)?, tokens));
@@ -75,7 +76,8 @@ fn opened<'t>(
     tokens: &'t [PositionedToken<'t>],
 ) -> Result<(Parsed<Host>, &'t [PositionedToken<'t>]), ParseStop>
     requires { 1 ≤ room }
-    ensures { Reads grammar.atom shown room (terms.symbol signs.Open place ∷ lexemes tokens.now) (seen (λ r. (shown_host r.0, lexemes r.1.now)) result) }
+    ensures { Reads grammar.atom shown room (terms.symbol signs.Open place ∷ lexemes tokens.now)
+        (seen (λ r. (shown_host r.0, lexemes r.1.now)) result) }
 {
     if let Some((_, rest)) = strip_symbol(tokens, Symbol::Close) {
         return Ok((Parsed::leaf(alloc, Host::Unit, place)?, rest));
@@ -99,7 +101,8 @@ fn elements<'t>(
     tokens: &'t [PositionedToken<'t>],
 ) -> Result<(Parsed<Host>, &'t [PositionedToken<'t>]), ParseStop>
     requires { 2 ≤ room }
-    ensures { Reads grammar.atom shown room (terms.symbol signs.OpenBracket place ∷ lexemes tokens.now) (seen (λ r. (shown_host r.0, lexemes r.1.now)) result) }
+    ensures { Reads grammar.atom shown room (terms.symbol signs.OpenBracket place ∷ lexemes tokens.now)
+        (seen (λ r. (shown_host r.0, lexemes r.1.now)) result) }
 {
     let (items, rest) = arguments(alloc, room - 1, tokens)?;
     let (_, rest) = expect_symbol(rest, Symbol::CloseBracket)?;

@@ -53,7 +53,8 @@ fn let_in<'t>(
     tokens: &'t [PositionedToken<'t>],
 ) -> Result<(Parsed<Host>, &'t [PositionedToken<'t>]), ParseStop>
     requires { 2 ≤ room }
-    ensures { Reads grammar.expression shown room (terms.keyword words.Let place ∷ lexemes tokens.now) (seen (λ r. (shown_host r.0, lexemes r.1.now)) result) }
+    ensures { Reads grammar.expression shown room (terms.keyword words.Let place ∷ lexemes tokens.now)
+        (seen (λ r. (shown_host r.0, lexemes r.1.now)) result) }
 {
     let (name, _, rest) = expect_name(tokens)?;
     let (_, rest) = expect_symbol(rest, Symbol::Define)?;
@@ -72,7 +73,8 @@ fn if_then<'t>(
     tokens: &'t [PositionedToken<'t>],
 ) -> Result<(Parsed<Host>, &'t [PositionedToken<'t>]), ParseStop>
     requires { 2 ≤ room }
-    ensures { Reads grammar.expression shown room (terms.keyword words.If place ∷ lexemes tokens.now) (seen (λ r. (shown_host r.0, lexemes r.1.now)) result) }
+    ensures { Reads grammar.expression shown room (terms.keyword words.If place ∷ lexemes tokens.now)
+        (seen (λ r. (shown_host r.0, lexemes r.1.now)) result) }
 {
     let (test, rest) = expression(alloc, room - 1, tokens)?;
     let (_, rest) = expect_keyword(rest, Keyword::Then)?;
@@ -91,7 +93,8 @@ fn case_of<'t>(
     tokens: &'t [PositionedToken<'t>],
 ) -> Result<(Parsed<Host>, &'t [PositionedToken<'t>]), ParseStop>
     requires { 2 ≤ room }
-    ensures { Reads grammar.expression shown room (terms.keyword words.Case place ∷ lexemes tokens.now) (seen (λ r. (shown_host r.0, lexemes r.1.now)) result) }
+    ensures { Reads grammar.expression shown room (terms.keyword words.Case place ∷ lexemes tokens.now)
+        (seen (λ r. (shown_host r.0, lexemes r.1.now)) result) }
 {
     let (list, rest) = expression(alloc, room - 1, tokens)?;
     let (_, rest) = expect_keyword(rest, Keyword::Of)?;

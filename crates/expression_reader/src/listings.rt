@@ -16,7 +16,8 @@ pub fn arguments<'t>(
     room: usize,
     tokens: &'t [PositionedToken<'t>],
 ) -> Result<(Items, &'t [PositionedToken<'t>]), ParseStop>
-    ensures { Reads (grammar.series (grammar.list grammar.arguments)) shown_list room (lexemes tokens.now) (seen (λ r. (shown_items r.0, lexemes r.1.now)) result) }
+    ensures { Reads (grammar.series (grammar.list grammar.arguments)) shown_list room (lexemes tokens.now)
+        (seen (λ r. (shown_items r.0, lexemes r.1.now)) result) }
 {
     let (first, mut rest) = expression(alloc, room, tokens)?;
     let mut items = Items::one(alloc, first)?;
@@ -35,7 +36,8 @@ pub fn enclosed<'t>(
     room: usize,
     tokens: &'t [PositionedToken<'t>],
 ) -> Result<(Items, &'t [PositionedToken<'t>]), ParseStop>
-    ensures { Reads (grammar.enclosed grammar.arguments) shown_list room (lexemes tokens.now) (seen (λ r. (shown_items r.0, lexemes r.1.now)) result) }
+    ensures { Reads (grammar.enclosed grammar.arguments) shown_list room (lexemes tokens.now)
+        (seen (λ r. (shown_items r.0, lexemes r.1.now)) result) }
 {
     let Some((_, rest)) = strip_symbol(tokens, Symbol::Open) else {
         return Err(unexpected(tokens));

@@ -14,7 +14,8 @@ pub fn literal<'t>(
     alloc: Global,
     tokens: &'t [PositionedToken<'t>],
 ) -> Result<Option<(Parsed<Host>, &'t [PositionedToken<'t>])>, ParseStop>
-    ensures found { IfOk result (λ found. MatchOption found (NoLiteral (lexemes tokens.now)) (λ r. BeginsWithLiteral (lexemes tokens.now) (shown_host r.0) (lexemes r.1.now))) }
+    ensures found { IfOk result (λ found. MatchOption found (NoLiteral (lexemes tokens.now))
+        (λ r. BeginsWithLiteral (lexemes tokens.now) (shown_host r.0) (lexemes r.1.now))) }
     ensures memory { IfErr result (λ e. e ≡ ParseStop.Memory) }
 {
     if let Some((number, place, rest)) = strip_number(tokens) {

@@ -17,7 +17,8 @@ pub fn operators<'t>(
     room: usize,
     tokens: &'t [PositionedToken<'t>],
 ) -> Result<(Parsed<Host>, &'t [PositionedToken<'t>]), ParseStop>
-    ensures { Reads (grammar.series (series_of level)) (shown_series level) room (lexemes tokens.now) (seen (λ r. (shown_host r.0, lexemes r.1.now)) result) }
+    ensures { Reads (grammar.series (series_of level)) (shown_series level) room (lexemes tokens.now)
+        (seen (λ r. (shown_host r.0, lexemes r.1.now)) result) }
 {
     let (mut left, mut rest) = part(alloc, level, room, tokens)?;
     while let Some((op, after)) = operator(level, rest) {
@@ -39,7 +40,8 @@ fn part<'t>(
     room: usize,
     tokens: &'t [PositionedToken<'t>],
 ) -> Result<(Parsed<Host>, &'t [PositionedToken<'t>]), ParseStop>
-    ensures { Reads (grammar.part_of (series_of level)) (shown_part level) room (lexemes tokens.now) (seen (λ r. (shown_host r.0, lexemes r.1.now)) result) }
+    ensures { Reads (grammar.part_of (series_of level)) (shown_part level) room (lexemes tokens.now)
+        (seen (λ r. (shown_host r.0, lexemes r.1.now)) result) }
 {
     match level {
         Level::Either => operators(alloc, Level::Both, room, tokens),

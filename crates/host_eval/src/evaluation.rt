@@ -356,7 +356,8 @@ fn list_form<R: Reads>(
         (names_term names.now) (R.values reads.now)) }
     ensures height { OnOk result (purse.new.height ≡ purse.old.height) }
     ensures ran { RunsPlan (checked_term checked.now) (value_rule (checked_term checked.now)
-        (list_expr (as_exprs (map host_term items.now))) (names_term names.now) (R.values reads.now)) value_term purse.old purse.new result }
+        (list_expr (as_exprs (map host_term items.now))) (names_term names.now) (R.values reads.now)) value_term purse.old purse.new
+        result }
 {
     let values = values_at(alloc, checked, items, names, reads, purse)?;
     Ok(list_of(alloc, values)?)

@@ -22,7 +22,8 @@ pub(crate) struct Found<'p> {
 pub(crate) struct Definitions<'p> {
     pub(crate) defs: &'p [Def],
     numbers: IndexMap<&'p str, usize>,
-    pub ghost numbered: { (f : Text) → get_by (λ k. bytes_eq f k.now) numbers ≡ option_map (λ d. d.index) (first_named 0 (map def_term defs.now) f) },
+    pub ghost numbered: { (f : Text) → get_by (λ k. bytes_eq f k.now) numbers ≡ option_map
+        (λ d. d.index) (first_named 0 (map def_term defs.now) f) },
 }
 
 impl<'p> Definitions<'p> {

@@ -51,7 +51,8 @@ pub(crate) fn push_editor(
     shown: &str,
 ) -> Result<(), OutOfMemory>
     requires { name.now ≡ basic_text (basic_term b.now) }
-    ensures { OnOk result (string_bytes text.new ≡ string_bytes text.old ++ model.editor_text (path_text path.now) word.now (basic_term b.now) (model.html_escaped shown.now)) }
+    ensures { OnOk result (string_bytes text.new ≡ string_bytes text.old
+        ++ model.editor_text (path_text path.now) word.now (basic_term b.now) (model.html_escaped shown.now)) }
 {
     push_editor_line(text, path, word, name)?;
     push_form(text, path, "set")?;
@@ -65,7 +66,8 @@ fn push_editor_line(
     word: &str,
     name: &str,
 ) -> Result<(), OutOfMemory>
-    ensures { OnOk result (string_bytes text.new ≡ string_bytes text.old ++ model.paragraph (path_text path.now ++ codes " " ++ word.now ++ codes " " ++ name.now)) }
+    ensures { OnOk result (string_bytes text.new ≡ string_bytes text.old
+        ++ model.paragraph (path_text path.now ++ codes " " ++ word.now ++ codes " " ++ name.now)) }
 {
     push(text, "<p>")?;
     push_path(text, path)?;
@@ -102,7 +104,8 @@ fn push_button(text: &mut String, word: &str, mark: &str) -> Result<(), OutOfMem
 
 fn push_fields(text: &mut String, b: &Basic, name: &str, shown: &str) -> Result<(), OutOfMemory>
     requires { name.now ≡ basic_text (basic_term b.now) }
-    ensures { OnOk result (string_bytes text.new ≡ string_bytes text.old ++ model.editor_fields (basic_term b.now) (model.html_escaped shown.now)) }
+    ensures { OnOk result (string_bytes text.new ≡ string_bytes text.old
+        ++ model.editor_fields (basic_term b.now) (model.html_escaped shown.now)) }
 {
     match b {
         Basic::Text => push_text_field(text, shown),

@@ -24,7 +24,8 @@ pub fn frame(
 ) -> Result<Page, OutOfMemory>
     ensures version { IfOk result (λ page. page.version ≡ version) }
     // Whatever widgets these are the fragments of, it is the page of those.
-    ensures text { (ws : List WidgetTerm) → list.now ≡ map fragment_of ws → IfOk result (λ page. page.text ≡ face_text face version seat ws) }
+    ensures text { (ws : List WidgetTerm) → list.now ≡ map fragment_of ws → IfOk result
+        (λ page. page.text ≡ face_text face version seat ws) }
 {
     let fragments = list.as_slice();
     let mut text = String::with_capacity(alloc, room(face, fragments))?;
@@ -63,7 +64,8 @@ fn push_html_start(text: &mut String, version: u64, seat: u8) -> Result<(), OutO
 }
 
 fn push_version(text: &mut String, version: u64, seat: u8) -> Result<(), OutOfMemory>
-    ensures { OnOk result (string_bytes text.new ≡ string_bytes text.old ++ model.paragraph (codes "version " ++ decimal version ++ codes " seat " ++ decimal seat)) }
+    ensures { OnOk result (string_bytes text.new ≡ string_bytes text.old
+        ++ model.paragraph (codes "version " ++ decimal version ++ codes " seat " ++ decimal seat)) }
 {
     push(text, "<p>")?;
     push_numbers(text, version, seat)?;
@@ -71,7 +73,8 @@ fn push_version(text: &mut String, version: u64, seat: u8) -> Result<(), OutOfMe
 }
 
 fn push_numbers(text: &mut String, version: u64, seat: u8) -> Result<(), OutOfMemory>
-    ensures { OnOk result (string_bytes text.new ≡ string_bytes text.old ++ (codes "version " ++ decimal version ++ codes " seat " ++ decimal seat)) }
+    ensures { OnOk result (string_bytes text.new ≡ string_bytes text.old
+        ++ (codes "version " ++ decimal version ++ codes " seat " ++ decimal seat)) }
 {
     let mut number = Buffer::new();
     push(text, "version ")?;

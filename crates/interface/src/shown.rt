@@ -28,7 +28,8 @@ impl Shown {
     /// Adds the widget of the node where the walk is.
     pub(crate) fn push(&mut self, shape: Shape) -> Result<(), OutOfMemory>
         ensures trail { self.new.trail ≡ self.old.trail }
-        ensures widgets { OnOk result (map widget_term self.new.widgets.list ≡ map widget_term self.old.widgets.list ++ map (widget_below self.old.trail) (here (shape_term shape) ∷ [])) }
+        ensures widgets { OnOk result (map widget_term self.new.widgets.list ≡ map widget_term self.old.widgets.list
+            ++ map (widget_below self.old.trail) (here (shape_term shape) ∷ [])) }
     {
         let path = self.trail.path()?;
         self.widgets.push(Widget { path, shape })

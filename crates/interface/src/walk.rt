@@ -23,7 +23,8 @@ pub fn widgets<R: Reads>(
     reads: &R,
     offers: &[Offer],
 ) -> Result<Row<Widget>, OutOfMemory>
-    ensures { IfOk result (λ ws. (c : CheckedTerm) (budget : ℕ) → AreOffers c budget (tree_term t.now) (R.values reads.now) (map offer_term offers.now)
+    ensures { IfOk result (λ ws. (c : CheckedTerm) (budget : ℕ) → AreOffers c budget (tree_term t.now) (R.values reads.now)
+        (map offer_term offers.now)
         → AreWidgets c budget (tree_term t.now) (R.values reads.now) (map widget_term ws.list)) }
 {
     let mut shown = Shown::new(alloc);
@@ -40,7 +41,8 @@ fn add_widgets<'o, R: Reads>(
     offers: &'o [Offer],
 ) -> Result<&'o [Offer], OutOfMemory>
     ensures trail { OnOk result (shown.new.trail ≡ shown.old.trail) }
-    ensures walked { IfOk result (λ rest. Walked (tree_term t.now) (R.values reads.now) shown.old.trail (map offer_term offers.now) (map offer_term rest.now)
+    ensures walked { IfOk result (λ rest. Walked (tree_term t.now) (R.values reads.now) shown.old.trail (map offer_term offers.now)
+        (map offer_term rest.now)
         (map widget_term shown.old.widgets.list) (map widget_term shown.new.widgets.list)) }
 {
     match t {
@@ -83,7 +85,8 @@ fn add_editor<'o>(
     offers: &'o [Offer],
 ) -> Result<&'o [Offer], OutOfMemory>
     ensures trail { OnOk result (shown.new.trail ≡ shown.old.trail) }
-    ensures widgets { OnOk result (map widget_term shown.new.widgets.list ≡ map widget_term shown.old.widgets.list ++ map (widget_below shown.old.trail) (here (shape_term shape) ∷ [])) }
+    ensures widgets { OnOk result (map widget_term shown.new.widgets.list ≡ map widget_term shown.old.widgets.list
+        ++ map (widget_below shown.old.trail) (here (shape_term shape) ∷ [])) }
     ensures rest { IfOk result (λ rest. map offer_term rest.now ≡ drop 1 (map offer_term offers.now)) }
 {
     shown.push(shape)?;
@@ -124,7 +127,8 @@ fn add_part<'o, R: Reads>(
     offers: &'o [Offer],
 ) -> Result<&'o [Offer], OutOfMemory>
     ensures trail { OnOk result (shown.new.trail ≡ shown.old.trail) }
-    ensures walked { IfOk result (λ rest. Walked (tree_term part.now) (R.values reads.now) (shown.old.trail ++ turn ∷ []) (map offer_term offers.now)
+    ensures walked { IfOk result (λ rest. Walked (tree_term part.now) (R.values reads.now) (shown.old.trail ++ turn ∷ [])
+        (map offer_term offers.now)
         (map offer_term rest.now) (map widget_term shown.old.widgets.list) (map widget_term shown.new.widgets.list)) }
 {
     shown.trail.go(turn)?;

@@ -23,12 +23,15 @@ pub(crate) fn take_piece<M: Machine, O: Sink>(
     piece: &[u8],
 ) -> Option<Finish>
     requires { limit < 2 ^ 63 }
-    ensures goes { Goes M.tells machine.old machine.new (O.taken out.old) (O.taken out.new) M.LONGEST limit cursor.old cursor.new piece.now result }
+    ensures goes { Goes M.tells machine.old machine.new (O.taken out.old)
+        (O.taken out.new) M.LONGEST limit cursor.old cursor.new piece.now result }
     ensures none_due { IfNone result (cursor.new.due.text.list ≡ []) }
-    ensures counted { IfNone result ((cursor.new.count ≡ cursor.old.count + length piece.now) × (cursor.old.count ≤ limit → cursor.new.count ≤ limit)) }
+    ensures counted { IfNone result ((cursor.new.count ≡ cursor.old.count + length piece.now)
+        × (cursor.old.count ≤ limit → cursor.new.count ≤ limit)) }
     ensures count { O.faults out.old ≤ O.faults out.new }
     ensures failed { result ≡ Some Finish.WriteFault → Rose (O.faults out.old) (O.faults out.new) }
-    ensures exact { MatchOption result (O.faults out.new ≡ O.faults out.old) (λ finish. O.faults out.new ≡ write_faults_after_run (O.faults out.old) finish) }
+    ensures exact { MatchOption result (O.faults out.new ≡ O.faults out.old)
+        (λ finish. O.faults out.new ≡ write_faults_after_run (O.faults out.old) finish) }
 {
     let mut at = 0;
     while at < piece.len() {
@@ -77,15 +80,18 @@ fn take_line<M: Machine, O: Sink>(
     requires room { limit < 2 ^ 63 }
     requires some { 0 < length bytes.now }
     ensures goes { MatchResult result
-        (λ taken. Goes M.tells machine.old machine.new (O.taken out.old) (O.taken out.new) M.LONGEST limit cursor.old cursor.new (take taken bytes.now) None)
-        (λ finish. Goes M.tells machine.old machine.new (O.taken out.old) (O.taken out.new) M.LONGEST limit cursor.old cursor.new bytes.now (Some finish)) }
+        (λ taken. Goes M.tells machine.old machine.new (O.taken out.old) (O.taken out.new) M.LONGEST limit cursor.old cursor.new
+        (take taken bytes.now) None)
+        (λ finish. Goes M.tells machine.old machine.new (O.taken out.old)
+        (O.taken out.new) M.LONGEST limit cursor.old cursor.new bytes.now (Some finish)) }
     ensures some { IfOk result (λ taken. 0 < taken) }
     ensures fits { IfOk result (λ taken. taken ≤ length bytes.now) }
     ensures counted { IfOk result (λ taken. cursor.new.count ≡ cursor.old.count + taken) }
     ensures within { OnOk result (cursor.old.count ≤ limit → cursor.new.count ≤ limit) }
     ensures count { O.faults out.old ≤ O.faults out.new }
     ensures failed { result ≡ Err Finish.WriteFault → Rose (O.faults out.old) (O.faults out.new) }
-    ensures exact { MatchResult result (λ _. O.faults out.new ≡ O.faults out.old) (λ finish. O.faults out.new ≡ write_faults_after_run (O.faults out.old) finish) }
+    ensures exact { MatchResult result (λ _. O.faults out.new ≡ O.faults out.old)
+        (λ finish. O.faults out.new ≡ write_faults_after_run (O.faults out.old) finish) }
 {
     let run = run_length(bytes);
     let taken = bytes.len().min(run + 1);
@@ -126,11 +132,13 @@ fn take_lf<M: Machine, O: Sink>(
     requires { cursor.old.count < 2 ^ 63 }
     ensures goes { (limit : ℕ) → cursor.old.count < limit → MatchOption result
         (Goes M.tells machine.old machine.new (O.taken out.old) (O.taken out.new) M.LONGEST limit cursor.old cursor.new (10 ∷ []) None)
-        (λ finish. (behind : List ℕ) → Goes M.tells machine.old machine.new (O.taken out.old) (O.taken out.new) M.LONGEST limit cursor.old cursor.new (10 ∷ behind) (Some finish)) }
+        (λ finish. (behind : List ℕ) → Goes M.tells machine.old machine.new (O.taken out.old)
+        (O.taken out.new) M.LONGEST limit cursor.old cursor.new (10 ∷ behind) (Some finish)) }
     ensures counted { IfNone result (cursor.new.count ≡ cursor.old.count + 1) }
     ensures count { O.faults out.old ≤ O.faults out.new }
     ensures failed { result ≡ Some Finish.WriteFault → Rose (O.faults out.old) (O.faults out.new) }
-    ensures exact { MatchOption result (O.faults out.new ≡ O.faults out.old) (λ finish. O.faults out.new ≡ write_faults_after_run (O.faults out.old) finish) }
+    ensures exact { MatchOption result (O.faults out.new ≡ O.faults out.old)
+        (λ finish. O.faults out.new ≡ write_faults_after_run (O.faults out.old) finish) }
 {
     cursor.count += 1;
     match end_line(
@@ -160,11 +168,13 @@ fn end_line<M: Machine, O: Sink>(
     number: u64,
 ) -> Option<Finish>
     ensures line { MatchOption result
-        (RunsLine (M.tells machine.old) (M.tells machine.new) (O.taken out.old) (O.taken out.new) due.old.text.list due.new.text.list M.LONGEST line.now)
+        (RunsLine (M.tells machine.old) (M.tells machine.new) (O.taken out.old)
+        (O.taken out.new) due.old.text.list due.new.text.list M.LONGEST line.now)
         (EndsAt (M.tells machine.old) (O.taken out.old) (O.taken out.new) due.old.text.list M.LONGEST number line.now) }
     ensures count { O.faults out.old ≤ O.faults out.new }
     ensures failed { result ≡ Some Finish.WriteFault → Rose (O.faults out.old) (O.faults out.new) }
-    ensures exact { MatchOption result (O.faults out.new ≡ O.faults out.old) (λ finish. O.faults out.new ≡ write_faults_after_run (O.faults out.old) finish) }
+    ensures exact { MatchOption result (O.faults out.new ≡ O.faults out.old)
+        (λ finish. O.faults out.new ≡ write_faults_after_run (O.faults out.old) finish) }
 {
     match machine.run_line(alloc, line) {
         Ok(answer) => match due.add(out, answer.as_slice()) {

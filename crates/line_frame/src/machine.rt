@@ -28,8 +28,10 @@ pub trait Machine {
     /// Runs a line without its LF. Of a longer line than the longest, the first bytes are given, one more than the
     /// longest line has.
     fn run_line(&mut self, alloc: Global, line: &[u8]) -> Result<Row<u8>, LineStop>
-        ensures ok { IfOk result (λ text. (whole : List ℕ) → line.now ≡ take (LONGEST + 1) whole → TellsFirst (tells self.old) (tells self.new) whole text.list) }
-        ensures bad { IfBad result (λ column. (whole : List ℕ) → line.now ≡ take (LONGEST + 1) whole → TellsBad (tells self.old) whole column) };
+        ensures ok { IfOk result (λ text. (whole : List ℕ) → line.now ≡ take (LONGEST + 1) whole →
+            TellsFirst (tells self.old) (tells self.new) whole text.list) }
+        ensures bad { IfBad result (λ column. (whole : List ℕ) → line.now ≡ take (LONGEST + 1) whole →
+            TellsBad (tells self.old) whole column) };
 
     // No lines: nothing is written.
     ghost no_lines: { (machine : Self) (number : ℕ) (finish : Finish) (told : Told) →

@@ -61,7 +61,8 @@ fn write_value(text: &mut String, v: &Value) -> Result<(), OutOfMemory>
 
 #[cycle(write)]
 fn write_list(text: &mut String, items: &[Value]) -> Result<(), OutOfMemory>
-    ensures text { OnOk result (string_bytes text.new ≡ string_bytes text.old ++ value_text (list_value (as_values (map value_term items.now)))) }
+    ensures text { OnOk result (string_bytes text.new ≡ string_bytes text.old
+        ++ value_text (list_value (as_values (map value_term items.now)))) }
     ensures held { OnOk result (AreHeld (as_values (map value_term items.now))) }
 {
     let mut first = true;
@@ -114,7 +115,8 @@ fn write_character(text: &mut String, character: char) -> Result<(), OutOfMemory
 /// An escape by a number.
 fn write_hex(text: &mut String, byte: u8) -> Result<(), OutOfMemory>
     requires { byte < 128 }
-    ensures { OnOk result (string_bytes text.new ≡ string_bytes text.old ++ (codes "\\x" ++ hex_digit (byte / 16) ∷ hex_digit (byte % 16) ∷ [])) }
+    ensures { OnOk result (string_bytes text.new ≡ string_bytes text.old
+        ++ (codes "\\x" ++ hex_digit (byte / 16) ∷ hex_digit (byte % 16) ∷ [])) }
 {
     put(text, "\\x")?;
     push(text, digit(byte / 16))?;

@@ -96,7 +96,8 @@ fn pair<'a>(
 ) -> Result<(Value, &'a [u8]), ParseStop>
     requires first { fewest (want_of first) ≤ room }
     requires second { fewest (want_of second) ≤ room }
-    ensures { Right (PairEnd (want_of first.entry) (want_of second.entry) room) Always NoBlank bytes.now (seen (λ r. (value_term r.0, r.1.now)) result) }
+    ensures { Right (PairEnd (want_of first.entry) (want_of second.entry) room) Always NoBlank bytes.now
+        (seen (λ r. (value_term r.0, r.1.now)) result) }
 {
     let (left, rest) = value(alloc, first, room, bytes)?;
     let rest = word(rest, b",")?;

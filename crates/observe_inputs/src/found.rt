@@ -28,7 +28,8 @@ impl Found {
     /// Adds what a sign offers at the node where the walk is.
     pub(crate) fn push(&mut self, kind: OfferKind, sign: Sign) -> Result<(), OutOfMemory>
         ensures trail { self.new.trail ≡ self.old.trail }
-        ensures offers { OnOk result (map offer_term self.new.offers.list ≡ map offer_term self.old.offers.list ++ map (offer_below self.old.trail) (offered (offer_kind_term kind) sign)) }
+        ensures offers { OnOk result (map offer_term self.new.offers.list ≡ map offer_term self.old.offers.list
+            ++ map (offer_below self.old.trail) (offered (offer_kind_term kind) sign)) }
     {
         let answer = match sign {
             Sign::No => return Ok(()),

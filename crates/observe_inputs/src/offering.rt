@@ -27,7 +27,8 @@ pub fn offers<L: Ledger>(
     requires fits { Fits (checked_term engine.now) (at (tree_term t.now) (map value_term store.old.list)) }
     ensures store { store.new ≡ store.old }
     ensures steps { OnOk result (steps.new ≡ steps.old + tests_in (tree_term t.now) (map value_term store.old.list)) }
-    ensures offers { IfOk result (λ os. AreOffers (checked_term engine.now) budget (tree_term t.now) (map value_term store.old.list) (map offer_term os.list)) }
+    ensures offers { IfOk result (λ os. AreOffers (checked_term engine.now) budget (tree_term t.now) (map value_term store.old.list)
+        (map offer_term os.list)) }
 {
     let mut found = Found::new(engine.alloc());
     add_offers(&mut found, engine, t, store, budget, steps)?;
@@ -48,7 +49,8 @@ fn add_offers<L: Ledger>(
     ensures trail { OnOk result (found.new.trail ≡ found.old.trail) }
     ensures store { store.new ≡ store.old }
     ensures steps { OnOk result (steps.new ≡ steps.old + tests_in (tree_term t.now) (map value_term store.old.list)) }
-    ensures offers { OnOk result (OffersFollow (checked_term engine.now) budget (tree_term t.now) (map value_term store.old.list) found.old.trail
+    ensures offers { OnOk result (OffersFollow (checked_term engine.now) budget (tree_term t.now)
+        (map value_term store.old.list) found.old.trail
         (map offer_term found.old.offers.list) (map offer_term found.new.offers.list)) }
 {
     match t {
@@ -88,7 +90,8 @@ fn add_pick<L: Ledger>(
     ensures trail { OnOk result (found.new.trail ≡ found.old.trail) }
     ensures store { store.new ≡ store.old }
     ensures steps { OnOk result (steps.new ≡ steps.old + 2) }
-    ensures offers { OnOk result (OffersFollow (checked_term engine.now) budget (xor_tree (delay_term j.now) (delay_term k.now)) (map value_term store.old.list)
+    ensures offers { OnOk result (OffersFollow (checked_term engine.now) budget (xor_tree (delay_term j.now) (delay_term k.now))
+        (map value_term store.old.list)
         found.old.trail (map offer_term found.old.offers.list) (map offer_term found.new.offers.list)) }
 {
     let left = test_side(engine, j, store, budget, steps)?;
@@ -112,7 +115,8 @@ fn add_part<L: Ledger>(
     ensures trail { OnOk result (found.new.trail ≡ found.old.trail) }
     ensures store { store.new ≡ store.old }
     ensures steps { OnOk result (steps.new ≡ steps.old + tests_in (tree_term part.now) (map value_term store.old.list)) }
-    ensures offers { OnOk result (OffersFollow (checked_term engine.now) budget (tree_term part.now) (map value_term store.old.list) (found.old.trail ++ turn ∷ [])
+    ensures offers { OnOk result (OffersFollow (checked_term engine.now) budget (tree_term part.now) (map value_term store.old.list)
+        (found.old.trail ++ turn ∷ [])
         (map offer_term found.old.offers.list) (map offer_term found.new.offers.list)) }
 {
     found.trail.go(turn)?;

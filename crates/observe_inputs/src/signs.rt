@@ -25,7 +25,8 @@ pub(crate) fn step_sign<L: Ledger>(
     requires fits { Fits (checked_term engine.now) (at (next_tree (tree_term left.now) (cont_term k.now)) (map value_term store.old.list)) }
     ensures store { store.new ≡ store.old }
     ensures steps { OnOk result (steps.new ≡ steps.old + step_tests (value_of (tree_term left.now) (map value_term store.old.list))) }
-    ensures sign { IfOk result (λ s. IsStepSign (checked_term engine.now) budget (value_of (tree_term left.now) (map value_term store.old.list)) (cont_term k.now) (map value_term store.old.list) s) }
+    ensures sign { IfOk result (λ s. IsStepSign (checked_term engine.now) budget
+        (value_of (tree_term left.now) (map value_term store.old.list)) (cont_term k.now) (map value_term store.old.list) s) }
 {
     let Some(v) = value(engine.alloc(), left, store)? else {
         return Ok(Sign::No);

@@ -19,7 +19,8 @@ use task_model::{Basic, Keyword, Symbol};
 fn scalar<'t>(tokens: &'t [PositionedToken<'t>]) -> Option<(Basic, &'t [PositionedToken<'t>])>
     ensures { MatchOption result
         ((b : grammar.Scalar) (p : ℕ) (rest : List terms.Lexeme) → lexemes tokens.now ≡ terms.keyword (grammar.scalar b) p ∷ rest → ⊥)
-        (λ r. (b : grammar.Scalar) × (p : ℕ) × (lexemes tokens.now ≡ terms.keyword (grammar.scalar b) p ∷ lexemes r.1.now) × (basic_term r.0 ≡ scalar_of b)) }
+        (λ r. (b : grammar.Scalar) × (p : ℕ) × (lexemes tokens.now ≡ terms.keyword (grammar.scalar b) p ∷ lexemes r.1.now)
+        × (basic_term r.0 ≡ scalar_of b)) }
 {
     if let Some((_, rest)) = strip_keyword(tokens, Keyword::Unit) {
         return Some((Basic::Unit, rest));

@@ -38,7 +38,8 @@ pub fn prefix<'t>(
 pub fn relation<'t>(tokens: &'t [PositionedToken<'t>]) -> Option<(Op, &'t [PositionedToken<'t>])>
     ensures { MatchOption result
         ((o : grammar.Relation) (p : ℕ) (rest : List terms.Lexeme) → lexemes tokens.now ≡ terms.symbol (grammar.relation o) p ∷ rest → ⊥)
-        (λ r. (o : grammar.Relation) × (p : ℕ) × (lexemes tokens.now ≡ terms.symbol (grammar.relation o) p ∷ lexemes r.1.now) × (relation_of o ≡ r.0)) }
+        (λ r. (o : grammar.Relation) × (p : ℕ) × (lexemes tokens.now ≡ terms.symbol (grammar.relation o) p ∷ lexemes r.1.now)
+        × (relation_of o ≡ r.0)) }
 {
     if let Some((_, rest)) = strip_symbol(tokens, Symbol::Equal) {
         return Some((Op::Eq, rest));

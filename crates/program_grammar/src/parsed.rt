@@ -217,7 +217,8 @@ impl Parsed<Host> {
         requires list { self.levels + 1 < 2 ^ 64 }
         requires left { empty.levels + 1 < 2 ^ 64 }
         requires right { more.levels + 1 < 2 ^ 64 }
-        ensures shown { IfOk result (λ r. shown_host r ≡ over_three (λ l a b. case_expr l a head.now tail.now b) place (shown_host self) (shown_host empty) (shown_host more)) }
+        ensures shown { IfOk result (λ r. shown_host r ≡ over_three (λ l a b. case_expr l a head.now tail.now b) place (shown_host self)
+            (shown_host empty) (shown_host more)) }
         ensures memory { IfErr result (λ e. e ≡ ParseStop.Memory) }
     {
         let head = name_text(alloc, head)?;

@@ -20,7 +20,8 @@ pub fn operator<'t>(
     level: Level,
     tokens: &'t [PositionedToken<'t>],
 ) -> Option<(Op, &'t [PositionedToken<'t>])>
-    ensures { MatchOption result (NoOperator (series_of level) (lexemes tokens.now)) (λ r. Operated (series_of level) (lexemes tokens.now) r.0 (lexemes r.1.now)) }
+    ensures { MatchOption result (NoOperator (series_of level) (lexemes tokens.now))
+        (λ r. Operated (series_of level) (lexemes tokens.now) r.0 (lexemes r.1.now)) }
 {
     match level {
         Level::Either => either(tokens),
@@ -31,7 +32,8 @@ pub fn operator<'t>(
 }
 
 fn either<'t>(tokens: &'t [PositionedToken<'t>]) -> Option<(Op, &'t [PositionedToken<'t>])>
-    ensures { MatchOption result (NoOperator grammar.either (lexemes tokens.now)) (λ r. Operated grammar.either (lexemes tokens.now) r.0 (lexemes r.1.now)) }
+    ensures { MatchOption result (NoOperator grammar.either (lexemes tokens.now))
+        (λ r. Operated grammar.either (lexemes tokens.now) r.0 (lexemes r.1.now)) }
 {
     if let Some((_, rest)) = strip_symbol(tokens, Symbol::Or) {
         return Some((Op::Or, rest));
@@ -40,7 +42,8 @@ fn either<'t>(tokens: &'t [PositionedToken<'t>]) -> Option<(Op, &'t [PositionedT
 }
 
 fn both<'t>(tokens: &'t [PositionedToken<'t>]) -> Option<(Op, &'t [PositionedToken<'t>])>
-    ensures { MatchOption result (NoOperator grammar.both (lexemes tokens.now)) (λ r. Operated grammar.both (lexemes tokens.now) r.0 (lexemes r.1.now)) }
+    ensures { MatchOption result (NoOperator grammar.both (lexemes tokens.now))
+        (λ r. Operated grammar.both (lexemes tokens.now) r.0 (lexemes r.1.now)) }
 {
     if let Some((_, rest)) = strip_symbol(tokens, Symbol::And) {
         return Some((Op::And, rest));
@@ -49,7 +52,8 @@ fn both<'t>(tokens: &'t [PositionedToken<'t>]) -> Option<(Op, &'t [PositionedTok
 }
 
 fn sum<'t>(tokens: &'t [PositionedToken<'t>]) -> Option<(Op, &'t [PositionedToken<'t>])>
-    ensures { MatchOption result (NoOperator grammar.sum (lexemes tokens.now)) (λ r. Operated grammar.sum (lexemes tokens.now) r.0 (lexemes r.1.now)) }
+    ensures { MatchOption result (NoOperator grammar.sum (lexemes tokens.now))
+        (λ r. Operated grammar.sum (lexemes tokens.now) r.0 (lexemes r.1.now)) }
 {
     if let Some((_, rest)) = strip_symbol(tokens, Symbol::Plus) {
         return Some((Op::Add, rest));
@@ -64,7 +68,8 @@ fn sum<'t>(tokens: &'t [PositionedToken<'t>]) -> Option<(Op, &'t [PositionedToke
 }
 
 fn product<'t>(tokens: &'t [PositionedToken<'t>]) -> Option<(Op, &'t [PositionedToken<'t>])>
-    ensures { MatchOption result (NoOperator grammar.product (lexemes tokens.now)) (λ r. Operated grammar.product (lexemes tokens.now) r.0 (lexemes r.1.now)) }
+    ensures { MatchOption result (NoOperator grammar.product (lexemes tokens.now))
+        (λ r. Operated grammar.product (lexemes tokens.now) r.0 (lexemes r.1.now)) }
 {
     if let Some((_, rest)) = strip_symbol(tokens, Symbol::Star) {
         return Some((Op::Mul, rest));

@@ -53,7 +53,8 @@ fn word(what: &DefBody) -> &'static str
 /// What stands between a definition's word and its body.
 fn write_head(out: &mut Printer, d: &Def) -> Result<(), OutOfMemory>
     ensures { OnOk result (out.new ≡ with_tokens out.old
-        (d.now.name ∷ codes "(" ∷ parameters_tokens (map param_term d.now.params.list) ++ codes ")" ∷ codes ":" ∷ basic_tokens (basic_term d.now.result) ++ codes "=" ∷ [])) }
+        (d.now.name ∷ codes "(" ∷ parameters_tokens (map param_term d.now.params.list)
+        ++ codes ")" ∷ codes ":" ∷ basic_tokens (basic_term d.now.result) ++ codes "=" ∷ [])) }
 {
     out.tokens(d.name.as_str(), "(")?;
     write_parameters(out, d.params.as_slice())?;
@@ -64,7 +65,8 @@ fn write_head(out: &mut Printer, d: &Def) -> Result<(), OutOfMemory>
 
 /// A definition's body, whose task may name all bodies.
 fn write_body(out: &mut Printer, bodies: &[Body], what: &DefBody) -> Result<(), OutOfMemory>
-    ensures { OnOk result (out.new ≡ with_tokens out.old (definition_body (body_texts 0 (map body_term bodies.now)) (def_body_term what.now))) }
+    ensures { OnOk result (out.new ≡ with_tokens out.old (definition_body (body_texts 0 (map body_term bodies.now))
+        (def_body_term what.now))) }
 {
     match what {
         DefBody::Fun(e) => write_expression(out, EXPRESSION, e),
@@ -74,7 +76,8 @@ fn write_body(out: &mut Printer, bodies: &[Body], what: &DefBody) -> Result<(), 
 
 /// A definition, on a line of its own.
 fn write_definition(out: &mut Printer, bodies: &[Body], d: &Def) -> Result<(), OutOfMemory>
-    ensures { OnOk result (out.new ≡ out.old ++ spaced (definition_tokens (body_texts 0 (map body_term bodies.now)) (def_term d.now)) ++ codes "\n") }
+    ensures { OnOk result (out.new ≡ out.old ++ spaced (definition_tokens (body_texts 0 (map body_term bodies.now)) (def_term d.now))
+        ++ codes "\n") }
 {
     out.put(word(&d.what))?;
     write_head(out, d)?;

@@ -116,7 +116,8 @@ fn write_production(out: &mut Printer, e: &Host) -> Result<(), OutOfMemory>
 
 #[cycle(expression)]
 pub(crate) fn write_call(out: &mut Printer, name: &str, args: &[Host]) -> Result<(), OutOfMemory>
-    ensures { OnOk result (out.new ≡ with_tokens out.old (name.now ∷ codes "(" ∷ listed_tokens (as_exprs (map host_term args.now)) ++ codes ")" ∷ [])) }
+    ensures { OnOk result (out.new ≡ with_tokens out.old (name.now ∷ codes "(" ∷ listed_tokens (as_exprs (map host_term args.now))
+        ++ codes ")" ∷ [])) }
 {
     out.token(name)?;
     out.token("(")?;
@@ -168,7 +169,8 @@ fn write_operation(out: &mut Printer, op: Op, left: &Host, right: &Host) -> Resu
 
 #[cycle(expression)]
 fn write_let(out: &mut Printer, name: &str, bound: &Host, rest: &Host) -> Result<(), OutOfMemory>
-    ensures { OnOk result (out.new ≡ with_tokens out.old (expression_tokens (let_expr name.now (host_term bound.now) (host_term rest.now)))) }
+    ensures { OnOk result (out.new ≡ with_tokens out.old (expression_tokens
+        (let_expr name.now (host_term bound.now) (host_term rest.now)))) }
 {
     out.tokens("let", name)?;
     out.token("=")?;
@@ -179,7 +181,8 @@ fn write_let(out: &mut Printer, name: &str, bound: &Host, rest: &Host) -> Result
 
 #[cycle(expression)]
 fn write_if(out: &mut Printer, test: &Host, yes: &Host, no: &Host) -> Result<(), OutOfMemory>
-    ensures { OnOk result (out.new ≡ with_tokens out.old (expression_tokens (if_expr (host_term test.now) (host_term yes.now) (host_term no.now)))) }
+    ensures { OnOk result (out.new ≡ with_tokens out.old (expression_tokens
+        (if_expr (host_term test.now) (host_term yes.now) (host_term no.now)))) }
 {
     out.token("if")?;
     write_expression(out, EXPRESSION, test)?;

@@ -63,7 +63,8 @@ fn write_edit(out: &mut Printer, e: &Host) -> Result<(), OutOfMemory>
 
 /// What stands before a task in which a name is bound.
 fn write_binding(out: &mut Printer, word: &str, name: &str, bound: &Host) -> Result<(), OutOfMemory>
-    ensures { OnOk result (out.new ≡ with_tokens out.old (word.now ∷ name.now ∷ codes "=" ∷ expression_at 8 (host_term bound.now) ++ codes "in" ∷ [])) }
+    ensures { OnOk result (out.new ≡ with_tokens out.old (word.now ∷ name.now ∷ codes "=" ∷ expression_at 8 (host_term bound.now)
+        ++ codes "in" ∷ [])) }
 {
     out.tokens(word, name)?;
     out.token("=")?;
@@ -73,7 +74,8 @@ fn write_binding(out: &mut Printer, word: &str, name: &str, bound: &Host) -> Res
 
 /// What stands before a task behind a change of a reference.
 fn write_change(out: &mut Printer, name: &str, value: &Host) -> Result<(), OutOfMemory>
-    ensures { OnOk result (out.new ≡ with_tokens out.old (name.now ∷ codes ":=" ∷ expression_at 8 (host_term value.now) ++ codes ";" ∷ [])) }
+    ensures { OnOk result (out.new ≡ with_tokens out.old (name.now ∷ codes ":=" ∷ expression_at 8 (host_term value.now)
+        ++ codes ";" ∷ [])) }
 {
     out.tokens(name, ":=")?;
     write_expression(out, EXPRESSION, value)?;
@@ -175,7 +177,8 @@ fn write_and(
     left: &Task,
     right: &Task,
 ) -> Result<(), OutOfMemory>
-    ensures { OnOk result (out.new ≡ with_tokens out.old (task_tokens later.now.first (later_texts later.now) (and_task (task_term left.now) (task_term right.now)))) }
+    ensures { OnOk result (out.new ≡ with_tokens out.old (task_tokens later.now.first (later_texts later.now)
+        (and_task (task_term left.now) (task_term right.now)))) }
 {
     write_task(out, CHAIN, later, left)?;
     out.token("<&>")?;
@@ -189,7 +192,8 @@ fn write_or(
     left: &Task,
     right: &Task,
 ) -> Result<(), OutOfMemory>
-    ensures { OnOk result (out.new ≡ with_tokens out.old (task_tokens later.now.first (later_texts later.now) (or_task (task_term left.now) (task_term right.now)))) }
+    ensures { OnOk result (out.new ≡ with_tokens out.old (task_tokens later.now.first (later_texts later.now)
+        (or_task (task_term left.now) (task_term right.now)))) }
 {
     write_task(out, CHOICE, later, left)?;
     out.token("<|>")?;
@@ -234,7 +238,8 @@ fn write_if(
     yes: &Task,
     no: &Task,
 ) -> Result<(), OutOfMemory>
-    ensures { OnOk result (out.new ≡ with_tokens out.old (task_tokens later.now.first (later_texts later.now) (if_task (host_term test.now) (task_term yes.now) (task_term no.now)))) }
+    ensures { OnOk result (out.new ≡ with_tokens out.old (task_tokens later.now.first (later_texts later.now)
+        (if_task (host_term test.now) (task_term yes.now) (task_term no.now)))) }
 {
     write_test(out, test)?;
     write_task(out, TASK, later, yes)?;

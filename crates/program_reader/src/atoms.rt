@@ -24,7 +24,8 @@ pub(crate) fn task_atom<'t>(
     tokens: &'t [PositionedToken<'t>],
 ) -> Result<(Parsed<Task>, &'t [PositionedToken<'t>]), ParseStop>
     requires { next + length (lexemes tokens.now) < 2 ^ 32 }
-    ensures { Reads grammar.task_atom (shown_atom (scope_names scope.now) next) room (lexemes tokens.now) (seen (λ r. (parsed_task r.0, lexemes r.1.now)) result) }
+    ensures { Reads grammar.task_atom (shown_atom (scope_names scope.now) next) room (lexemes tokens.now)
+        (seen (λ r. (parsed_task r.0, lexemes r.1.now)) result) }
 {
     if let Some((place, rest)) = strip_symbol(tokens, Symbol::Open) {
         if room < 2 {

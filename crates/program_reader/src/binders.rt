@@ -32,7 +32,8 @@ pub(crate) fn task_binding<'t>(
 ) -> Result<(Parsed<Task>, &'t [PositionedToken<'t>]), ParseStop>
     requires room { 2 ≤ room }
     requires numbers { next + length (lexemes tokens.now) < 2 ^ 32 }
-    ensures { Reads grammar.task (shown_task (scope_names scope.now) next) room (terms.keyword (binding_keyword binding) place ∷ lexemes tokens.now) (seen (λ r. (parsed_task r.0, lexemes r.1.now)) result) }
+    ensures { Reads grammar.task (shown_task (scope_names scope.now) next) room
+        (terms.keyword (binding_keyword binding) place ∷ lexemes tokens.now) (seen (λ r. (parsed_task r.0, lexemes r.1.now)) result) }
 {
     let (name, _, rest) = expect_name(tokens)?;
     let (_, rest) = expect_symbol(rest, Symbol::Define)?;
@@ -60,7 +61,8 @@ pub(crate) fn task_put<'t>(
     requires room { 2 ≤ room }
     requires assigned { StartsWith signs.Assign (lexemes tokens.now) }
     requires numbers { next + length (lexemes tokens.now) < 2 ^ 32 }
-    ensures { Reads grammar.task (shown_task (scope_names scope.now) next) room (terms.name name.entry.0.now name.entry.1 ∷ lexemes tokens.now) (seen (λ r. (parsed_task r.0, lexemes r.1.now)) result) }
+    ensures { Reads grammar.task (shown_task (scope_names scope.now) next) room
+        (terms.name name.entry.0.now name.entry.1 ∷ lexemes tokens.now) (seen (λ r. (parsed_task r.0, lexemes r.1.now)) result) }
 {
     let (_, rest) = expect_symbol(tokens, Symbol::Assign)?;
     let (value, rest) = expression(alloc, room - 1, rest)?;

@@ -30,7 +30,8 @@ pub(crate) fn task_if<'t>(
 ) -> Result<(Parsed<Task>, &'t [PositionedToken<'t>]), ParseStop>
     requires room { 2 ≤ room }
     requires numbers { next + length (lexemes tokens.now) < 2 ^ 32 }
-    ensures { Reads grammar.task (shown_task (scope_names scope.now) next) room (terms.keyword words.If place ∷ lexemes tokens.now) (seen (λ r. (parsed_task r.0, lexemes r.1.now)) result) }
+    ensures { Reads grammar.task (shown_task (scope_names scope.now) next) room (terms.keyword words.If place ∷ lexemes tokens.now)
+        (seen (λ r. (parsed_task r.0, lexemes r.1.now)) result) }
 {
     let (test, rest) = expression(alloc, room - 1, tokens)?;
     let (_, rest) = expect_keyword(rest, Keyword::Then)?;
@@ -53,7 +54,8 @@ pub(crate) fn task_case<'t>(
 ) -> Result<(Parsed<Task>, &'t [PositionedToken<'t>]), ParseStop>
     requires room { 2 ≤ room }
     requires numbers { next + length (lexemes tokens.now) < 2 ^ 32 }
-    ensures { Reads grammar.task (shown_task (scope_names scope.now) next) room (terms.keyword words.Case place ∷ lexemes tokens.now) (seen (λ r. (parsed_task r.0, lexemes r.1.now)) result) }
+    ensures { Reads grammar.task (shown_task (scope_names scope.now) next) room (terms.keyword words.Case place ∷ lexemes tokens.now)
+        (seen (λ r. (parsed_task r.0, lexemes r.1.now)) result) }
 {
     let (list, rest) = expression(alloc, room - 1, tokens)?;
     let (_, rest) = expect_keyword(rest, Keyword::Of)?;

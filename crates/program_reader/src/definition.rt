@@ -42,7 +42,8 @@ impl ReadDefinition {
         result_type: Measured,
         body: (DefBody, Parts),
     ) -> Result<ReadDefinition, ParseStop>
-        ensures shown { IfOk result (λ r. shown_definition r ≡ definition_of place name.now (shown_parameters parameters) (measured result_type) (def_body_term body.0) (parts_term body.1)) }
+        ensures shown { IfOk result (λ r. shown_definition r ≡ definition_of place name.now (shown_parameters parameters)
+            (measured result_type) (def_body_term body.0) (parts_term body.1)) }
         ensures memory { IfErr result (λ e. e ≡ ParseStop.Memory) }
     {
         let name = name_text(alloc, name)?;
@@ -72,7 +73,8 @@ impl ReadDefinition {
         result_type: Measured,
         body: Parsed<Host>,
     ) -> Result<ReadDefinition, ParseStop>
-        ensures shown { IfOk result (λ r. shown_definition r ≡ function_definition place name.now (shown_parameters parameters) (measured result_type) (shown_host body)) }
+        ensures shown { IfOk result (λ r. shown_definition r ≡ function_definition place name.now (shown_parameters parameters)
+            (measured result_type) (shown_host body)) }
         ensures memory { IfErr result (λ e. e ≡ ParseStop.Memory) }
     {
         let (body, parts) = body.into_parts();
@@ -89,7 +91,8 @@ impl ReadDefinition {
         result_type: Measured,
         body: Parsed<Task>,
     ) -> Result<ReadDefinition, ParseStop>
-        ensures shown { IfOk result (λ r. shown_definition r ≡ task_definition place name.now (shown_parameters parameters) (measured result_type) (parsed_task body)) }
+        ensures shown { IfOk result (λ r. shown_definition r ≡ task_definition place name.now (shown_parameters parameters)
+            (measured result_type) (parsed_task body)) }
         ensures memory { IfErr result (λ e. e ≡ ParseStop.Memory) }
     {
         let (body, parts) = body.into_parts();
@@ -106,7 +109,8 @@ fn function<'t>(
     tokens: &'t [PositionedToken<'t>],
 ) -> Result<(ReadDefinition, &'t [PositionedToken<'t>]), ParseStop>
     requires { 1 ≤ room }
-    ensures { (next : ℕ) → Reads grammar.definition (shown_meaning next) room (terms.keyword words.Fun place ∷ lexemes tokens.now) (seen (λ r. (shown_definition r.0, lexemes r.1.now)) result) }
+    ensures { (next : ℕ) → Reads grammar.definition (shown_meaning next) room (terms.keyword words.Fun place ∷ lexemes tokens.now)
+        (seen (λ r. (shown_definition r.0, lexemes r.1.now)) result) }
 {
     let (name, _, rest) = expect_name(tokens)?;
     let (parameters, rest) = enclosed_parameters(alloc, room, rest)?;
@@ -127,7 +131,8 @@ fn body_of_task<'t>(
     tokens: &'t [PositionedToken<'t>],
 ) -> Result<(Parsed<Task>, &'t [PositionedToken<'t>]), ParseStop>
     requires { next + length (lexemes tokens.now) < 2 ^ 32 }
-    ensures { Reads grammar.task (shown_task (map (λ q. q.name) parameters.now.list.list) next) room (lexemes tokens.now) (seen (λ r. (parsed_task r.0, lexemes r.1.now)) result) }
+    ensures { Reads grammar.task (shown_task (map (λ q. q.name) parameters.now.list.list) next) room (lexemes tokens.now)
+        (seen (λ r. (parsed_task r.0, lexemes r.1.now)) result) }
 {
     let scope = parameter_scope(alloc, parameters.list.as_slice())?;
     task(alloc, room, &scope, next, tokens)
@@ -143,7 +148,8 @@ fn task_definition<'t>(
 ) -> Result<(ReadDefinition, &'t [PositionedToken<'t>]), ParseStop>
     requires room { 1 ≤ room }
     requires numbers { next + length (lexemes tokens.now) < 2 ^ 32 }
-    ensures { Reads grammar.definition (shown_meaning next) room (terms.keyword words.Task place ∷ lexemes tokens.now) (seen (λ r. (shown_definition r.0, lexemes r.1.now)) result) }
+    ensures { Reads grammar.definition (shown_meaning next) room (terms.keyword words.Task place ∷ lexemes tokens.now)
+        (seen (λ r. (shown_definition r.0, lexemes r.1.now)) result) }
 {
     let (name, _, rest) = expect_name(tokens)?;
     let (parameters, rest) = enclosed_parameters(alloc, room, rest)?;
@@ -166,7 +172,8 @@ pub(crate) fn definition<'t>(
 ) -> Result<(ReadDefinition, &'t [PositionedToken<'t>]), ParseStop>
     requires room { 1 ≤ room }
     requires numbers { next + length (lexemes tokens.now) < 2 ^ 32 }
-    ensures { Reads grammar.definition (shown_meaning next) room (terms.keyword (word_of word) place ∷ lexemes tokens.now) (seen (λ r. (shown_definition r.0, lexemes r.1.now)) result) }
+    ensures { Reads grammar.definition (shown_meaning next) room (terms.keyword (word_of word) place ∷ lexemes tokens.now)
+        (seen (λ r. (shown_definition r.0, lexemes r.1.now)) result) }
 {
     match word {
         DefinitionWord::Function => function(alloc, room, place, tokens),

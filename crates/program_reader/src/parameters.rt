@@ -33,7 +33,8 @@ impl Parameters {
 
     /// These parameters, and one more behind them, which stands here.
     fn and(self, parameter: Param, place: u64) -> Result<Parameters, ParseStop>
-        ensures shown { IfOk result (λ r. shown_parameters r ≡ ((shown_parameters self).0 ++ param_term parameter ∷ [], (shown_parameters self).1 ++ place ∷ [])) }
+        ensures shown { IfOk result (λ r. shown_parameters r
+            ≡ ((shown_parameters self).0 ++ param_term parameter ∷ [], (shown_parameters self).1 ++ place ∷ [])) }
         ensures memory { IfErr result (λ e. e ≡ ParseStop.Memory) }
     {
         let mut places = self.places;
@@ -53,7 +54,8 @@ fn parameter<'t>(
     tokens: &'t [PositionedToken<'t>],
 ) -> Result<(Param, u64, &'t [PositionedToken<'t>]), ParseStop>
     requires { 1 ≤ room }
-    ensures { Reads grammar.parameter shown_parameter room (lexemes tokens.now) (seen (λ r. ((param_term r.0, r.1), lexemes r.2.now)) result) }
+    ensures { Reads grammar.parameter shown_parameter room (lexemes tokens.now)
+        (seen (λ r. ((param_term r.0, r.1), lexemes r.2.now)) result) }
 {
     let Some((name, place, rest)) = strip_name(tokens) else {
         return Err(unexpected(tokens));
@@ -80,7 +82,8 @@ fn some_parameters<'t>(
     tokens: &'t [PositionedToken<'t>],
 ) -> Result<(Parameters, &'t [PositionedToken<'t>]), ParseStop>
     requires { 1 ≤ room }
-    ensures { Reads (grammar.series (grammar.list grammar.parameters)) shown_parameter_list room (lexemes tokens.now) (seen (λ r. (shown_parameters r.0, lexemes r.1.now)) result) }
+    ensures { Reads (grammar.series (grammar.list grammar.parameters)) shown_parameter_list room (lexemes tokens.now)
+        (seen (λ r. (shown_parameters r.0, lexemes r.1.now)) result) }
 {
     let (first, place, mut rest) = parameter(alloc, room, tokens)?;
     let mut all = Parameters::none(alloc).and(first, place)?;
@@ -99,7 +102,8 @@ pub(crate) fn enclosed_parameters<'t>(
     tokens: &'t [PositionedToken<'t>],
 ) -> Result<(Parameters, &'t [PositionedToken<'t>]), ParseStop>
     requires { 1 ≤ room }
-    ensures { Reads (grammar.enclosed grammar.parameters) shown_enclosed room (lexemes tokens.now) (seen (λ r. (shown_parameters r.0, lexemes r.1.now)) result) }
+    ensures { Reads (grammar.enclosed grammar.parameters) shown_enclosed room (lexemes tokens.now)
+        (seen (λ r. (shown_parameters r.0, lexemes r.1.now)) result) }
 {
     let Some((_, rest)) = strip_symbol(tokens, Symbol::Open) else {
         return Err(unexpected(tokens));

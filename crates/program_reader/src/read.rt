@@ -28,7 +28,8 @@ pub struct Read {
 
 /// The program of these definitions, and its places, with this one behind them.
 fn read_of(all: Definitions, end: u64) -> Result<Read, ReadStop>
-    ensures program { IfOk result (λ r. program_term r.program ≡ record { defs = (shown_definitions all).defs; bodies = (shown_definitions all).bodies }) }
+    ensures program { IfOk result (λ r. program_term r.program ≡ record
+        { defs = (shown_definitions all).defs; bodies = (shown_definitions all).bodies }) }
     ensures places { IfOk result (λ r. r.places.list ≡ (shown_definitions all).places ++ end ∷ []) }
     ensures memory { IfErr result (λ e. e ≡ ReadStop.Memory) }
 {
@@ -58,7 +59,8 @@ fn place_at(source: &str, tokens: &[PositionedToken<'_>], token: usize) -> u64
 fn fault_of(source: &str, tokens: &[PositionedToken<'_>], kind: FaultKind, left: usize) -> ReadStop
     requires short { length source.now ≤ 1048576 }
     requires has { HasTokens source.now (token_terms (lexemes tokens.now)) }
-    requires first { (token : ℕ) × (token + left ≡ length tokens.now) × IsFirstFault IsProgram (IsWithinLevels 200) (token_terms (lexemes tokens.now)) kind token }
+    requires first { (token : ℕ) × (token + left ≡ length tokens.now) × IsFirstFault IsProgram (IsWithinLevels 200)
+        (token_terms (lexemes tokens.now)) kind token }
     ensures { IsReadStop source.now result }
 {
     let token = tokens.len() - left;
@@ -81,7 +83,8 @@ fn read_tokens(
     requires short { length source.now ≤ 1048576 }
     requires has { HasTokens source.now (token_terms (lexemes tokens.now)) }
     ensures found { IfOk result (λ r. IsProgramText source.now (program_term r.program) r.places.list) }
-    ensures only { IfOk result (λ r. (p : ProgramTerm) (places : List ℕ) → IsProgramText source.now p places → (p ≡ program_term r.program) × (places ≡ r.places.list)) }
+    ensures only { IfOk result (λ r. (p : ProgramTerm) (places : List ℕ) → IsProgramText source.now p places →
+        (p ≡ program_term r.program) × (places ≡ r.places.list)) }
     ensures fault { IfErr result (IsReadStop source.now) }
 {
     match program(alloc, PROGRAM_LEVEL_LIMIT, tokens) {
@@ -138,7 +141,8 @@ fn tokens_of(alloc: Global, source: &str) -> Result<Tokens, ReadStop>
 fn read_source(alloc: Global, source: &str) -> Result<Read, ReadStop>
     requires short { length source.now ≤ 1048576 }
     ensures found { IfOk result (λ r. IsProgramText source.now (program_term r.program) r.places.list) }
-    ensures only { IfOk result (λ r. (p : ProgramTerm) (places : List ℕ) → IsProgramText source.now p places → (p ≡ program_term r.program) × (places ≡ r.places.list)) }
+    ensures only { IfOk result (λ r. (p : ProgramTerm) (places : List ℕ) → IsProgramText source.now p places →
+        (p ≡ program_term r.program) × (places ≡ r.places.list)) }
     ensures fault { IfErr result (IsReadStop source.now) }
 {
     let tokens = tokens_of(alloc, source)?;

@@ -60,7 +60,8 @@ pub(crate) fn choice<'t>(
     tokens: &'t [PositionedToken<'t>],
 ) -> Result<(Parsed<Task>, &'t [PositionedToken<'t>]), ParseStop>
     requires { next + length (lexemes tokens.now) < 2 ^ 32 }
-    ensures { Reads (grammar.series grammar.choice) (shown_choice (scope_names scope.now) next) room (lexemes tokens.now) (seen (λ r. (parsed_task r.0, lexemes r.1.now)) result) }
+    ensures { Reads (grammar.series grammar.choice) (shown_choice (scope_names scope.now) next) room (lexemes tokens.now)
+        (seen (λ r. (parsed_task r.0, lexemes r.1.now)) result) }
 {
     let (mut left, mut rest) = chain(alloc, room, scope, next, tokens)?;
     while let Some((choice, _, after)) = choice_sign(rest) {
@@ -85,7 +86,8 @@ fn chain<'t>(
     tokens: &'t [PositionedToken<'t>],
 ) -> Result<(Parsed<Task>, &'t [PositionedToken<'t>]), ParseStop>
     requires { next + length (lexemes tokens.now) < 2 ^ 32 }
-    ensures { Reads (grammar.series grammar.chain) (shown_chain (scope_names scope.now) next) room (lexemes tokens.now) (seen (λ r. (parsed_task r.0, lexemes r.1.now)) result) }
+    ensures { Reads (grammar.series grammar.chain) (shown_chain (scope_names scope.now) next) room (lexemes tokens.now)
+        (seen (λ r. (parsed_task r.0, lexemes r.1.now)) result) }
 {
     let (mut left, mut rest) = task_atom(alloc, room, scope, next, tokens)?;
     while let Some((_, after)) = strip_symbol(rest, Symbol::Pair) {

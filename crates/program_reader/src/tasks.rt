@@ -28,7 +28,8 @@ pub(crate) fn task<'t>(
     tokens: &'t [PositionedToken<'t>],
 ) -> Result<(Parsed<Task>, &'t [PositionedToken<'t>]), ParseStop>
     requires { next + length (lexemes tokens.now) < 2 ^ 32 }
-    ensures { Reads grammar.task (shown_task (scope_names scope.now) next) room (lexemes tokens.now) (seen (λ r. (parsed_task r.0, lexemes r.1.now)) result) }
+    ensures { Reads grammar.task (shown_task (scope_names scope.now) next) room (lexemes tokens.now)
+        (seen (λ r. (parsed_task r.0, lexemes r.1.now)) result) }
 {
     if let Some((binding, place, rest)) = binding_word(tokens) {
         if room < 2 {
@@ -64,7 +65,8 @@ fn wordless<'t>(
     requires no_if { NoWord words.If (lexemes tokens.now) }
     requires no_case { NoWord words.Case (lexemes tokens.now) }
     requires numbers { next + length (lexemes tokens.now) < 2 ^ 32 }
-    ensures { Reads grammar.task (shown_task (scope_names scope.now) next) room (lexemes tokens.now) (seen (λ r. (parsed_task r.0, lexemes r.1.now)) result) }
+    ensures { Reads grammar.task (shown_task (scope_names scope.now) next) room (lexemes tokens.now)
+        (seen (λ r. (parsed_task r.0, lexemes r.1.now)) result) }
 {
     let Some((name, place, rest)) = strip_name(tokens) else {
         return steps(alloc, room, scope, next, tokens);

@@ -58,7 +58,8 @@ pub(crate) fn lexemes_of<'s>(
 ) -> Result<Vec<PositionedToken<'s>>, ParseStop>
     requires are { (ts : List TokenTerm) × AreTokens source.now tokens.now ts × AreSpelled ts }
     requires spans { AreSpans 0 tokens.now (length source.now) }
-    ensures terms { IfOk result (λ r. (ts : List TokenTerm) → AreTokens source.now tokens.now ts → AreSpelled ts → ts ≡ token_terms (lexemes r.items)) }
+    ensures terms { IfOk result (λ r. (ts : List TokenTerm) → AreTokens source.now tokens.now ts → AreSpelled ts → ts
+        ≡ token_terms (lexemes r.items)) }
     ensures memory { IfErr result (λ e. e ≡ ParseStop.Memory) }
 {
     let mut all = Vec::with_capacity(alloc, tokens.len())?;

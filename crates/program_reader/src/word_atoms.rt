@@ -21,7 +21,8 @@ pub(crate) fn word_atom<'t>(
     tokens: &'t [PositionedToken<'t>],
 ) -> Result<(Parsed<Task>, &'t [PositionedToken<'t>]), ParseStop>
     requires { NoSign signs.Open (lexemes tokens.now) }
-    ensures { (scope : List Text) (next : ℕ) → Reads grammar.task_atom (shown_atom scope next) room (lexemes tokens.now) (seen (λ r. (parsed_task r.0, lexemes r.1.now)) result) }
+    ensures { (scope : List Text) (next : ℕ) → Reads grammar.task_atom (shown_atom scope next) room (lexemes tokens.now)
+        (seen (λ r. (parsed_task r.0, lexemes r.1.now)) result) }
 {
     if let Some((place, rest)) = strip_keyword(tokens, Keyword::Edit) {
         if room < 2 {

@@ -109,7 +109,8 @@ pub fn choice_task(
     requires numbers { suc (next + length (parsed_task left).bodies) < 2 ^ 32 }
     requires term { IsNumberedBelow 4294967295 (parsed_task left).term }
     requires bodies { All (IsBodyNumberedBelow 4294967295) (parsed_task left).bodies }
-    ensures shown { IfOk result (λ r. parsed_task r ≡ chosen_task (scope_names scope.now) next (choice_term choice) (parsed_task left) (parsed_task right)) }
+    ensures shown { IfOk result (λ r. parsed_task r ≡ chosen_task (scope_names scope.now) next (choice_term choice) (parsed_task left)
+        (parsed_task right)) }
     ensures memory { IfErr result (λ e. e ≡ ParseStop.Memory) }
 {
     match choice {
@@ -131,7 +132,8 @@ pub fn step_task(
     requires left { left.levels + 1 < 2 ^ 64 }
     requires right { right.levels + 1 < 2 ^ 64 }
     requires numbers { next + length (parsed_task left).bodies < 2 ^ 32 }
-    ensures shown { IfOk result (λ r. parsed_task r ≡ followed_task (scope_names scope.now) next step name (parsed_task left) (parsed_task right)) }
+    ensures shown { IfOk result (λ r. parsed_task r ≡ followed_task (scope_names scope.now) next step name (parsed_task left)
+        (parsed_task right)) }
     ensures memory { IfErr result (λ e. e ≡ ParseStop.Memory) }
 {
     let start = left.start;

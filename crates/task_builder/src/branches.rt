@@ -41,7 +41,8 @@ pub fn case_task(
     requires list { list.levels + 1 < 2 ^ 64 }
     requires empty { empty.levels + 1 < 2 ^ 64 }
     requires more { more.levels + 1 < 2 ^ 64 }
-    ensures shown { IfOk result (λ r. parsed_task r ≡ over_three (λ e t u. tasks.case_task e t names.0 names.1 u) place (shown_host list) (parsed_task empty) (parsed_task more)) }
+    ensures shown { IfOk result (λ r. parsed_task r ≡ over_three (λ e t u. tasks.case_task e t names.0 names.1 u) place (shown_host list)
+        (parsed_task empty) (parsed_task more)) }
     ensures memory { IfErr result (λ e. e ≡ ParseStop.Memory) }
 {
     let (list, parts) = list.into_parts();

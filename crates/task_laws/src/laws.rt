@@ -68,10 +68,12 @@ pub fn foot_frames_tests()
 pub fn foot_frames_strides()
     ensures strides { (c : CheckedTerm) (t : TreeTerm) (σ τ : List ValueTerm) → AgreeOn (foot t) σ τ →
         (s : State) (n h : ℕ) → Strides c (at t σ) s n h →
-        (τ' : List ValueTerm) × Strides c (at t τ) (at s.tree τ') n h × StoresGo (foot t) σ τ s.store τ' × AgreeOn (foot s.tree) s.store τ' }
+        (τ' : List ValueTerm) × Strides c (at t τ) (at s.tree τ') n h × StoresGo (foot t) σ τ s.store τ'
+        × AgreeOn (foot s.tree) s.store τ' }
     ensures settling { (c : CheckedTerm) (t : TreeTerm) (σ τ : List ValueTerm) → AgreeOn (foot t) σ τ →
         (s : State) (n h : ℕ) → Settles c (at t σ) s n h →
-        (τ' : List ValueTerm) × Settles c (at t τ) (at s.tree τ') n h × StoresGo (foot t) σ τ s.store τ' × AgreeOn (foot s.tree) s.store τ' }
+        (τ' : List ValueTerm) × Settles c (at t τ) (at s.tree τ') n h × StoresGo (foot t) σ τ s.store τ'
+        × AgreeOn (foot s.tree) s.store τ' }
 {}
 
 /// Over stores that agree on a tree's foot the tree has the same offers and the same widgets.
@@ -85,9 +87,11 @@ pub fn foot_frames_offers_and_widgets()
 /// Some offer of a state's tree matches an input exactly where its outcome there is another than not offered, and none does
 /// exactly where its outcome is not offered.
 pub fn offered_or_not()
-    ensures offered { (c : CheckedTerm) (budget : ℕ) (s : State) (i : InputTerm) (os : List OfferTerm) → AreOffers c budget s.tree s.store os →
+    ensures offered { (c : CheckedTerm) (budget : ℕ) (s : State) (i : InputTerm) (os : List OfferTerm) →
+        AreOffers c budget s.tree s.store os →
         SomeMatches os i ↔ (IsOutcome c budget s i not_offered → ⊥) }
-    ensures not_offered { (c : CheckedTerm) (budget : ℕ) (s : State) (i : InputTerm) (os : List OfferTerm) → AreOffers c budget s.tree s.store os →
+    ensures not_offered { (c : CheckedTerm) (budget : ℕ) (s : State) (i : InputTerm) (os : List OfferTerm) →
+        AreOffers c budget s.tree s.store os →
         IsOutcome c budget s i not_offered ↔ (SomeMatches os i → ⊥) }
 {}
 
@@ -125,7 +129,8 @@ pub fn inputs_act_at_their_address()
     ensures acts { (c : CheckedTerm) (t : TreeTerm) (σ : List ValueTerm) (path : List Turn) (act : ActTerm) (a : Address) →
         address_of t σ path act ≡ Some a → ActsAt c t σ path act a }
     ensures lacking { (c : CheckedTerm) (t : TreeTerm) (σ : List ValueTerm) (path : List Turn) (act : ActTerm) →
-        address_of t σ path act ≡ None → (r : Option State) (n h : ℕ) → Handled c (at t σ) (record { path = path; act = act }) r n h ↔ gives None r n h }
+        address_of t σ path act ≡ None → (r : Option State) (n h : ℕ) → Handled c (at t σ) (record { path = path; act = act }) r n h
+        ↔ gives None r n h }
     ensures turns { (t : TreeTerm) (σ : List ValueTerm) (path : List Turn) (act : ActTerm) (a : Address) →
         address_of t σ path act ≡ Some a → address_turns a ≡ path }
 {}

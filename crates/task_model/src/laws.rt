@@ -41,10 +41,12 @@ pub fn one_outcome()
 
 /// A tree has exactly one list of offers and exactly one list of widgets.
 pub fn one_interface()
-    ensures offers { (c : CheckedTerm) (budget : ℕ) (t : TreeTerm) (σ : List ValueTerm) → (os : List OfferTerm) × AreOffers c budget t σ os }
+    ensures offers { (c : CheckedTerm) (budget : ℕ) (t : TreeTerm) (σ : List ValueTerm) → (os : List OfferTerm)
+        × AreOffers c budget t σ os }
     ensures one_offers { (c : CheckedTerm) (budget : ℕ) (t : TreeTerm) (σ : List ValueTerm) (os us : List OfferTerm) →
         AreOffers c budget t σ os → AreOffers c budget t σ us → os ≡ us }
-    ensures widgets { (c : CheckedTerm) (budget : ℕ) (t : TreeTerm) (σ : List ValueTerm) → (ws : List WidgetTerm) × AreWidgets c budget t σ ws }
+    ensures widgets { (c : CheckedTerm) (budget : ℕ) (t : TreeTerm) (σ : List ValueTerm) → (ws : List WidgetTerm)
+        × AreWidgets c budget t σ ws }
     ensures one_widgets { (c : CheckedTerm) (budget : ℕ) (t : TreeTerm) (σ : List ValueTerm) (ws us : List WidgetTerm) →
         AreWidgets c budget t σ ws → AreWidgets c budget t σ us → ws ≡ us }
 {}

@@ -41,7 +41,8 @@ pub fn replace(
     address: &[Down],
     node: Tree,
 ) -> Result<Option<Tree>, OutOfMemory>
-    ensures { IfOk result (λ o. option_map tree_term o ≡ option_map (λ _. with_node (tree_term t.now) (address_term address.now) (tree_term node))
+    ensures { IfOk result (λ o. option_map tree_term o ≡ option_map (λ _. with_node (tree_term t.now) (address_term address.now)
+        (tree_term node))
         (addresses.node_at (tree_term t.now) (address_term address.now))) }
 {
     if node_at(t, address).is_none() {

@@ -78,7 +78,8 @@ fn push_valued(
     v: &Value,
 ) -> Result<(), OutOfMemory>
     ensures { OnOk result (string_bytes text.new ≡ string_bytes text.old
-        ++ model.path_text path.now ++ (codes " " ++ word.now ++ codes " " ++ basic_text (basic_term b.now) ++ codes " " ++ value_text (value_term v.now)) ++ codes "\n") }
+        ++ model.path_text path.now ++ (codes " " ++ word.now ++ codes " " ++ basic_text (basic_term b.now) ++ codes " "
+        ++ value_text (value_term v.now)) ++ codes "\n") }
 {
     let basic = print_basic(alloc, b)?;
     let literal = print_value(alloc, v)?;
@@ -114,7 +115,8 @@ fn push_step(text: &mut String, path: &[Turn], sign: Sign) -> Result<(), OutOfMe
 
 fn push_pick(text: &mut String, path: &[Turn], left: Sign, right: Sign) -> Result<(), OutOfMemory>
     ensures { OnOk result (string_bytes text.new ≡ string_bytes text.old
-        ++ model.path_text path.now ++ (codes " pick" ++ model.sign_text (codes "left") left ++ model.sign_text (codes "right") right) ++ codes "\n") }
+        ++ model.path_text path.now ++ (codes " pick" ++ model.sign_text (codes "left") left ++ model.sign_text (codes "right") right)
+        ++ codes "\n") }
 {
     push_path(text, path)?;
     push(text, " pick")?;

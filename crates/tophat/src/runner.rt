@@ -53,7 +53,8 @@ impl<L: Ledger> Runner<L> {
     // Gives an input to the world, and answers what became of it.
     fn give(&mut self, alloc: Global, entry: Entry) -> Result<Row<u8>, OutOfMemory>
         requires { IsSeat entry.seat }
-        ensures { IfOk result (λ text. Answers (world_term self.old.world) (gives (entry_term entry)) text.list (world_term self.new.world)) }
+        ensures { IfOk result (λ text. Answers (world_term self.old.world) (gives (entry_term entry)) text.list
+            (world_term self.new.world)) }
     {
         match self
             .world

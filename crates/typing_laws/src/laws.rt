@@ -28,9 +28,11 @@ ghost use Rattle.typing_laws.specs.Well.{MayAsk, Well};
 /// Of an accepted program each value that an expression gives has its type, and what a task, a body, a tree or an input leads to has
 /// the type that it had, over a list of the places' types that only grows at its end.
 pub fn types_are_kept()
-    ensures values { (c : CheckedTerm) (i : Typing) (e : HostTerm) (env : EnvTerm) (σ : List ValueTerm) → IsAccepted c → ExpressionFits c i e env σ →
+    ensures values { (c : CheckedTerm) (i : Typing) (e : HostTerm) (env : EnvTerm) (σ : List ValueTerm) → IsAccepted c →
+        ExpressionFits c i e env σ →
         (v : ValueTerm) (n h : ℕ) → Gives c e env σ v n h → value_has v i.type ≡ true }
-    ensures tasks { (c : CheckedTerm) (i : Typing) (t : TaskTerm) (env : EnvTerm) (σ : List ValueTerm) → IsAccepted c → EvaluationFits c i t env σ →
+    ensures tasks { (c : CheckedTerm) (i : Typing) (t : TaskTerm) (env : EnvTerm) (σ : List ValueTerm) → IsAccepted c →
+        EvaluationFits c i t env σ →
         (s : State) (n h : ℕ) → Evaluates c t env σ s n h → Kept c i s }
     ensures conts { (c : CheckedTerm) (i : Typing) (k : LaterTerm) (a : BasicTerm) (v : ValueTerm) (σ : List ValueTerm) → IsAccepted c →
         LaterHas c i.places k (Some a) i.type → value_has v a ≡ true → StoreHas σ i.places →
@@ -45,7 +47,8 @@ pub fn types_are_kept()
         (t : State) (n h : ℕ) → Strides c s t n h → Kept c i t }
     ensures settling { (c : CheckedTerm) (i : Typing) (s : State) → IsAccepted c → StateHas c i.places s i.type →
         (t : State) (n h : ℕ) → Settles c s t n h → Kept c i t }
-    ensures normalising { (c : CheckedTerm) (i : Typing) (t : TaskTerm) (env : EnvTerm) (σ : List ValueTerm) → IsAccepted c → EvaluationFits c i t env σ →
+    ensures normalising { (c : CheckedTerm) (i : Typing) (t : TaskTerm) (env : EnvTerm) (σ : List ValueTerm) → IsAccepted c →
+        EvaluationFits c i t env σ →
         (s : State) (n h : ℕ) → Normal c t env σ s n h → Kept c i s }
     ensures handling { (c : CheckedTerm) (i : Typing) (s : State) (input : InputTerm) → IsAccepted c → StateHas c i.places s i.type →
         (t : State) (n h : ℕ) → Handles c s input t n h → Kept c i t }
@@ -57,20 +60,25 @@ pub fn types_are_kept()
 /// missing body is met.
 pub fn typed_plans_go_on()
     ensures judgements { (c : CheckedTerm) (q : Judgement) → IsAccepted c → MayAsk c q → Well c (rule_of c q) }
-    ensures conts { (c : CheckedTerm) (Σ : List BasicTerm) (k : LaterTerm) (a b : BasicTerm) (v : ValueTerm) (σ : List ValueTerm) → IsAccepted c →
+    ensures conts { (c : CheckedTerm) (Σ : List BasicTerm) (k : LaterTerm) (a b : BasicTerm) (v : ValueTerm) (σ : List ValueTerm) →
+        IsAccepted c →
         LaterHas c Σ k (Some a) b → value_has v a ≡ true → StoreHas σ Σ → Well c (applied c k v σ give) }
-    ensures trials { (c : CheckedTerm) (Σ : List BasicTerm) (k : LaterTerm) (a b : BasicTerm) (v : ValueTerm) (σ : List ValueTerm) → IsAccepted c →
+    ensures trials { (c : CheckedTerm) (Σ : List BasicTerm) (k : LaterTerm) (a b : BasicTerm) (v : ValueTerm) (σ : List ValueTerm) →
+        IsAccepted c →
         LaterHas c Σ k (Some a) b → value_has v a ≡ true → StoreHas σ Σ →
         Well {A = State × Bool} c (tested c k.body (k.slots ++ plain_slot v ∷ []) σ (λ s failing. give (s, failing))) }
     ensures sides { (c : CheckedTerm) (Σ : List BasicTerm) (k : LaterTerm) (b : BasicTerm) (σ : List ValueTerm) → IsAccepted c →
         LaterHas c Σ k None b → StoreHas σ Σ → Well {A = State × Bool} c (tested c k.body k.slots σ (λ s failing. give (s, failing))) }
-    ensures next_tests { (c : CheckedTerm) (Σ : List BasicTerm) (k : LaterTerm) (a b : BasicTerm) (v : ValueTerm) (σ : List ValueTerm) → IsAccepted c →
+    ensures next_tests { (c : CheckedTerm) (Σ : List BasicTerm) (k : LaterTerm) (a b : BasicTerm) (v : ValueTerm) (σ : List ValueTerm) →
+        IsAccepted c →
         LaterHas c Σ k (Some a) b → value_has v a ≡ true → StoreHas σ Σ → Well c (trial c k v σ) }
     ensures side_tests { (c : CheckedTerm) (Σ : List BasicTerm) (k : LaterTerm) (b : BasicTerm) (σ : List ValueTerm) → IsAccepted c →
         LaterHas c Σ k None b → StoreHas σ Σ → Well c (side c k σ) }
-    ensures handling { (c : CheckedTerm) (Σ : List BasicTerm) (s : State) (b : BasicTerm) (input : InputTerm) → IsAccepted c → StateHas c Σ s b →
+    ensures handling { (c : CheckedTerm) (Σ : List BasicTerm) (s : State) (b : BasicTerm) (input : InputTerm) → IsAccepted c →
+        StateHas c Σ s b →
         Well c (handles c s input) }
-    ensures interacting { (c : CheckedTerm) (Σ : List BasicTerm) (s : State) (b : BasicTerm) (input : InputTerm) → IsAccepted c → StateHas c Σ s b →
+    ensures interacting { (c : CheckedTerm) (Σ : List BasicTerm) (s : State) (b : BasicTerm) (input : InputTerm) → IsAccepted c →
+        StateHas c Σ s b →
         Well c (interacts c s input) }
 {}
 
@@ -86,7 +94,8 @@ pub fn grown_lists_serve()
     ensures names { (Σ Σ' : List BasicTerm) (env : EnvTerm) (s : List ParamTerm) → Grows Σ Σ' → EnvHas Σ env s → EnvHas Σ' env s }
     ensures conts { (c : CheckedTerm) (Σ Σ' : List BasicTerm) (k : LaterTerm) (a : Option BasicTerm) (b : BasicTerm) → Grows Σ Σ' →
         LaterHas c Σ k a b → LaterHas c Σ' k a b }
-    ensures trees { (c : CheckedTerm) (Σ Σ' : List BasicTerm) (t : TreeTerm) (b : BasicTerm) → Grows Σ Σ' → TreeHas c Σ t b → TreeHas c Σ' t b }
+    ensures trees { (c : CheckedTerm) (Σ Σ' : List BasicTerm) (t : TreeTerm) (b : BasicTerm) → Grows Σ Σ' → TreeHas c Σ t b →
+        TreeHas c Σ' t b }
 {}
 
 /// An expression and a task have one type alone in a scope, whatever their size.
