@@ -10,6 +10,7 @@ use Rattle.exact_reading.proofs.Productions.{Follows, then_right, then_stop, don
 use Rattle.exact_reading.proofs.Starts.{first_token}
 use Rattle.literal_text.specs.Literals.{spaces}
 use Rattle.literal_text.specs.LiteralReading.{NoBlank, Gap, TextLiteral, Content, Part}
+use Rattle.literal_text.proofs.Completions.{done_alive, part_alive}
 use Rattle.literal_text.proofs.EscapeLemmas.{part_starts}
 
 module _ (so_far : Text) (fits : length so_far ≤ 65536) where
@@ -55,7 +56,7 @@ module _ (so_far : Text) (fits : length so_far ≤ 65536) where
   pub content_end : {ts s : Text} → ts ≡ 34 ∷ s → Right (Content so_far) Always Anything ts (Ok (so_far, s))
   content_end {s = s} e = at_tokens e
       (by_production (Bind (Tok 34) (λ _. Done so_far)) (Content so_far) end_in (λ a y z h _ b. end_out s a y z h b)
-      (then_right (λ _ _ _ _ _ _. tt) ([], so_far, record { none = refl; same = refl }, tt) (tok_right 34 refl) (done_right tt)))
+      (then_right (λ _ _ _ _ _ _. tt) (done_alive so_far) (tok_right 34 refl) (done_right tt)))
 
   abbrev room : ℕ
   room = 65536 - length so_far
@@ -186,54 +187,12 @@ text_out a y h = let (ps, quoted, is) = h.is in
     }
 
 closed_alive : (t : Text) → IsViablePrefix (Closed t) Always []
-closed_alive t = (
-  [],
-  text_value t,
-  record {
-    front = [];
-    back = [];
-    value = tt;
-    split = refl;
-    first = record {
-      many = 0;
-      are = refl;
-    };
-    next = record { none = refl; same = refl };
-  },
-  tt,
-)
+closed_alive t = part_alive [] tt (record { many = 0; are = refl }) (done_alive (text_value t))
 
 opened_alive : IsViablePrefix Opened Always []
-opened_alive = (
-  34 ∷ [],
-  text_value [],
-  record {
-    front = 34 ∷ [];
-    back = [];
-    value = [];
-    split = refl;
-    first = record {
-      parts = [];
-      more = [];
-      are = refl;
-      is = refl;
-      stands_for = refl;
-      fits = omega arith;
-    };
-    next = record {
-      front = [];
-      back = [];
-      value = tt;
-      split = refl;
-      first = record {
-        many = 0;
-        are = refl;
-      };
-      next = record { none = refl; same = refl };
-    };
-  },
-  tt,
-)
+opened_alive =
+    let none : Content [] (34 ∷ []) [] = record { parts = []; more = []; are = refl; is = refl; stands_for = refl; fits = omega arith } in
+    part_alive (34 ∷ []) [] none (closed_alive [])
 
 closed_follow : (t : Text) → Follows NoBlank (λ (_ : Unit {0}). Done (text_value t)) NoBlank
 closed_follow t x b y z h hz = subst (λ l. NoBlank (l ++ z)) (sym h.none) hz
@@ -252,12 +211,5 @@ pub text_right : {ts rest rest' rest'' t : Text} → Right (Tok 34) Always Anyth
     → Right TextLiteral Always NoBlank ts (Ok (text_value t, rest''))
 text_right {t = t} found content gap = same_language (Bind (Tok 34) (λ _. Opened)) TextLiteral text_in text_out
     (then_right (λ _ _ _ _ _ _. tt) opened_alive found
-    (then_right (λ _ _ _ _ _ _. tt) (closed_alive t) content (then_right (closed_follow t) (
-      [],
-      text_value t,
-      record {
-        none = refl;
-        same = refl;
-      },
-      tt,
-    ) gap (done_right tt))))
+    (then_right (λ _ _ _ _ _ _. tt) (closed_alive t) content
+    (then_right (closed_follow t) (done_alive (text_value t)) gap (done_right tt))))

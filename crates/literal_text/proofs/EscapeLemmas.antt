@@ -13,6 +13,7 @@ use Rattle.exact_reading.proofs.Sequences.{Bind, Done}
 use Rattle.exact_reading.proofs.Productions.{then_right, then_stop, done_right, by_production, same_language, same_answer, at_tokens, refused_first, tok_right}
 use Rattle.exact_reading.proofs.Starts.{One, one_right, StartsBy, starts_none, first_token}
 use Rattle.literal_text.specs.LiteralReading.{Part, Wide, Escape, HexEnd, HexDigit, IsRawByte}
+use Rattle.literal_text.proofs.Completions.{done_alive, part_alive}
 use Rattle.literal_text.proofs.CharacterLemmas.{only_scalar, is_only_scalar, wide_shape, narrow_shape, order}
 
 -- ---- hexadecimal digits
@@ -92,25 +93,9 @@ is_zero : IsHex 48
 is_zero = inl (omega arith, omega arith)
 
 rest_alive : (high : ℕ) → IsViablePrefix (HexRest high) Always []
-rest_alive high = (
-  48 ∷ [],
-  (high * 16 + 0) ∷ [],
-  record {
-    front = 48 ∷ [];
-    back = [];
-    value = 0;
-    split = refl;
-    first = record {
-      digit = 48;
-      are = refl;
-      hex = is_zero;
-      stands_for = refl;
-      within = omega arith;
-    };
-    next = record { none = refl; same = refl };
-  },
-  tt,
-)
+rest_alive high =
+    let digit : HexDigit 15 (48 ∷ []) 0 = record { digit = 48; are = refl; hex = is_zero; stands_for = refl; within = omega arith } in
+    part_alive (48 ∷ []) 0 digit (done_alive ((high * 16 + 0) ∷ []))
 
 pub hex_alive : IsViablePrefix HexEnd Always []
 hex_alive = (

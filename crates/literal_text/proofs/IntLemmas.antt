@@ -14,6 +14,7 @@ use Rattle.exact_reading.proofs.Productions.{Follows, then_right, then_stop, don
 use Rattle.exact_reading.proofs.Starts.{StartsBy, starts_none, first_token}
 use Rattle.literal_text.specs.Literals.{spaces, minus_text, signed}
 use Rattle.literal_text.specs.LiteralReading.{NoBlank, NoDigit, Ends, Gap, Digits, Number, most, IntLiteral}
+use Rattle.literal_text.proofs.Completions.{done_alive, part_alive}
 
 above : (so_far : ℕ) (t : Text) → so_far ≤ number_from so_far t
 above so_far [] = omega arith
@@ -151,22 +152,7 @@ abbrev Unsigned : Bool → Language ℕ ValueTerm
 Unsigned negative = Bind (Number (most negative)) (Behind negative)
 
 behind_alive : (negative : Bool) (n : ℕ) → IsViablePrefix (Behind negative n) Always []
-behind_alive negative n = (
-  [],
-  int_value (signed negative n),
-  record {
-    front = [];
-    back = [];
-    value = tt;
-    split = refl;
-    first = record {
-      many = 0;
-      are = refl;
-    };
-    next = record { none = refl; same = refl };
-  },
-  tt,
-)
+behind_alive negative n = part_alive [] tt (record { many = 0; are = refl }) (done_alive (int_value (signed negative n)))
 
 spaces_end : (k : ℕ) (z : Text) → NoDigit z → NoDigit (spaces k ++ z)
 spaces_end zero z h = h
@@ -185,73 +171,16 @@ number_follow negative x b y z h hz = subst (λ l. NoDigit (l ++ z)) (sym (behin
 pub unsigned_right : (negative : Bool) {n : ℕ} {ts rest rest' : Text} → Right (Number (most negative)) Always NoDigit ts (Ok (n, rest))
     → Right Gap Always NoBlank rest (Ok (tt, rest')) → Right (Unsigned negative) Always Ends ts (Ok (int_value (signed negative n), rest'))
 unsigned_right negative {n = n} found gap = then_right (number_follow negative) (behind_alive negative n) found
-    (then_right (gap_follow (int_value (signed negative n))) (
-      [],
-      int_value (signed negative n),
-      record {
-        none = refl;
-        same = refl;
-      },
-      tt,
-    ) gap (done_right tt))
+    (then_right (gap_follow (int_value (signed negative n))) (done_alive (int_value (signed negative n))) gap (done_right tt))
 
 pub unsigned_stop : (negative : Bool) {ts : Text} {e : ParseStop} → Right (Number (most negative)) Always NoDigit ts (Err e)
     → Right (Unsigned negative) Always Ends ts (Err e)
 unsigned_stop negative right = then_stop (number_follow negative) (λ a n _. behind_alive negative n) right
 
 unsigned_alive : (negative : Bool) → IsViablePrefix (Unsigned negative) Always []
-unsigned_alive true = (
-  48 ∷ [],
-  int_value (signed true 0),
-  record {
-    front = 48 ∷ [];
-    back = [];
-    value = 0;
-    split = refl;
-    first = record {
-      is = (λ e. cc, ((omega arith, omega arith), tt), refl);
-      within = omega arith;
-    };
-    next = record {
-      front = [];
-      back = [];
-      value = tt;
-      split = refl;
-      first = record {
-        many = 0;
-        are = refl;
-      };
-      next = record { none = refl; same = refl };
-    };
-  },
-  tt,
-)
-unsigned_alive false = (
-  48 ∷ [],
-  int_value (signed false 0),
-  record {
-    front = 48 ∷ [];
-    back = [];
-    value = 0;
-    split = refl;
-    first = record {
-      is = (λ e. cc, ((omega arith, omega arith), tt), refl);
-      within = omega arith;
-    };
-    next = record {
-      front = [];
-      back = [];
-      value = tt;
-      split = refl;
-      first = record {
-        many = 0;
-        are = refl;
-      };
-      next = record { none = refl; same = refl };
-    };
-  },
-  tt,
-)
+unsigned_alive negative =
+    part_alive (48 ∷ []) 0 (record { is = (λ e. cc, ((omega arith, omega arith), tt), refl); within = omega arith })
+    (behind_alive negative 0)
 
 unsigned_in : (negative : Bool) (a : Text) (y : ValueTerm) → Unsigned negative a y → IntLiteral (minus_text negative ++ a) y
 unsigned_in negative a y h = record {

@@ -1,5 +1,6 @@
 pub mod CharacterLemmas
 pub mod ChoiceLemmas
+pub mod Completions
 pub mod ContentLemmas
 pub mod EscapeLemmas
 pub mod FitLemmas

@@ -13,6 +13,7 @@ use Rattle.exact_reading.proofs.Starts.{first_token}
 use Rattle.literal_text.specs.Literals.{LiteralParse, further, last, literal_bytes, value, spaces}
 use Rattle.literal_text.specs.Literals as grammar
 use Rattle.literal_text.specs.LiteralReading.{NoBlank, Ends, SpelledWord, fewest, Fit, AllFit, Lit, Further, NoElements, Elements, ListLiteral}
+use Rattle.literal_text.proofs.Completions.{part_alive}
 use Rattle.literal_text.proofs.FitLemmas.{fewest_least, least_lit}
 use Rattle.literal_text.proofs.LiteralLemmas.{apart, Marked, marked_are, marked_right, marked_stop, word_are, word_is, lit_head, lit_no_blank, no_blank, closes_ends, closes_44, closes_93}
 
@@ -132,8 +133,7 @@ module _ (want : Option BasicTerm) (room : ℕ) where
   next_alive vs le lt =
       let (t, v, h) = least_lit want room le in
       let m = longer vs v in
-      let (s, y, k, o) = further_alive (vs ++ (v ∷ [])) (omega (arith, m, lt)) in
-      (t ++ s, y, record { front = t; back = s; value = v; split = refl; first = h; next = k }, tt)
+      part_alive t v h (further_alive (vs ++ (v ∷ [])) (omega (arith, m, lt)))
 
   module _ (vs : List ValueTerm) (le : fewest want ≤ room) (lt : length vs < 1024) where
     by_comma : {ts : Text} {r : Answer ℕ ValueTerm} → (s : Text) × (ts ≡ 44 ∷ s) → Right (Comma vs) Always NoBlank ts r

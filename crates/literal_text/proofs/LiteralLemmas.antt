@@ -12,6 +12,7 @@ use Rattle.exact_reading.proofs.Productions.{Follows, then_right, then_stop, don
 use Rattle.exact_reading.proofs.Starts.{first_token}
 use Rattle.literal_text.specs.Literals.{LiteralParse, literal, unit, bool, int, text, pair, empty, list, literal_bytes, value, spaces}
 use Rattle.literal_text.specs.LiteralReading.{NoBlank, Ends, SpelledWord, BoolLiteral, fewest, Fit, Lit, UnitEnd, UnitLiteral, PairEnd}
+use Rattle.literal_text.proofs.Completions.{done_alive, part_alive}
 use Rattle.literal_text.proofs.FitLemmas.{least_lit}
 
 -- ---- what may follow
@@ -58,9 +59,6 @@ pub marked_stop : {Y : Type 0} {word : Text} {B : Language ℕ Y} {E : Text → 
     → Follows {X = Unit {0}} NoBlank (λ _. B) E → IsViablePrefix B Always [] → Right (SpelledWord word) Always NoBlank ts (Err e)
     → Right (Bind (SpelledWord word) (λ _. B)) Always E ts (Err e)
 marked_stop follow fill right = then_stop follow (λ _ _ _. fill) right
-
-done_alive : {Y : Type 0} (y : Y) → IsViablePrefix {T = ℕ} (Done y) Always []
-done_alive y = ([], y, record { none = refl; same = refl }, tt)
 
 pub done_follow : {Y : Type 0} (v : Y) → Follows {X = Unit {0}} NoBlank (λ _. Done v) NoBlank
 done_follow v x b y z h hz = subst (λ l. NoBlank (l ++ z)) (sym h.none) hz
@@ -231,31 +229,13 @@ module _ (want other : Option BasicTerm) (room : ℕ) where
   alive3 v w = (41 ∷ [], pair_value v w, word_is (41 ∷ []) (pair_value v w) 0 refl refl, tt)
 
   alive2 : (v : ValueTerm) → fewest other ≤ room → IsViablePrefix (Pair2 v) Always []
-  alive2 v le =
-      let (t, w, h) = least_lit other room le in
-      let (s, y, k, o) = alive3 v w in
-      (t ++ s, y, record { front = t; back = s; value = w; split = refl; first = h; next = k }, tt)
+  alive2 v le = let (t, w, h) = least_lit other room le in part_alive t w h (alive3 v w)
 
   alive1 : (v : ValueTerm) → fewest other ≤ room → IsViablePrefix (Pair1 v) Always []
-  alive1 v le = let (s, y, k, o) = alive2 v le in (
-    44 ∷ s,
-    y,
-    record {
-      front = 44 ∷ [];
-      back = s;
-      value = tt;
-      split = refl;
-      first = record { behind = 0; are = refl };
-      next = k;
-    },
-    tt,
-  )
+  alive1 v le = part_alive (44 ∷ []) tt (record { behind = 0; are = refl }) (alive2 v le)
 
   alive0 : fewest want ≤ room → fewest other ≤ room → IsViablePrefix Pair0 Always []
-  alive0 le le' =
-      let (t, v, h) = least_lit want room le in
-      let (s, y, k, o) = alive1 v le' in
-      (t ++ s, y, record { front = t; back = s; value = v; split = refl; first = h; next = k }, tt)
+  alive0 le le' = let (t, v, h) = least_lit want room le in part_alive t v h (alive1 v le')
 
   follow3 : (v : ValueTerm) → Follows Ends (Pair3 v) NoBlank
   follow3 v w b y z h hz = subst (λ l. Ends (l ++ z)) (sym (word_are (41 ∷ []) (pair_value v w) h))

@@ -14,6 +14,7 @@ use Rattle.exact_reading.proofs.Sequences.{Bind, Done}
 use Rattle.exact_reading.proofs.Productions.{then_right, then_stop, done_right, by_production, same_language, same_answer, at_tokens, tok_right}
 use Rattle.exact_reading.proofs.Starts.{StartsBy, starts_none, first_token}
 use Rattle.literal_text.specs.LiteralReading.{Wide, WideEnd, InRange, width_of}
+use Rattle.literal_text.proofs.Completions.{done_alive, part_alive, wider_alive}
 use Rattle.literal_text.proofs.CharacterLemmas.{only_scalar, is_only_scalar, wide_shape, encode_two, decode_two, encode_three, decode_three, encode_four, decode_four, width_three, width_four}
 
 -- ---- characters of more than one byte
@@ -156,126 +157,36 @@ module _ (lead : ℕ) where
         };
       }
 
+  continuation : InRange 128 191 (128 ∷ []) 128
+  continuation = record { are = refl; above = omega arith; below = omega arith }
+
   three_end_alive : (b : ℕ) → IsViablePrefix (ThreeEnd b) Always []
-  three_end_alive b = (
-    128 ∷ [],
-    _,
-    record {
-      front = 128 ∷ [];
-      back = [];
-      value = 128;
-      split = refl;
-      first = record {
-        are = refl;
-        above = omega arith;
-        below = omega arith;
-      };
-      next = record { none = refl; same = refl };
-    },
-    tt,
-  )
+  three_end_alive b = part_alive (128 ∷ []) 128 continuation (done_alive (lead ∷ (b ∷ (128 ∷ []))))
 
   four_end_alive : (b d : ℕ) → IsViablePrefix (FourEnd b d) Always []
-  four_end_alive b d = (
-    128 ∷ [],
-    _,
-    record {
-      front = 128 ∷ [];
-      back = [];
-      value = 128;
-      split = refl;
-      first = record {
-        are = refl;
-        above = omega arith;
-        below = omega arith;
-      };
-      next = record { none = refl; same = refl };
-    },
-    tt,
-  )
+  four_end_alive b d = part_alive (128 ∷ []) 128 continuation (done_alive (lead ∷ (b ∷ (d ∷ (128 ∷ [])))))
 
   four_rest_alive : (b : ℕ) → IsViablePrefix (FourRest b) Always []
-  four_rest_alive b = let (t, y, h, o) = four_end_alive b 128 in (
-    128 ∷ t,
-    y,
-    record {
-      front = 128 ∷ [];
-      back = t;
-      value = 128;
-      split = refl;
-      first = record {
-        are = refl;
-        above = omega arith;
-        below = omega arith;
-      };
-      next = h;
-    },
-    tt,
-  )
-
-  done_alive : (y : Text) → IsViablePrefix {T = ℕ} (Done y) Always []
-  done_alive y = ([], y, record { none = refl; same = refl }, tt)
+  four_rest_alive b = part_alive (128 ∷ []) 128 continuation (four_end_alive b 128)
 
   seconds : width_of lead ≡ 3 ⊎ width_of lead ≡ 4 → second_byte_min lead ≤ second_byte_max lead
   seconds (inl w) = let r = width_three lead w in grind (arith, nat_tests)
   seconds (inr w) = let r = width_four lead w in grind (arith, nat_tests)
 
+  second : width_of lead ≡ 3 ⊎ width_of lead ≡ 4
+      → InRange (second_byte_min lead) (second_byte_max lead) (second_byte_min lead ∷ []) (second_byte_min lead)
+  second w = record { are = refl; above = omega arith; below = seconds w }
+
   two_alive : width_of lead ≡ 2 → IsViablePrefix (WideEnd lead) Always []
-  two_alive w = (
-    128 ∷ [],
-    _,
-    two_in w (128 ∷ []) _ (record {
-      front = 128 ∷ [];
-      back = [];
-      value = 128;
-      split = refl;
-      first = record {
-        are = refl;
-        above = omega arith;
-        below = omega arith;
-      };
-      next = record { none = refl; same = refl };
-    }),
-    tt,
-  )
+  two_alive w = wider_alive (two_in w) (part_alive (128 ∷ []) 128 continuation (done_alive (lead ∷ (128 ∷ []))))
 
   three_alive : width_of lead ≡ 3 → IsViablePrefix (WideEnd lead) Always []
-  three_alive w = let (t, y, h, o) = three_end_alive (second_byte_min lead) in let b = second_byte_min lead in (
-    b ∷ t,
-    y,
-    three_in w (b ∷ t) y (record {
-      front = b ∷ [];
-      back = t;
-      value = b;
-      split = refl;
-      first = record {
-        are = refl;
-        above = omega arith;
-        below = seconds (inl w);
-      };
-      next = h;
-    }),
-    tt,
-  )
+  three_alive w =
+      let b = second_byte_min lead in wider_alive (three_in w) (part_alive (b ∷ []) b (second (inl w)) (three_end_alive b))
 
   four_alive : width_of lead ≡ 4 → IsViablePrefix (WideEnd lead) Always []
-  four_alive w = let (t, y, h, o) = four_rest_alive (second_byte_min lead) in let b = second_byte_min lead in (
-    b ∷ t,
-    y,
-    four_in w (b ∷ t) y (record {
-      front = b ∷ [];
-      back = t;
-      value = b;
-      split = refl;
-      first = record {
-        are = refl;
-        above = omega arith;
-        below = seconds (inr w);
-      };
-      next = h;
-    }),
-    tt,
-  )
+  four_alive w =
+      let b = second_byte_min lead in wider_alive (four_in w) (part_alive (b ∷ []) b (second (inr w)) (four_rest_alive b))
 
   pub two_stop : {ts : Text} {e : ParseStop} → width_of lead ≡ 2 → Right (InRange 128 191) Always Anything ts (Err e)
       → Right (WideEnd lead) Always Anything ts (Err e)

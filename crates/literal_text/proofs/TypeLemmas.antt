@@ -14,6 +14,7 @@ use Rattle.exact_reading.proofs.Starts.{first_token}
 use Rattle.literal_text.specs.Literals.{spaces}
 use Rattle.literal_text.specs.Types.{TypeParse, unit, bool, int, text, pair, list, type_bytes, basic}
 use Rattle.literal_text.specs.LiteralReading.{NoBlank, SpelledWord, TypeName, PairName, ListName}
+use Rattle.literal_text.proofs.Completions.{part_alive}
 use Rattle.literal_text.proofs.LiteralLemmas.{Marked, marked_are, marked_right, marked_stop, word_are, word_is, no_blank}
 
 abbrev pub Measured : Type 0
@@ -67,9 +68,6 @@ head_is d u s a z e b =
 pub name_no_blank : {room : ℕ} {a : Text} {x : Measured} (z : Text) → TypeName room a x → NoBlank (a ++ z)
 name_no_blank z h = let (t, s, e, is) = head_of h.parse in
     subst (λ l. NoBlank (l ++ z)) (sym (h.are ∙ e)) (no_blank t (s ++ z) (head_no h.parse t is))
-
-done_alive : {Y : Type 0} (y : Y) → IsViablePrefix {T = ℕ} (Done y) Always []
-done_alive y = ([], y, record { none = refl; same = refl }, tt)
 
 -- ---- pairs
 module _ (room : ℕ) where
@@ -156,25 +154,10 @@ module _ (room : ℕ) where
   alive4 x y = (41 ∷ [], (pair_type x.0 y.0, suc (x.1 + y.1)), word_is (41 ∷ []) (pair_type x.0 y.0, suc (x.1 + y.1)) 0 refl refl, tt)
 
   alive3 : (x : Measured) → 1 ≤ room - 1 - x.1 → IsViablePrefix (Pair3 x) Always []
-  alive3 x le =
-      let (t, y, h, o) = name_alive (room - 1 - x.1) le in
-      let (s, v, k, o') = alive4 x y in
-      (t ++ s, v, record { front = t; back = s; value = y; split = refl; first = h; next = k }, tt)
+  alive3 x le = let (t, y, h, o) = name_alive (room - 1 - x.1) le in part_alive t y h (alive4 x y)
 
   alive2 : (x : Measured) → 1 ≤ room - 1 - x.1 → IsViablePrefix (Pair2 x) Always []
-  alive2 x le = let (s, v, k, o) = alive3 x le in (
-    44 ∷ s,
-    v,
-    record {
-      front = 44 ∷ [];
-      back = s;
-      value = tt;
-      split = refl;
-      first = record { behind = 0; are = refl };
-      next = k;
-    },
-    tt,
-  )
+  alive2 x le = part_alive (44 ∷ []) tt (record { behind = 0; are = refl }) (alive3 x le)
 
   -- a first part within its room leaves some for the second
   leaves : 3 ≤ room → {a : Text} {x : Measured} → TypeName (room - 2) a x → 1 ≤ room - 1 - x.1
@@ -182,10 +165,7 @@ module _ (room : ℕ) where
       omega (arith, e, n, big)
 
   alive1 : 3 ≤ room → IsViablePrefix Pair1 Always []
-  alive1 big =
-      let (t, x, h, o) = name_alive (room - 2) (omega arith) in
-      let (s, v, k, o') = alive2 x (leaves big h) in
-      (t ++ s, v, record { front = t; back = s; value = x; split = refl; first = h; next = k }, tt)
+  alive1 big = let (t, x, h, o) = name_alive (room - 2) (omega arith) in part_alive t x h (alive2 x (leaves big h))
 
   follow4 : (x : Measured) → Follows NoBlank (Pair4 x) NoBlank
   follow4 x y b v z h hz = subst (λ l. NoBlank (l ++ z)) (sym (word_are (41 ∷ []) (pair_type x.0 y.0, suc (x.1 + y.1)) h))
@@ -296,10 +276,7 @@ module _ (room : ℕ) where
   list_alive2 x = (93 ∷ [], (list_type x.0, suc x.1), word_is (93 ∷ []) (list_type x.0, suc x.1) 0 refl refl, tt)
 
   list_alive1 : 2 ≤ room → IsViablePrefix List1 Always []
-  list_alive1 big =
-      let (t, x, h, o) = name_alive (room - 1) (omega arith) in
-      let (s, v, k, o') = list_alive2 x in
-      (t ++ s, v, record { front = t; back = s; value = x; split = refl; first = h; next = k }, tt)
+  list_alive1 big = let (t, x, h, o) = name_alive (room - 1) (omega arith) in part_alive t x h (list_alive2 x)
 
   list_follow2 : Follows NoBlank List2 NoBlank
   list_follow2 x b v z h hz = subst (λ l. NoBlank (l ++ z)) (sym (word_are (93 ∷ []) (list_type x.0, suc x.1) h))
@@ -338,23 +315,26 @@ module _ (room : ℕ) (some : 1 ≤ room) where
   abbrev Name : Text → BasicTerm → Language ℕ Measured
   Name word b = Bind (SpelledWord word) (λ _. Done (b, 1))
 
+  -- these begin with this byte
+  by_first : {ts : Text} {r : Answer ℕ Measured} (A : Language ℕ Measured) (t : ℕ) → ((a : Text) (y : Measured) → A a y → TypeName room a y)
+      → ((a : Text) (y : Measured) (d : TypeParse) → a ≡ type_bytes d → y ≡ (basic d, symbols_of (basic d)) → symbols_of (basic d) ≤ room
+      → Head d t → A a y)
+      → (s : Text) × (ts ≡ t ∷ s) → Right A Always NoBlank ts r → Right (TypeName room) Always NoBlank ts r
+  by_first A t into out (s, e) right = by_production A (TypeName room) into
+      (λ a y z h _ b. out a y h.parse h.are h.stands_for h.symbols
+      (head_is h.parse t s a z h.are (subst (λ l. SharesPrefix [] l (a ++ z)) e b))) right
+
   pub as_pair : {ts : Text} {r : Answer ℕ Measured} → (s : Text) × (ts ≡ 40 ∷ s) → Right (PairName room) Always NoBlank ts r
       → Right (TypeName room) Always NoBlank ts r
-  as_pair {ts = ts} (s, e) right = by_production (PairName room) (TypeName room) (λ a y h. record {
+  as_pair begins right = by_first (PairName room) 40 (λ a y h. record {
     parse = pair h.before h.first h.between h.second h.behind;
     are = h.are;
     stands_for = h.stands_for;
     symbols = h.symbols;
-  })
-      (λ a y z h _ b. out a y h.parse h.are h.stands_for h.symbols
-      (head_is h.parse 40 s a z h.are (subst (λ l. SharesPrefix [] l (a ++ z)) e b))) right
+  }) out begins right
     where
       out : (a : Text) (y : Measured) (d : TypeParse) → a ≡ type_bytes d → y ≡ (basic d, symbols_of (basic d)) → symbols_of (basic d) ≤ room
           → Head d 40 → PairName room a y
-      out a y (unit n) e f le is = absurd (omega (arith, is))
-      out a y (bool n) e f le is = absurd (omega (arith, is))
-      out a y (int n) e f le is = absurd (omega (arith, is))
-      out a y (text n) e f le is = absurd (omega (arith, is))
       out a y (pair m c k d n) e f le is = record {
         before = m;
         first = c;
@@ -365,96 +345,67 @@ module _ (room : ℕ) (some : 1 ≤ room) where
         stands_for = f;
         symbols = le;
       }
-      out a y (list m c n) e f le is = absurd (omega (arith, is))
+      out a y d e f le is = absurd (omega (arith, is))
 
   pub as_list : {ts : Text} {r : Answer ℕ Measured} → (s : Text) × (ts ≡ 91 ∷ s) → Right (ListName room) Always NoBlank ts r
       → Right (TypeName room) Always NoBlank ts r
-  as_list {ts = ts} (s, e) right = by_production (ListName room) (TypeName room) (λ a y h. record {
+  as_list begins right = by_first (ListName room) 91 (λ a y h. record {
     parse = list h.before h.item h.behind;
     are = h.are;
     stands_for = h.stands_for;
     symbols = h.symbols;
-  })
-      (λ a y z h _ b. out a y h.parse h.are h.stands_for h.symbols
-      (head_is h.parse 91 s a z h.are (subst (λ l. SharesPrefix [] l (a ++ z)) e b))) right
+  }) out begins right
     where
       out : (a : Text) (y : Measured) (d : TypeParse) → a ≡ type_bytes d → y ≡ (basic d, symbols_of (basic d)) → symbols_of (basic d) ≤ room
           → Head d 91 → ListName room a y
-      out a y (unit n) e f le is = absurd (omega (arith, is))
-      out a y (bool n) e f le is = absurd (omega (arith, is))
-      out a y (int n) e f le is = absurd (omega (arith, is))
-      out a y (text n) e f le is = absurd (omega (arith, is))
-      out a y (pair m c k d n) e f le is = absurd (omega (arith, is))
       out a y (list m c n) e f le is = record { before = m; item = c; behind = n; are = e; stands_for = f; symbols = le }
+      out a y d e f le is = absurd (omega (arith, is))
+
+  -- a name that is a word
+  named : (make : ℕ → TypeParse) (word : Text) (b : BasicTerm) → ((n : ℕ) → type_bytes (make n) ≡ word ++ spaces n)
+      → ((n : ℕ) → basic (make n) ≡ b) → symbols_of b ≡ 1 → (a : Text) (y : Measured) → Name word b a y → TypeName room a y
+  named make word b are is one a y h =
+      let size : symbols_of (basic (make h.first.behind)) ≡ 1 = ap (λ d. symbols_of d) (is h.first.behind) ∙ one in record {
+        parse = make h.first.behind;
+        are = word_are word (b, 1) h ∙ sym (are h.first.behind);
+        stands_for = h.next.same ∙ ap (λ d. (d, 1)) (sym (is h.first.behind)) ∙ ap (λ n. (basic (make h.first.behind), n)) (sym size);
+        symbols = omega (arith, size, some);
+      }
 
   pub as_unit : {ts : Text} {r : Answer ℕ Measured} → (s : Text) × (ts ≡ 117 ∷ s)
       → Right (Name (codes "unit") unit_type) Always NoBlank ts r → Right (TypeName room) Always NoBlank ts r
-  as_unit {ts = ts} (s, e) right = by_production (Name (codes "unit") unit_type) (TypeName room) (λ a y h. record {
-    parse = unit h.first.behind;
-    are = word_are (codes "unit") (unit_type, 1) h;
-    stands_for = h.next.same;
-    symbols = some;
-  })
-      (λ a y z h _ b. out a y h.parse h.are h.stands_for (head_is h.parse 117 s a z h.are (subst (λ l. SharesPrefix [] l (a ++ z)) e b)))
-      right
+  as_unit begins right =
+      by_first (Name (codes "unit") unit_type) 117 (named unit (codes "unit") unit_type (λ n. refl) (λ n. refl) refl) out begins right
     where
-      out : (a : Text) (y : Measured) (d : TypeParse) → a ≡ type_bytes d → y ≡ (basic d, symbols_of (basic d)) → Head d 117
-          → Name (codes "unit") unit_type a y
-      out a y (unit n) e f is = word_is (codes "unit") (unit_type, 1) n e f
-      out a y (bool n) e f is = absurd (omega (arith, is))
-      out a y (int n) e f is = absurd (omega (arith, is))
-      out a y (text n) e f is = absurd (omega (arith, is))
-      out a y (pair m c k d n) e f is = absurd (omega (arith, is))
-      out a y (list m c n) e f is = absurd (omega (arith, is))
+      out : (a : Text) (y : Measured) (d : TypeParse) → a ≡ type_bytes d → y ≡ (basic d, symbols_of (basic d)) → symbols_of (basic d) ≤ room
+          → Head d 117 → Name (codes "unit") unit_type a y
+      out a y (unit n) e f le is = word_is (codes "unit") (unit_type, 1) n e f
+      out a y d e f le is = absurd (omega (arith, is))
 
-  pub as_bool : {ts : Text} {r : Answer ℕ Measured} → (s : Text) × (ts ≡ 98 ∷ s) → Right (Name (codes "bool") bool_type) Always NoBlank ts r
-      → Right (TypeName room) Always NoBlank ts r
-  as_bool {ts = ts} (s, e) right = by_production (Name (codes "bool") bool_type) (TypeName room) (λ a y h. record {
-    parse = bool h.first.behind;
-    are = word_are (codes "bool") (bool_type, 1) h;
-    stands_for = h.next.same;
-    symbols = some;
-  })
-      (λ a y z h _ b. out a y h.parse h.are h.stands_for (head_is h.parse 98 s a z h.are (subst (λ l. SharesPrefix [] l (a ++ z)) e b)))
-      right
+  pub as_bool : {ts : Text} {r : Answer ℕ Measured} → (s : Text) × (ts ≡ 98 ∷ s)
+      → Right (Name (codes "bool") bool_type) Always NoBlank ts r → Right (TypeName room) Always NoBlank ts r
+  as_bool begins right =
+      by_first (Name (codes "bool") bool_type) 98 (named bool (codes "bool") bool_type (λ n. refl) (λ n. refl) refl) out begins right
     where
-      out : (a : Text) (y : Measured) (d : TypeParse) → a ≡ type_bytes d → y ≡ (basic d, symbols_of (basic d)) → Head d 98
-          → Name (codes "bool") bool_type a y
-      out a y (unit n) e f is = absurd (omega (arith, is))
-      out a y (bool n) e f is = word_is (codes "bool") (bool_type, 1) n e f
-      out a y (int n) e f is = absurd (omega (arith, is))
-      out a y (text n) e f is = absurd (omega (arith, is))
-      out a y (pair m c k d n) e f is = absurd (omega (arith, is))
-      out a y (list m c n) e f is = absurd (omega (arith, is))
+      out : (a : Text) (y : Measured) (d : TypeParse) → a ≡ type_bytes d → y ≡ (basic d, symbols_of (basic d)) → symbols_of (basic d) ≤ room
+          → Head d 98 → Name (codes "bool") bool_type a y
+      out a y (bool n) e f le is = word_is (codes "bool") (bool_type, 1) n e f
+      out a y d e f le is = absurd (omega (arith, is))
 
-  pub as_int : {ts : Text} {r : Answer ℕ Measured} → (s : Text) × (ts ≡ 105 ∷ s) → Right (Name (codes "int") int_type) Always NoBlank ts r
-      → Right (TypeName room) Always NoBlank ts r
-  as_int {ts = ts} (s, e) right = by_production (Name (codes "int") int_type) (TypeName room) (λ a y h. record {
-    parse = int h.first.behind;
-    are = word_are (codes "int") (int_type, 1) h;
-    stands_for = h.next.same;
-    symbols = some;
-  })
-      (λ a y z h _ b. out a y h.parse h.are h.stands_for (head_is h.parse 105 s a z h.are (subst (λ l. SharesPrefix [] l (a ++ z)) e b)))
-      right
+  pub as_int : {ts : Text} {r : Answer ℕ Measured} → (s : Text) × (ts ≡ 105 ∷ s)
+      → Right (Name (codes "int") int_type) Always NoBlank ts r → Right (TypeName room) Always NoBlank ts r
+  as_int begins right =
+      by_first (Name (codes "int") int_type) 105 (named int (codes "int") int_type (λ n. refl) (λ n. refl) refl) out begins right
     where
-      out : (a : Text) (y : Measured) (d : TypeParse) → a ≡ type_bytes d → y ≡ (basic d, symbols_of (basic d)) → Head d 105
-          → Name (codes "int") int_type a y
-      out a y (unit n) e f is = absurd (omega (arith, is))
-      out a y (bool n) e f is = absurd (omega (arith, is))
-      out a y (int n) e f is = word_is (codes "int") (int_type, 1) n e f
-      out a y (text n) e f is = absurd (omega (arith, is))
-      out a y (pair m c k d n) e f is = absurd (omega (arith, is))
-      out a y (list m c n) e f is = absurd (omega (arith, is))
+      out : (a : Text) (y : Measured) (d : TypeParse) → a ≡ type_bytes d → y ≡ (basic d, symbols_of (basic d)) → symbols_of (basic d) ≤ room
+          → Head d 105 → Name (codes "int") int_type a y
+      out a y (int n) e f le is = word_is (codes "int") (int_type, 1) n e f
+      out a y d e f le is = absurd (omega (arith, is))
 
   pub as_text : {ts : Text} {r : Answer ℕ Measured} → NoToken 40 ts → NoToken 91 ts → NoToken 117 ts → NoToken 98 ts → NoToken 105 ts
       → Right (Name (codes "text") text_type) Always NoBlank ts r → Right (TypeName room) Always NoBlank ts r
-  as_text {ts = ts} n40 n91 n117 n98 n105 right = by_production (Name (codes "text") text_type) (TypeName room) (λ a y h. record {
-    parse = text h.first.behind;
-    are = word_are (codes "text") (text_type, 1) h;
-    stands_for = h.next.same;
-    symbols = some;
-  })
+  as_text {ts = ts} n40 n91 n117 n98 n105 right = by_production (Name (codes "text") text_type) (TypeName room)
+      (named text (codes "text") text_type (λ n. refl) (λ n. refl) refl)
       (λ a y z h _ b. let (t, w, starts, head) = head_of h.parse in let (behind, is) = first_token t w a z ts (h.are ∙ starts) b in
       out a y h.parse h.are h.stands_for t behind is head) right
     where
