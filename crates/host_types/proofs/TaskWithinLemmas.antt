@@ -1,17 +1,36 @@
 -- Tasks of which all is met are within the limits.
-use Rattle.std.proofs.Common.{ℕ, suc, ◌+◌, List, refl}
-use Rattle.task_model.specs.Host.{as_exprs}
+use Rattle.std.proofs.Common.{ℕ, suc, ◌+◌, ◌≤◌, List, length, refl}
+use Rattle.task_model.specs.Host.{HostTerm, as_exprs}
 use Rattle.task_model.specs.Program.{ParamTerm}
 use Rattle.task_model.specs.TypeParts.{item_part}
 use Rattle.task_model.specs.Names.{bind_value, bind_place, CallsTerm, called_definition, all_open, params_of}
-use Rattle.task_model.specs.TypeFault.{IsMet}
+use Rattle.task_model.specs.TypeFault.{IsMet, ◌⨾◌, whole}
 use Rattle.task_model.specs.FullTask.{FullTask, full_edit, full_enter, full_share, full_fail, full_call, full_step, full_and, full_or, full_xor, full_let, full_if, full_case, full_new, full_put, full_absent}
 use Rattle.task_model.specs.NodeCounts.{nodes, task_nodes}
 use Rattle.task_model.specs.TypeOf.{type_of, task_type}
+use Rattle.task_model.specs.Demands.{has_place, all_demands}
 use Rattle.task_model.specs.TaskDemands.{task_demands}
+use Rattle.task_model.specs.Limits.{IsSmall, IsWithin}
 use Rattle.task_model.specs.TaskTyping.{IsTaskWithin}
 use Rattle.host_types.proofs.TypingLemmas.{first, second}
 use Rattle.host_types.proofs.WithinLemmas.{small, room, apart, within, within_kinds}
+
+-- a task that binds a name to an expression, as `let` and `new` do
+bound_within : (k : CallsTerm) (s inner : List ParamTerm) (n : ℕ) (e : HostTerm) (t : FullTask)
+    → (IsMet (task_demands k inner (suc n + nodes e) t) → IsTaskWithin k inner t)
+    → IsMet (has_place n s 1 ⨾ all_demands (all_open k) s (suc n) e
+    ⨾ whole (suc n + nodes e) (task_type k.defs inner t) (task_demands k inner (suc n + nodes e) t))
+    → (length s ≤ 199) × IsWithin (all_open k) s e × IsSmall (type_of k.defs s e) × IsTaskWithin k inner t
+    × IsSmall (task_type k.defs inner t)
+bound_within k s inner n e t step m =
+    let bound = first (second m) in
+    let rest = second (second m) in (
+      room n 199 s 1 refl (first m),
+      within (all_open k) s (suc n) e (first bound),
+      small (suc n) (type_of k.defs s e) (second bound),
+      step (first rest),
+      small (suc n + nodes e) (task_type k.defs inner t) (second rest),
+    )
 
 pub task_within : (k : CallsTerm) (s : List ParamTerm) (n : ℕ) (t : FullTask) → IsMet (task_demands k s n t) → IsTaskWithin k s t
 task_within k s n (full_edit e) m = (within (all_open k) s (suc n) e (first m), small (suc n) (type_of k.defs s e) (second m))
@@ -51,16 +70,8 @@ task_within k s n (full_xor xs t ys u) m =
       small i (task_type k.defs s u) (second right),
     )
 task_within k s n (full_let x e t) m =
-    let i = suc n + nodes e in
     let inner = bind_value s x (type_of k.defs s e) in
-    let bound = first (second m) in
-    let rest = second (second m) in (
-      room n 199 s 1 refl (first m),
-      within (all_open k) s (suc n) e (first bound),
-      small (suc n) (type_of k.defs s e) (second bound),
-      task_within k inner i t (first rest),
-      small i (task_type k.defs inner t) (second rest),
-    )
+    bound_within k s inner n e t (λ h. task_within k inner (suc n + nodes e) t h) m
 task_within k s n (full_if e t u) m =
     let i = suc n + nodes e in
     let test = first (first m) in
@@ -90,16 +101,8 @@ task_within k s n (full_case e t x y u) m =
       small (i + task_nodes t) (task_type k.defs inner u) (second more),
     )
 task_within k s n (full_new x e t) m =
-    let i = suc n + nodes e in
     let inner = bind_place s x (type_of k.defs s e) in
-    let bound = first (second m) in
-    let rest = second (second m) in (
-      room n 199 s 1 refl (first m),
-      within (all_open k) s (suc n) e (first bound),
-      small (suc n) (type_of k.defs s e) (second bound),
-      task_within k inner i t (first rest),
-      small i (task_type k.defs inner t) (second rest),
-    )
+    bound_within k s inner n e t (λ h. task_within k inner (suc n + nodes e) t h) m
 task_within k s n (full_put x e t) m =
     let i = suc n + nodes e in
     let value = first (first (second m)) in

@@ -2,7 +2,7 @@ ghost use Rattle.std.specs.Prelude.{◌+◌, ◌++◌, [], ◌∷◌, suc, map, 
 ghost use Rattle.task_model.specs.Basic.{basic_term};
 ghost use Rattle.task_model.specs.Host.{host_term, as_exprs};
 ghost use Rattle.task_model.specs.Task.{task_term};
-ghost use Rattle.task_model.specs.FullTask.{full_body_numbered, step_over, sides_of, full_edit, full_call, full_and, full_or, full_let, full_if, full_case, full_new, full_put};
+ghost use Rattle.task_model.specs.FullTask.{full_body_numbered, step_over, sides_of, full_edit, full_call, full_and, full_or, full_if, full_case, full_put};
 ghost use Rattle.task_model.specs.LaterBodies.{later_bodies, full_task};
 ghost use Rattle.task_model.specs.Names.{all_open, kind_in, named_type};
 ghost use Rattle.task_model.specs.TypeFault.{met, ref_name};
@@ -10,8 +10,10 @@ ghost use Rattle.task_model.specs.NodeCounts.{nodes_all};
 ghost use Rattle.task_model.specs.TypeOf.{task_type};
 ghost use Rattle.task_model.specs.TaskDemands.{task_demands};
 ghost use Rattle.host_types.specs.Answer.{IsTask, IsStop, AnswersType, Checks, ChecksWanted, ChecksTask, ChecksTaskForm, ChecksTaskWanted};
+ghost use Rattle.host_types.specs.Bound.{ChecksBinding};
 ghost use Rattle.host_types.specs.Seen.{scope_term, calls_term};
 
+use crate::binding::Binding;
 use crate::calls::{Callee, Calls};
 use crate::compare::{compared, sized};
 use crate::expressions::{Typed, arguments, wanted, whole};
@@ -77,16 +79,14 @@ fn form(
     ensures { ChecksTaskForm (calls_term calls.now) (scope_term scope.now) node (full_task later.now (task_term t.now))
         (map basic_term types.old.list) (map basic_term types.new.list) result }
 {
+    let to_value = Binding::Value;
+    let to_place = Binding::Place;
     match t {
         Task::Edit(e) => edit_form(alloc, calls, scope, node, e, types),
-        Task::Enter(b) => typed_form(node, b),
+        Task::Enter(b) | Task::Fail(b) => typed_form(node, b),
         Task::Share(name) => share_form(scope, node, name, types),
-        Task::Fail(b) => typed_form(node, b),
         Task::Call { name, args } => call_form(alloc, calls, scope, node, name, args.as_slice()),
-        Task::Then { left, body } => {
-            step_form(alloc, calls, later, scope, node, left, *body, types)
-        }
-        Task::Next { left, body } => {
+        Task::Then { left, body } | Task::Next { left, body } => {
             step_form(alloc, calls, later, scope, node, left, *body, types)
         }
         Task::And(a, b) => and_form(alloc, calls, later, scope, node, a, b, types),
@@ -94,9 +94,9 @@ fn form(
         Task::Xor { left, right } => {
             xor_form(alloc, calls, later, scope, node, *left, *right, types)
         }
-        Task::Let { name, bound, rest } => {
-            let_form(alloc, calls, later, scope, node, name, bound, rest, types)
-        }
+        Task::Let { name, bound, rest } => binding_form(
+            alloc, calls, later, scope, node, to_value, name, bound, rest, types,
+        ),
         Task::If { test, yes, no } => {
             if_form(alloc, calls, later, scope, node, test, yes, no, types)
         }
@@ -109,9 +109,9 @@ fn form(
         } => case_form(
             alloc, calls, later, scope, node, list, empty, head, tail, more, types,
         ),
-        Task::New { name, init, rest } => {
-            new_form(alloc, calls, later, scope, node, name, init, rest, types)
-        }
+        Task::New { name, init, rest } => binding_form(
+            alloc, calls, later, scope, node, to_place, name, init, rest, types,
+        ),
         Task::Put { name, value, rest } => {
             put_form(alloc, calls, later, scope, node, name, value, rest, types)
         }
@@ -378,26 +378,27 @@ fn xor_form(
     })
 }
 
+// A name that is bound to an expression, in the task behind it.
 #[cycle(task)]
-fn let_form(
+fn binding_form(
     alloc: Global,
     calls: &Calls,
     later: &LaterBodies,
     scope: &Names,
     node: u64,
+    binding: Binding,
     name: &TaskText,
     e: &Host,
     rest: &Task,
     types: &mut Row<Basic>,
 ) -> Result<Typed, CheckStop>
-    ensures { ChecksTaskForm (calls_term calls.now) (scope_term scope.now) node
-        (full_let name.now (host_term e.now) (full_task later.now (task_term rest.now)))
-        (map basic_term types.old.list) (map basic_term types.new.list) result }
+    ensures { ChecksBinding binding (calls_term calls.now) (scope_term scope.now) node name.now (host_term e.now)
+        (full_task later.now (task_term rest.now)) (map basic_term types.old.list) (map basic_term types.new.list) result }
 {
     room_for_name(scope, node)?;
     let inner = next(node)?;
     let bound = expression(alloc, calls, scope, inner, e)?;
-    let kind = Kind::Plain(bound.basic);
+    let kind = binding.kind(bound.basic);
     let within = (&*scope).with(&*name, &kind);
     task(alloc, calls, later, &within, bound.next, rest, types)
 }
@@ -478,30 +479,6 @@ fn case_form(
         basic: first.basic,
         next: behind,
     })
-}
-
-#[cycle(task)]
-fn new_form(
-    alloc: Global,
-    calls: &Calls,
-    later: &LaterBodies,
-    scope: &Names,
-    node: u64,
-    name: &TaskText,
-    e: &Host,
-    rest: &Task,
-    types: &mut Row<Basic>,
-) -> Result<Typed, CheckStop>
-    ensures { ChecksTaskForm (calls_term calls.now) (scope_term scope.now) node
-        (full_new name.now (host_term e.now) (full_task later.now (task_term rest.now)))
-        (map basic_term types.old.list) (map basic_term types.new.list) result }
-{
-    room_for_name(scope, node)?;
-    let inner = next(node)?;
-    let bound = expression(alloc, calls, scope, inner, e)?;
-    let kind = Kind::Ref(bound.basic);
-    let within = (&*scope).with(&*name, &kind);
-    task(alloc, calls, later, &within, bound.next, rest, types)
 }
 
 #[cycle(task)]
