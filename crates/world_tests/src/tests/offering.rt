@@ -60,22 +60,32 @@ fn offered<L: Ledger>(
     }
 }
 
+// What differs from the rows of a program that has been started.
+fn row_differences<L: Ledger>(
+    alloc: Global,
+    bench: &mut Bench,
+    rows: &str,
+    steps: &mut Steps<L>,
+) -> Result<String, OutOfMemory> {
+    let mut all = String::new(alloc);
+    for row in rows.split('\n') {
+        let (budget, wanted) = row.split_once('@').unwrap_or((row, ""));
+        let told = offered(alloc, bench, budget.parse::<u32>().unwrap_or(0), steps)?;
+        if told.as_str() != wanted {
+            all.push_str(format!(in alloc; "{budget}@{told}\n")?.as_str())?;
+        }
+    }
+    Ok(all)
+}
+
 /// What differs from the rows of a program, each a budget and the offers of the program's opening within it.
 pub(super) fn differences<L: Ledger>(
     alloc: Global,
     block: &str,
     steps: &mut Steps<L>,
 ) -> Result<String, OutOfMemory> {
-    let mut all = String::new(alloc);
     let (source, rows) = block.split_once('\n').unwrap_or((block, ""));
     let mut bench = Bench::new(alloc, accepted(alloc, source)?)?;
     let _started = bench.start_main(true, &mut Purse::new(10_000));
-    for row in rows.split('\n') {
-        let (budget, wanted) = row.split_once('@').unwrap_or((row, ""));
-        let told = offered(alloc, &mut bench, budget.parse::<u32>().unwrap_or(0), steps)?;
-        if told.as_str() != wanted {
-            all.push_str(format!(in alloc; "{source}\n{budget}@{told}\n")?.as_str())?;
-        }
-    }
-    Ok(all)
+    row_differences(alloc, &mut bench, rows, steps)
 }

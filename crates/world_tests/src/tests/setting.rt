@@ -34,21 +34,33 @@ y..........@task main() : unit = new r = () in share r
 ......y...y@task main() : [[int]] = edit [[1]]
 ......y...y@task main() : [[int]] = new r = nil [int] in share r"#;
 
+// The mark of an entry at a world.
+fn reply_mark<L: Ledger>(
+    alloc: Global,
+    bench: &mut WorldBench,
+    entry: &Entry,
+    steps: &mut Steps<L>,
+) -> Result<&'static str, OutOfMemory>
+    requires { IsSeat entry.now.seat }
+{
+    match bench.handle(alloc, entry, steps)? {
+        Reply::Taken(_) => Ok("y"),
+        Reply::NotOffered => Ok("."),
+        Reply::Over => Ok("?"),
+    }
+}
+
 // The mark of an entry at a program.
 fn entry_mark<L: Ledger>(
     alloc: Global,
     source: &str,
     entry: &Entry,
     steps: &mut Steps<L>,
-) -> Result<char, OutOfMemory>
+) -> Result<&'static str, OutOfMemory>
     requires { IsSeat entry.now.seat }
 {
     let mut bench = WorldBench::opened(alloc, source, 10_000, steps)?;
-    match bench.handle(alloc, entry, steps)? {
-        Reply::Taken(_) => Ok('y'),
-        Reply::NotOffered => Ok('.'),
-        Reply::Over => Ok('?'),
-    }
+    reply_mark(alloc, &mut bench, entry, steps)
 }
 
 // The mark of a value at a program.
@@ -57,7 +69,7 @@ fn mark<L: Ledger>(
     source: &str,
     literal: &str,
     steps: &mut Steps<L>,
-) -> Result<char, OutOfMemory> {
+) -> Result<&'static str, OutOfMemory> {
     let line = format!(in alloc; "1 . set {literal}")?;
     let script = Script::of(alloc, line.as_str())?;
     match script.first() {
@@ -75,7 +87,7 @@ fn marks<L: Ledger>(
 ) -> Result<String, OutOfMemory> {
     let mut text = String::new(alloc);
     for literal in literals.split('@') {
-        text.push(mark(alloc, source, literal, steps)?)?;
+        text.push_str(mark(alloc, source, literal, steps)?)?;
     }
     Ok(text)
 }

@@ -93,6 +93,17 @@ fn is_row_right<L: Ledger>(
     }
 }
 
+// The same from the opening on.
+fn is_block_right<L: Ledger>(
+    alloc: Global,
+    source: &str,
+    row: &str,
+    steps: &mut Steps<L>,
+) -> Result<bool, OutOfMemory> {
+    let mut bench = WorldBench::opened(alloc, source, 10_000, steps)?;
+    is_row_right(alloc, &mut bench, row, steps)
+}
+
 /// What differs from the line of a program, if anything.
 pub(super) fn differences<L: Ledger>(
     alloc: Global,
@@ -100,7 +111,6 @@ pub(super) fn differences<L: Ledger>(
     steps: &mut Steps<L>,
 ) -> Result<String, OutOfMemory> {
     let (source, row) = block.split_once('\n').unwrap_or((block, ""));
-    let mut bench = WorldBench::opened(alloc, source, 10_000, steps)?;
-    let is_right = is_row_right(alloc, &mut bench, row, steps)?;
+    let is_right = is_block_right(alloc, source, row, steps)?;
     Ok(String::from_str(alloc, if is_right { "" } else { source })?)
 }
