@@ -6,4 +6,5 @@ use Rattle.workbench.proofs.engines.steps_tested.Goals as goal
 
 pub test_next-requires : goal.test_next-requires
 test_next-requires g c = record {
-    fits = step_fits _ _ _ _ _ c.loop.invariant (sym c.in-Ok-Some.ensures ∙ ap (option_map value_term) c.in-Ok-Some.field-0-is) }
+  fits = step_fits _ _ _ _ _ c.loop.invariant (sym c.in-Ok-Some.ensures ∙ ap (option_map value_term) c.in-Ok-Some.field-0-is);
+}
