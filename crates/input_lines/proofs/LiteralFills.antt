@@ -124,10 +124,12 @@ bool_whole room b t some (n, e) = record { parse = bool b n; are = ap (λ l. boo
 
 bool_fills : (room : ℕ) (k : List Bracket) (b : Bool) (n : ℕ) → 1 ≤ room
     → Fills (at_value k) (at_end k) (LiteralWithin room) (bool_text b ++ spaces n)
-bool_fills room k true n some = begins 116 some refl (widen (λ a h. subst (λ l. LiteralWithin room (116 ∷ l)) (sym (both_are h h.first refl))
-    (bool_whole room true h.back some h.next)) (both (word_fills k (codes "rue")) (spaces_fill refl n)))
-bool_fills room k false n some = begins 102 some refl (widen (λ a h. subst (λ l. LiteralWithin room (102 ∷ l)) (sym (both_are h h.first refl))
-    (bool_whole room false h.back some h.next)) (both (word_fills k (codes "alse")) (spaces_fill refl n)))
+bool_fills room k true n some = begins 116 some refl (widen
+    (λ a h. subst (λ l. LiteralWithin room (116 ∷ l)) (sym (both_are h h.first refl)) (bool_whole room true h.back some h.next))
+    (both (word_fills k (codes "rue")) (spaces_fill refl n)))
+bool_fills room k false n some = begins 102 some refl (widen
+    (λ a h. subst (λ l. LiteralWithin room (102 ∷ l)) (sym (both_are h h.first refl)) (bool_whole room false h.back some h.next))
+    (both (word_fills k (codes "alse")) (spaces_fill refl n)))
 
 text_whole : (room : ℕ) (t : Text) → 1 ≤ room → Both (ContentWithin 65536) (Both (Is (34 ∷ [])) Spaces) t → LiteralWithin room (34 ∷ t)
 text_whole room t some h =

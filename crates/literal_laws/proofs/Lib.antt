@@ -1,5 +1,5 @@
 pub mod Decided
-mod Words
+pub mod Words
 mod Ints
 mod Texts
 mod Values

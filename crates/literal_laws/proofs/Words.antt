@@ -44,7 +44,7 @@ token byte ts = go (begins_or_not byte ts)
     go (inr none) = fails (length ts) (refused_first (Tok byte) ts
         (λ a y z h _ b. begins_token byte ts z none (subst (λ l. SharesPrefix [] ts (l ++ z)) h b)))
 
-run : (word ts : Text) → Decided (Run word) Anything ts
+pub run : (word ts : Text) → Decided (Run word) Anything ts
 run [] ts = reads tt ts (run_done refl)
 run (byte ∷ word) ts = followed (λ _ h. run_stop refl h) (λ _ rest h. onto (λ r k. run_more refl h k) (run word rest)) (token byte ts)
 

@@ -175,7 +175,8 @@ module _ (inside : ℕ → Bool) where
   tree_reach fail_tree h n e = absurd (cc)
   tree_reach (and_tree t u) h n e = either (places_in t) (places_in u) (tree_reach t h.0) (tree_reach u h.1) n e
   tree_reach (or_tree t u) h n e = either (places_in t) (places_in u) (tree_reach t h.0) (tree_reach u h.1) n e
-  tree_reach (xor_tree j k) h n e = either (slot_places j.slots) (slot_places k.slots) (slots_reach j.slots h.0) (slots_reach k.slots h.1) n e
+  tree_reach (xor_tree j k) h n e =
+      either (slot_places j.slots) (slot_places k.slots) (slots_reach j.slots h.0) (slots_reach k.slots h.1) n e
 
 -- these places, and all that are new
 abbrev reached : List ℕ → ℕ → ℕ → Bool

@@ -309,7 +309,8 @@ module _ (p : ProgramTerm) where
 
 counted_from_none : (fs : List (List Lexeme)) → counted_from 0 fs ≡ map edit_words fs
 counted_from_none [] = refl
-counted_from_none (ts ∷ fs) = let same : 0 + edit_words ts ≡ edit_words ts = omega arith in both_same (λ y z. y ∷ z) same (counted_from_none fs)
+counted_from_none (ts ∷ fs) =
+    let same : 0 + edit_words ts ≡ edit_words ts = omega arith in both_same (λ y z. y ∷ z) same (counted_from_none fs)
 
 pub fronts : (ds : Parse program) → firsts_of (program_of ds) ≡ map edit_words (body_fronts ds)
 fronts ds =

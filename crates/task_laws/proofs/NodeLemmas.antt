@@ -100,7 +100,8 @@ expression_places (joined both a and p b) h = over_two (start a) (places a) (pla
 expression_places (joined sum a plus p b) h = over_two (start a) (places a) (places b) (expression_places a tt) (expression_places b tt)
 expression_places (joined sum a minus p b) h = over_two (start a) (places a) (places b) (expression_places a tt) (expression_places b tt)
 expression_places (joined sum a join p b) h = over_two (start a) (places a) (places b) (expression_places a tt) (expression_places b tt)
-expression_places (joined product a times p b) h = over_two (start a) (places a) (places b) (expression_places a tt) (expression_places b tt)
+expression_places (joined product a times p b) h =
+    over_two (start a) (places a) (places b) (expression_places a tt) (expression_places b tt)
 expression_places (joined product a quot p b) h = over_two (start a) (places a) (places b) (expression_places a tt) (expression_places b tt)
 expression_places (joined product a rem p b) h = over_two (start a) (places a) (places b) (expression_places a tt) (expression_places b tt)
 expression_places (empty arguments p q) h = refl
