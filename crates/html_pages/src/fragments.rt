@@ -30,6 +30,7 @@ impl Fragments {
         }
     }
 
+    /// Puts a fragment behind the others. It fails only where memory runs out, and changes nothing then.
     pub fn push(&mut self, fragment: Fragment) -> Result<(), OutOfMemory>
         ensures ok { OnOk result (self.new ≡ self.old ++ fragment ∷ []) }
         ensures err { OnErr result (self.new ≡ self.old) }

@@ -20,12 +20,14 @@ impl Model for Page {
 }
 
 impl Page {
+    /// The number of inputs in the history that the page shows.
     pub fn version(&self) -> u64
         ensures { result ≡ self.now.version }
     {
         self.version
     }
 
+    /// The page's bytes, which are UTF-8.
     pub fn text(&self) -> &str
         ensures { result.now ≡ self.now.text }
     {

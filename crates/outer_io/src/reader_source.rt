@@ -16,6 +16,7 @@ pub struct ReaderSource<R> {
 }
 
 impl<R: Read> ReaderSource<R> {
+    /// A source over this reader, of which no read failed yet.
     pub fn new(inner: R) -> ReaderSource<R>
         ensures left { ⟦<ReaderSource<R> as Source>⟧.left result ≡ R.remaining inner }
         ensures faults { ⟦<ReaderSource<R> as Source>⟧.faults result ≡ 0 }

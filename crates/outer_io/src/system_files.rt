@@ -22,6 +22,7 @@ pub struct SystemFiles<'a, R> {
 }
 
 impl<'a, R: std::rt::Files> SystemFiles<'a, R> {
+    /// The system's files, of which no request failed yet.
     pub fn new(rt: &'a R) -> SystemFiles<'a, R>
         ensures { ⟦<SystemFiles<'a, R> as Files>⟧.faults result ≡ 0 }
     {

@@ -18,6 +18,7 @@ pub struct WriterSink<W> {
 }
 
 impl<W: Write> WriterSink<W> {
+    /// A sink over this writer, of which no write failed yet.
     pub fn new(inner: W) -> WriterSink<W>
         ensures taken { ⟦<WriterSink<W> as Sink>⟧.taken result ≡ W.contents inner }
         ensures faults { ⟦<WriterSink<W> as Sink>⟧.faults result ≡ 0 }

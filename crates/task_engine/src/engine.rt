@@ -58,12 +58,14 @@ impl Engine {
         })
     }
 
+    /// The program, with its types.
     pub fn checked(&self) -> &Checked
         ensures { result.now ≡ self.now }
     {
         &self.checked
     }
 
+    /// Where its tables are, and where trees and values that it makes are put.
     pub fn alloc(&self) -> Global {
         self.alloc
     }

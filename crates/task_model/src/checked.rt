@@ -39,6 +39,7 @@ impl Checked {
         Checked { program, types }
     }
 
+    /// The program, which is written and accepted.
     pub fn program(&self) -> &Program
         ensures program { result.now ≡ self.now.program }
         ensures accepted { IsAccepted (checked_term self.now) }
@@ -46,6 +47,7 @@ impl Checked {
         &self.program
     }
 
+    /// The types of its nodes, by the nodes' numbers.
     pub fn types(&self) -> &[Basic]
         ensures { result.now ≡ self.now.types }
     {

@@ -35,6 +35,7 @@ pub enum Keyword {
 }
 
 impl Keyword {
+    /// The letters of the keyword (docs/LANGUAGE.md, "Tokens").
     pub fn spelling(self) -> &'static str
         ensures { result.now ≡ keyword_spelling self }
     {

@@ -27,6 +27,7 @@ impl<T> Model for Row<T> {
 }
 
 impl<T> Row<T> {
+    /// A row of nothing. It takes no memory.
     pub fn new(alloc: Global) -> Row<T>
         ensures list { result.list ≡ [] }
         ensures spare { result.spare ≡ 0 }
@@ -45,6 +46,7 @@ impl<T> Row<T> {
         Row { items, spare: 0 }
     }
 
+    /// The items, in order.
     pub fn as_slice(&self) -> &[T]
         ensures { result.now ≡ self.now.list }
     {
@@ -59,6 +61,7 @@ impl<T> Row<T> {
         self.items.as_mut_slice()
     }
 
+    /// Makes room for so many more items. It fails only where memory runs out, and leaves the items as they are.
     pub fn reserve(&mut self, more: usize) -> Result<(), OutOfMemory>
         ensures list { self.new.list ≡ self.old.list }
         ensures ok { OnOk result (more ≤ self.new.spare) }
@@ -74,12 +77,14 @@ impl<T> Row<T> {
 }
 
 impl<T: Drop> Row<T> {
+    /// Drops all items but the first so many.
     pub fn truncate(&mut self, most: usize)
         ensures { self.new.list ≡ take most self.old.list }
     {
         self.items.truncate(most);
     }
 
+    /// Puts an item behind the others. It fails only where memory runs out, and changes nothing then.
     pub fn push(&mut self, item: T) -> Result<(), OutOfMemory>
         ensures room { 0 < self.old.spare → IsOk result }
         ensures ok { OnOk result (self.new.list ≡ self.old.list ++ item ∷ []) }
@@ -95,6 +100,7 @@ impl<T: Drop> Row<T> {
 }
 
 impl Row<u8> {
+    /// Puts these bytes behind the others. It fails only where memory runs out, and changes nothing then.
     pub fn extend(&mut self, bytes: &[u8]) -> Result<(), OutOfMemory>
         ensures ok { OnOk result (self.new.list ≡ self.old.list ++ bytes.now) }
         ensures err { OnErr result (self.new.list ≡ self.old.list) }

@@ -38,6 +38,7 @@ pub enum Symbol {
 }
 
 impl Symbol {
+    /// The bytes of the symbol (docs/LANGUAGE.md, "Tokens").
     pub fn spelling(self) -> &'static str
         ensures { result.now ≡ symbol_spelling self }
     {

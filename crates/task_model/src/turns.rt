@@ -22,6 +22,7 @@ impl Model for Turns {
 }
 
 impl Turns {
+    /// A path of no turns. It takes no memory.
     pub fn new(alloc: Global) -> Turns
         ensures { result ≡ [] }
     {
@@ -38,6 +39,7 @@ impl Turns {
         Ok(Turns { items })
     }
 
+    /// The turns, from the root.
     pub fn as_slice(&self) -> &[Turn]
         ensures { result.now ≡ self.now }
     {
