@@ -5,7 +5,7 @@ use std::alloc::Global;
 use std::sync::ledger::Ledger;
 use task_model::{Face, OutOfMemory, Steps};
 use test_texts::BlockTest;
-use world_bench::{Script, WorldBench, history_text, state_text, world_text};
+use world_bench::{Script, Way, WorldBench, history_text, state_text, world_text};
 use world_core::Reply;
 
 /// Budgets with programs that don't end.
@@ -70,7 +70,7 @@ fn replied<L: Ledger>(
 ) -> Result<Reply, OutOfMemory> {
     let script = Script::of(alloc, line)?;
     match script.first() {
-        Some(entry) => bench.handle(alloc, entry, steps),
+        Some(entry) => bench.handle(alloc, entry, Way::Whole, steps),
         None => Err(OutOfMemory),
     }
 }
