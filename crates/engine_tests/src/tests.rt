@@ -5,20 +5,16 @@
 //! behind the lines above it. It is tried with just that work, and with a unit and a rule less, where it has to be over; one that answers
 //! `over` with that work alone. A test takes units alone. Behind `clear` the bench is as it was new.
 
-ghost use Rattle.std.specs.Prelude.{◌≡◌, ◌<◌};
-
 use crate::Bench;
 use answering::{Answer, answered, done, is_test};
 use eval_tests::repeated;
 use showing::{layers_text, state_text};
 use std::alloc::Global;
-use std::marker::Brand;
-use std::process::Abort;
-use std::sync::ledger::{Blank, Ledger};
+use std::sync::ledger::Ledger;
 use std::test::Fail;
 use std::thread;
 use task_model::{OutOfMemory, Steps};
-use test_texts::accepted;
+use test_texts::{BlockTest, accepted, assert_right, is_right};
 
 mod answering;
 mod deep;
@@ -140,87 +136,54 @@ fn difference<L: Ledger>(
     Ok(format!(in alloc; "\n{lines}{line}\n{told}\n")?)
 }
 
-fn counted_differences<L: Ledger>(
-    alloc: Global,
-    text: &[u8],
-    blank: Blank,
-) -> Result<String, OutOfMemory>
-    requires name { blank.name ≡ L.name }
-    requires parts { blank.parts ≡ L.parts }
-    requires some { 0 < blank.parts }
-{
-    let Ok(text) = str::from_utf8(text) else {
-        return Err(OutOfMemory);
-    };
-    let mut steps = Steps::<L>::new(blank);
-    let mut all = String::new(alloc);
-    let mut lines = String::new(alloc);
-    let (program, calls) = text.split_once('\n').unwrap_or((text, ""));
-    let source = repeated(alloc, program)?;
-    let mut bench = Bench::new(alloc, accepted(alloc, source.as_str())?)?;
-    for line in calls.split('\n') {
-        let told = difference(alloc, &mut bench, lines.as_str(), line, &mut steps)?;
-        all.push_str(told.as_str())?;
-        if line == "clear" {
-            lines = String::new(alloc);
-        } else {
-            lines.push_str(line)?;
-            lines.push('\n')?;
+/// A program, and the calls on it.
+struct Programs;
+
+impl BlockTest for Programs {
+    fn block_differences<L: Ledger>(
+        &self,
+        alloc: Global,
+        text: &str,
+        steps: &mut Steps<L>,
+    ) -> Result<String, OutOfMemory> {
+        let mut all = String::new(alloc);
+        let mut lines = String::new(alloc);
+        let (program, calls) = text.split_once('\n').unwrap_or((text, ""));
+        let source = repeated(alloc, program)?;
+        let mut bench = Bench::new(alloc, accepted(alloc, source.as_str())?)?;
+        for line in calls.split('\n') {
+            let told = difference(alloc, &mut bench, lines.as_str(), line, steps)?;
+            all.push_str(told.as_str())?;
+            if line == "clear" {
+                lines = String::new(alloc);
+            } else {
+                lines.push_str(line)?;
+                lines.push('\n')?;
+            }
         }
+        Ok(all)
     }
-    Ok(all)
-}
-
-// What differs in the lines of a program.
-fn program_differences(alloc: Global, text: &str) -> Result<String, OutOfMemory> {
-    counted_differences::<Brand>(alloc, text.as_bytes(), Blank::new(1))
-}
-
-// What differs from a table.
-fn differences(alloc: Global, table: &str) -> Result<String, OutOfMemory> {
-    let mut all = String::new(alloc);
-    for text in table.split("\n\n") {
-        all.push_str(program_differences(alloc, text)?.as_str())?;
-    }
-    Ok(all)
-}
-
-fn assert_right(rt: &(impl Abort + AllocGlobal), table: &str) -> Result<(), OutOfMemory> {
-    let found = differences(rt.alloc(), table)?;
-    assert!(rt; found.is_empty(), "{}", found.as_str());
-    Ok(())
 }
 
 #[test]
 fn worked_programs(rt: HostRuntime) -> Result<(), Fail> {
-    assert_right(&rt, worked::WORKED)?;
-    Ok(())
+    Ok(assert_right(&rt, worked::WORKED, &Programs)?)
 }
 
 #[test]
 fn single_rules(rt: HostRuntime) -> Result<(), Fail> {
-    assert_right(&rt, rules::RULES)?;
-    Ok(())
+    Ok(assert_right(&rt, rules::RULES, &Programs)?)
 }
 
 #[test]
 fn deep_programs(rt: HostRuntime) -> Result<(), Fail> {
-    assert_right(&rt, deep::DEEP)?;
-    Ok(())
-}
-
-// Whether nothing differs from the table of what is deep.
-fn is_deep_enough(alloc: Global) -> bool {
-    match differences(alloc, deep::DEEP) {
-        Ok(found) => found.is_empty(),
-        Err(_) => false,
-    }
+    Ok(assert_right(&rt, deep::DEEP, &Programs)?)
 }
 
 #[test]
 fn deep_programs_on_another_thread(rt: HostRuntime) -> Result<(), Fail> {
     let alloc = rt.alloc();
-    let other = thread::spawn(&rt, move || is_deep_enough(alloc))?;
+    let other = thread::spawn(&rt, move || is_right(alloc, deep::DEEP, &Programs))?;
     assert!(rt; other.join(&rt));
     Ok(())
 }

@@ -1,4 +1,4 @@
-//! The widgets of small trees: tests alone.
+//! The widgets and the values of small trees: tests alone.
 #![tactic(auto)]
 
 #[cfg(test)]

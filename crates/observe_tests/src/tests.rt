@@ -1,4 +1,4 @@
-//! The widgets of trees that are made by hand.
+//! The widgets and the values of trees that are made by hand.
 
 use interface::widgets;
 use std::alloc::Global;
@@ -9,6 +9,7 @@ use task_model::{
     Answer, Basic, Cont, Delay, Offer, OfferKind, OutOfMemory, Path, Reads, Row, Shape, Sign, Tree,
     Turn, Turns, Value, Widget, shared,
 };
+use task_tree::{Down, has_value, node_at, value};
 
 /// A store that holds one value at each of its places.
 #[derive(Drop)]
@@ -214,5 +215,26 @@ fn the_parts_of_a_pair(rt: HostRuntime) -> Result<(), Fail> {
         shown(alloc, &tree, &offers)?.as_str(),
         ". and\n.F then\n.F pick no over\n.S or\n.SF enter\n.SS fail\n"
     );
+    Ok(())
+}
+
+#[test]
+fn a_value_of_a_part(rt: HostRuntime) -> Result<(), Fail> {
+    let alloc = rt.alloc();
+    let left = shared(alloc, Tree::Share(Basic::Int, 0))?;
+    let right = shared(alloc, Tree::Share(Basic::Int, 1))?;
+    let pair = shared(alloc, Tree::And(left, right))?;
+    let tree = step(alloc, pair)?;
+    for (count, there) in [(1, false), (2, true)] {
+        let store = EvenStore {
+            value: Value::Int(7),
+            count,
+        };
+        if let Some(pair) = node_at(&tree, &[Down::Step]) {
+            assert_eq!(rt; has_value(pair, &store), there);
+            assert_eq!(rt; value(alloc, pair, &store)?.is_some(), there);
+        }
+        assert!(rt; !has_value(&tree, &store));
+    }
     Ok(())
 }

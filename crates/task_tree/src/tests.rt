@@ -3,34 +3,11 @@
 use crate::down::Down;
 use crate::equality::same;
 use crate::feet::foot;
-use crate::replacing::{node_at, replace};
-use crate::values::{has_value, value};
+use crate::replacing::replace;
 use std::alloc::Global;
 use std::process::Abort;
 use std::test::Fail;
-use task_model::{Basic, Cont, OutOfMemory, Reads, Row, Slot, Tree, Value, shared};
-
-/// A store that holds one value at each of its places.
-#[derive(Drop)]
-struct EvenStore {
-    value: Value,
-    count: u64,
-}
-
-impl Reads for EvenStore {
-    ghost use Rattle.std.specs.Prelude.{replicate};
-    ghost use Rattle.task_model.specs.Value.{value_term};
-
-    ghost values = { λ s. replicate s.count (value_term s.value) };
-
-    fn at(&self, _place: u64) -> &Value {
-        &self.value
-    }
-
-    fn count(&self) -> u64 {
-        self.count
-    }
-}
+use task_model::{Basic, Cont, OutOfMemory, Row, Slot, Tree, shared};
 
 // A user step over a pair of two shared editors, whose body reads a third place.
 fn small_tree(alloc: Global, first: u64, second: u64) -> Result<Tree, OutOfMemory> {
@@ -64,23 +41,5 @@ fn a_node_is_put_in(rt: HostRuntime) -> Result<(), Fail> {
     )?;
     assert!(rt; changed.is_some_and(|changed| same(&changed, &wanted) && !same(&changed, &tree)));
     assert!(rt; replace(alloc, &tree, &[Down::First], Tree::Fail)?.is_none());
-    Ok(())
-}
-
-#[test]
-fn a_value_of_a_part(rt: HostRuntime) -> Result<(), Fail> {
-    let alloc = rt.alloc();
-    let tree = small_tree(alloc, 0, 1)?;
-    for (count, there) in [(1, false), (2, true)] {
-        let store = EvenStore {
-            value: Value::Int(7),
-            count,
-        };
-        if let Some(pair) = node_at(&tree, &[Down::Step]) {
-            assert_eq!(rt; has_value(pair, &store), there);
-            assert_eq!(rt; value(alloc, pair, &store)?.is_some(), there);
-        }
-        assert!(rt; !has_value(&tree, &store));
-    }
     Ok(())
 }

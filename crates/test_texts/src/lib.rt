@@ -1,8 +1,10 @@
-//! What tests share: programs of their texts, and trees as text.
+//! What tests share: programs of their texts, trees as text, and the walk through tables of tests.
 #![tactic(auto)]
 
 mod sources;
+mod tables;
 mod trees;
 
 pub use sources::accepted;
+pub use tables::{BlockTest, assert_right, is_right, table_differences};
 pub use trees::tree_text;

@@ -9,11 +9,18 @@ use std::alloc::Global;
 use std::marker::Model;
 use std::sync::ledger::Ledger;
 use task_model::{
-    ActStop, BUDGET_LIMIT, Entry, Face, Item, OutOfMemory, Row, Steps, TaskText, Tree, Value,
-    copy_input,
+    ActStop, BUDGET_LIMIT, Entry, Face, Input, Item, OutOfMemory, Row, Steps, TaskText, Tree,
+    Value, copy_input,
 };
 use test_texts::accepted;
 use world_core::{OpenStop, Reply, Taken, World};
+
+/// How an entry is given to a world: in one part, or in two.
+#[derive(Clone, Copy)]
+pub enum Way {
+    Whole,
+    Parts,
+}
 
 /// A world where nothing is prepared.
 #[derive(Drop)]
@@ -27,15 +34,6 @@ impl Model for WorldBench {
     ghost view = { λ b. tt };
 
     ghost invariant = { λ b. IsNone b.world.next };
-}
-
-// What a refusal answers.
-fn refused(stop: ActStop) -> Result<Reply, OutOfMemory> {
-    match stop {
-        ActStop::NotOffered => Ok(Reply::NotOffered),
-        ActStop::Over => Ok(Reply::Over),
-        ActStop::Memory => Err(OutOfMemory),
-    }
 }
 
 // The line of the entry that an item took.
@@ -74,35 +72,42 @@ impl WorldBench {
         }
     }
 
-    /// Gives an entry to the world in one part.
+    // Takes an input of a seat.
+    fn take<L: Ledger>(
+        &mut self,
+        alloc: Global,
+        seat: u8,
+        input: Input,
+        way: Way,
+        steps: &mut Steps<L>,
+    ) -> Result<Taken, ActStop>
+        requires { IsSeat seat }
+    {
+        match way {
+            Way::Whole => self.world.handle(alloc, seat, input, steps),
+            Way::Parts => {
+                self.world.prepare(alloc, seat, input, steps)?;
+                Ok(self.world.commit())
+            }
+        }
+    }
+
+    /// Gives an entry to the world.
     pub fn handle<L: Ledger>(
         &mut self,
         alloc: Global,
         entry: &Entry,
+        way: Way,
         steps: &mut Steps<L>,
     ) -> Result<Reply, OutOfMemory>
         requires { IsSeat entry.now.seat }
     {
         let input = copy_input(alloc, &entry.input)?;
-        match self.world.handle(alloc, entry.seat, input, steps) {
+        match self.take(alloc, entry.seat, input, way, steps) {
             Ok(Taken { version }) => Ok(Reply::Taken(version)),
-            Err(stop) => refused(stop),
-        }
-    }
-
-    /// Gives an entry to the world in two parts.
-    pub fn handle_in_parts<L: Ledger>(
-        &mut self,
-        alloc: Global,
-        entry: &Entry,
-        steps: &mut Steps<L>,
-    ) -> Result<Reply, OutOfMemory>
-        requires { IsSeat entry.now.seat }
-    {
-        let input = copy_input(alloc, &entry.input)?;
-        match self.world.prepare(alloc, entry.seat, input, steps) {
-            Ok(()) => Ok(Reply::Taken(self.world.commit().version)),
-            Err(stop) => refused(stop),
+            Err(ActStop::NotOffered) => Ok(Reply::NotOffered),
+            Err(ActStop::Over) => Ok(Reply::Over),
+            Err(ActStop::Memory) => Err(OutOfMemory),
         }
     }
 

@@ -5,6 +5,6 @@ mod bench;
 mod script;
 mod showing;
 
-pub use bench::WorldBench;
+pub use bench::{Way, WorldBench};
 pub use script::Script;
 pub use showing::{history_text, reply_text, shows_each_node, state_text, world_text};

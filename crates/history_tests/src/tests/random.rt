@@ -4,7 +4,8 @@ use super::drawing::{Draws, drawn};
 use std::alloc::Global;
 use std::sync::ledger::Ledger;
 use task_model::{Face, OutOfMemory, Steps};
-use world_bench::{Script, WorldBench, history_text, state_text, world_text};
+use test_texts::BlockTest;
+use world_bench::{Script, Way, WorldBench, history_text, state_text, world_text};
 use world_core::Reply;
 
 /// Budgets with programs that don't end.
@@ -69,7 +70,7 @@ fn replied<L: Ledger>(
 ) -> Result<Reply, OutOfMemory> {
     let script = Script::of(alloc, line)?;
     match script.first() {
-        Some(entry) => bench.handle(alloc, entry, steps),
+        Some(entry) => bench.handle(alloc, entry, Way::Whole, steps),
         None => Err(OutOfMemory),
     }
 }
@@ -152,30 +153,35 @@ fn again<L: Ledger>(
     world_text(alloc, bench, steps)
 }
 
-/// What differs where the entries that a program took are run again.
-pub(super) fn differences<L: Ledger>(
-    alloc: Global,
-    block: &str,
-    steps: &mut Steps<L>,
-) -> Result<String, OutOfMemory> {
-    let (budget, source) = block.split_once('@').unwrap_or((block, ""));
-    let budget = budget.parse::<u32>().unwrap_or(0);
-    let mut bench = WorldBench::opened(alloc, source, budget, steps)?;
-    let tally = give_all(alloc, &mut bench, steps)?;
-    let history = history_text(alloc, &bench)?;
-    let told = world_text(alloc, &mut bench, steps)?;
-    let mut fresh = WorldBench::opened(alloc, source, budget, steps)?;
-    let again = again(alloc, &mut fresh, history.as_str(), steps)?;
-    if tally.is_right(budget) && told.as_str() == again.as_str() {
-        return Ok(String::new(alloc));
+/// A budget and a program, whose entries that were taken are run again.
+pub(super) struct Histories;
+
+impl BlockTest for Histories {
+    fn block_differences<L: Ledger>(
+        &self,
+        alloc: Global,
+        block: &str,
+        steps: &mut Steps<L>,
+    ) -> Result<String, OutOfMemory> {
+        let (budget, source) = block.split_once('@').unwrap_or((block, ""));
+        let budget = budget.parse::<u32>().unwrap_or(0);
+        let mut bench = WorldBench::opened(alloc, source, budget, steps)?;
+        let tally = give_all(alloc, &mut bench, steps)?;
+        let history = history_text(alloc, &bench)?;
+        let told = world_text(alloc, &mut bench, steps)?;
+        let mut fresh = WorldBench::opened(alloc, source, budget, steps)?;
+        let again = again(alloc, &mut fresh, history.as_str(), steps)?;
+        if tally.is_right(budget) && told.as_str() == again.as_str() {
+            return Ok(String::new(alloc));
+        }
+        let Tally {
+            taken,
+            refused,
+            over,
+            changed,
+        } = tally;
+        Ok(format!(in alloc;
+            "{source}\ntaken {taken} refused {refused} over {over} changed {changed}\n{told}\n{again}\n"
+        )?)
     }
-    let Tally {
-        taken,
-        refused,
-        over,
-        changed,
-    } = tally;
-    Ok(format!(in alloc;
-        "{source}\ntaken {taken} refused {refused} over {over} changed {changed}\n{told}\n{again}\n"
-    )?)
 }

@@ -6,8 +6,9 @@ use std::alloc::Global;
 use std::process::Abort;
 use task_model::OutOfMemory;
 
-// A block of a table: words behind `$ `, or else `run p.th`; the program, in which `{N PIECE}` stands for N times the piece; the status behind
-// `= `, and behind it the text on the error sink; and a transcript, whose lines behind `> ` are the script and whose other lines are written.
+// A block of a table: words behind `$ `, or else `run p.th`; the program, in which `{N PIECE}` stands for N times the piece, or `same program`
+// for that of the block above; the status behind `= `, and behind it the text on the error sink; and a transcript, whose lines behind `> ` are
+// the script and whose other lines are written.
 #[derive(Clone, Copy)]
 struct Block<'a> {
     words: &'a str,
@@ -17,11 +18,16 @@ struct Block<'a> {
     transcript: &'a str,
 }
 
-fn block_of(text: &str) -> Option<Block<'_>> {
+fn block_of<'a>(text: &'a str, above: &'a str) -> Option<Block<'a>> {
     let (head, rest) = text.split_once("\n= ")?;
     let (words, program) = match head.strip_prefix("$ ") {
         Some(behind) => behind.split_once('\n').unwrap_or((behind, "")),
         None => ("run p.th", head),
+    };
+    let program = if program == "same program" {
+        above
+    } else {
+        program
     };
     let (end, transcript) = rest.split_once('\n').unwrap_or((rest, ""));
     let (status, error) = end.split_once(' ').unwrap_or((end, ""));
@@ -57,10 +63,15 @@ fn push_line(text: &mut String, line: &str) -> Result<(), OutOfMemory> {
     Ok(())
 }
 
-fn assert_block(rt: &(impl Abort + AllocGlobal), text: &str) -> Result<(), OutOfMemory> {
-    let Some(block) = block_of(text) else {
+// Asserts a block below one of this program: its program.
+fn assert_block<'a>(
+    rt: &(impl Abort + AllocGlobal),
+    text: &'a str,
+    above: &'a str,
+) -> Result<&'a str, OutOfMemory> {
+    let Some(block) = block_of(text, above) else {
         assert!(rt; false, "{text}");
-        return Ok(());
+        return Ok(above);
     };
     let program = repeated(rt.alloc(), block.program)?;
     let (script, output) = script_and_output(rt.alloc(), block.transcript)?;
@@ -76,7 +87,7 @@ fn assert_block(rt: &(impl Abort + AllocGlobal), text: &str) -> Result<(), OutOf
     assert_eq!(rt; status, block.status, "{text}");
     assert_eq!(rt; out.taken(), output.as_str().as_bytes(), "{text}");
     assert_eq!(rt; err.taken(), error.as_str().as_bytes(), "{text}");
-    Ok(())
+    Ok(block.program)
 }
 
 // The blocks of a table, with an empty line between each two.
@@ -84,8 +95,9 @@ pub(crate) fn assert_blocks(
     rt: &(impl Abort + AllocGlobal),
     table: &str,
 ) -> Result<(), OutOfMemory> {
+    let mut program = "";
     for block in table.trim_end().split("\n\n") {
-        assert_block(rt, block)?;
+        program = assert_block(rt, block, program)?;
     }
     Ok(())
 }

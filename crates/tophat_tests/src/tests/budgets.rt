@@ -6,11 +6,7 @@ task main() : int = enter int >>? x . edit (x + 1)
 = 0
 
 $ run p.th --budget 1
-task main() : int = enter int >>? x . edit (x + 1)
-= 4 tophat: opening over budget
-
-$ run p.th --budget 100000
-task a() : int = edit 1 >>= x . b() task b() : int = edit 2 >>= x . a() task main() : int = a()
+same program
 = 4 tophat: opening over budget
 
 $ run p.th --budget 4
@@ -21,7 +17,7 @@ version 0 seat 1
 . edit int 3
 
 $ run p.th --budget 3
-task main() : int = edit 1 >>= x . edit 2 >>= y . edit 3
+same program
 = 4 tophat: opening over budget
 
 $ run p.th --budget 5
@@ -32,7 +28,7 @@ version 0 seat 1
 . edit bool true
 
 $ run p.th --budget 4
-task main() : bool = edit 1 >>= x . t("a") task t(s : text) : bool = edit s >>= y . edit true
+same program
 = 4 tophat: opening over budget
 
 $ run p.th --budget 2
@@ -59,7 +55,7 @@ version 1 seat 1
 . edit int 4
 
 $ run p.th --budget 4
-fun more(x : int) : int = x + 1 task add(x : int) : int = edit more(x) task main() : int = enter int >>? x . add(x)
+same program
 = 0
 > 1 . set 4
 taken 1
@@ -81,7 +77,7 @@ over budget
 not offered
 
 $ run p.th --budget 3
-task t() : int = edit 1 task no() : int = fail int task main() : int = t() <?> no()
+same program
 = 0
 > 1 . left
 taken 1
@@ -130,7 +126,7 @@ version 1 seat 1
 . edit int 4
 
 $ run p.th --budget 2
-task t() : int = edit 1 task main() : int = enter int >>? x . (t() <?> t())
+same program
 = 0
 > 1 . set 4
 taken 1
@@ -150,7 +146,7 @@ version 1 seat 1
 . edit int 4
 
 $ run p.th --budget 4
-task no() : int = fail int task main() : int = enter int >>? x . (no() <?> no())
+same program
 = 0
 > 1 . set 4
 taken 1
@@ -216,7 +212,7 @@ version 0 seat 1
 . edit int 1
 
 $ run p.th --budget 997
-task t0() : int = edit 1 {995 task t@() : int = t$() } task main() : int = t995()
+same program
 = 4 tophat: opening over budget
 
 $ run p.th --budget 1000000
@@ -231,7 +227,7 @@ version 0 seat 1
 . edit int 1
 
 $ run p.th --budget 126
-fun f0() : int = 1 {124 fun f@() : int = let a = 1 in if true then case nil int of [] -> 0 + -fst (f$(), 0) | x :: y -> 0 else 0 } task main() : int = edit (let a = 1 in let a = 2 in let a = 3 in f124())
+same program
 = 4 tophat: opening over budget
 
 $ run p.th --budget 1000000

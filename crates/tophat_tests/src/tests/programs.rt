@@ -28,12 +28,6 @@ taken 2
 version 2 seat 1
 . edit int 4
 
-task main() : bool = edit 1 >>= x . t("a") task t(s : text) : bool = edit s >>= y . edit true
-= 0
-> 1 show
-version 0 seat 1
-. edit bool true
-
 task main() : int = fail int <?> edit 1
 = 0
 > 1 show
@@ -372,7 +366,7 @@ taken 3
 version 3 seat 1
 . edit bool true
 
-task main() : bool = enter bool >>? b . if b then edit 1 >>? x . edit true else edit "a" >>? y . edit false
+same program
 = 0
 > 1 . set false
 taken 1
@@ -404,7 +398,7 @@ taken 3
 version 3 seat 1
 . edit bool true
 
-task main() : bool = enter [text] >>? l . case l of [] -> edit 1 >>? x . edit true | h :: t -> edit h >>? y . edit (len t == 2)
+same program
 = 0
 > 1 . set ["a", "b"]
 taken 1
@@ -437,7 +431,7 @@ taken 2
 version 2 seat 1
 . edit bool false
 
-task main() : bool = (edit 1 >>? x . edit true) <?> (edit "a" >>? y . edit false)
+same program
 = 0
 > 1 . left
 taken 1

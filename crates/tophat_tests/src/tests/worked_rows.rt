@@ -11,8 +11,10 @@ taken 2
 version 2 seat 1
 . edit int 5
 
-task main() : int = enter int >>? x . edit (x + 1)
+$ check p.th
+same program
 = 0
+task main ( ) : int = enter int >>? x . edit ( x + 1 )
 
 task main() : int = enter int >>? x . if x > 3 then edit x else fail int
 = 0
@@ -38,19 +40,6 @@ taken 2
 > 1 show
 version 2 seat 1
 . edit int 5
-
-task main() : (int, int) = new r = 7 in (enter int >>? x . (r := x ; if x > 0 then edit x else fail int)) <&> share r
-= 0
-> 1 .F set 0
-taken 1
-> 1 .F next
-not offered
-> 1 show
-version 1 seat 1
-. and
-.F step
-.F edit int 0
-.S share int 7
 
 task main() : (int, int) = new r = 1 in share r <&> share r
 = 0
@@ -99,16 +88,6 @@ taken 3
 version 3 seat 1
 . edit int 6
 
-$ run p.th --budget 4
-task loop() : int = edit 1 >>= x . loop()
-task main() : int = loop()
-= 0
-
-$ run p.th --budget 3
-task loop() : int = edit 1 >>= x . loop()
-task main() : int = loop()
-= 4 tophat: opening over budget
-
 task a() : int = edit 1 >>= x . b()
 task b() : int = edit 2 >>= x . a()
 task main() : int = a()
@@ -147,11 +126,6 @@ version 1 seat 1
 .S edit int 4
 
 $ check p.th
-task main() : int = enter int >>? x . edit (x + 1)
-= 0
-task main ( ) : int = enter int >>? x . edit ( x + 1 )
-
-$ check p.th
 # a message board
 task post(log : ref [text]) : [text] = enter text >>? m . (log := m :: !log ; post(log))
 task main() : ([text], [text]) = new log = nil text in post(log) <&> share log
@@ -159,8 +133,7 @@ task main() : ([text], [text]) = new log = nil text in post(log) <&> share log
 task post ( log : ref [ text ] ) : [ text ] = enter text >>? m . log := m :: ! log ; post ( log )
 task main ( ) : ( [ text ] , [ text ] ) = new log = nil text in post ( log ) <&> share log
 
-task post(log : ref [text]) : [text] = enter text >>? m . (log := m :: !log ; post(log))
-task main() : ([text], [text]) = new log = nil text in post(log) <&> share log
+same program
 = 0
 > 1 .F set "hello"
 taken 1
@@ -201,7 +174,7 @@ task main() : int = edit (1 + true)
 = 1 tophat: p.th: byte 30: Mismatch want int got bool
 
 $ check p.th
-task main() : int = edit (1 + true)
+same program
 = 1 tophat: p.th: byte 30: Mismatch want int got bool
 
 task main() : (int, [text]) = enter (int, [text])
@@ -266,23 +239,19 @@ task main() : int = loop()
 = 0
 
 $ run --budget 3 p.th
-task loop() : int = edit 1 >>= x . loop()
-task main() : int = loop()
+same program
 = 4 tophat: opening over budget
 
 $ run p.th --budget=00000000000000000003
-task loop() : int = edit 1 >>= x . loop()
-task main() : int = loop()
+same program
 = 4 tophat: opening over budget
 
 $ run --budget=3 -- p.th
-task loop() : int = edit 1 >>= x . loop()
-task main() : int = loop()
+same program
 = 4 tophat: opening over budget
 
 $ run -- p.th
-task loop() : int = edit 1 >>= x . loop()
-task main() : int = loop()
+same program
 = 0
 
 $ check -- p.th

@@ -6,15 +6,8 @@ use input_lines::print_entry;
 use std::alloc::Global;
 use std::sync::ledger::Ledger;
 use task_model::{Entry, OutOfMemory, Steps};
-use world_bench::{Script, WorldBench, history_text, reply_text, state_text, world_text};
+use world_bench::{Script, Way, WorldBench, history_text, reply_text, state_text, world_text};
 use world_core::{OpenStop, Reply};
-
-/// How an entry is given to a world: in one part; or in two, behind its being prepared and abandoned.
-#[derive(Clone, Copy)]
-enum Way {
-    Whole,
-    Parts,
-}
 
 // Whether an entry that is prepared and then abandoned is shown in between, if anything is, and leaves the world as it was.
 fn leaves_all<L: Ledger>(
@@ -31,22 +24,6 @@ fn leaves_all<L: Ledger>(
     let line = print_entry(alloc, entry)?;
     let is_shown = prepared.as_str().is_empty() || prepared.as_str() == line.as_str();
     Ok(is_shown && before.as_str() == after.as_str())
-}
-
-// The reply to an entry.
-fn replied<L: Ledger>(
-    alloc: Global,
-    bench: &mut WorldBench,
-    entry: &Entry,
-    way: Way,
-    steps: &mut Steps<L>,
-) -> Result<Reply, OutOfMemory>
-    requires { IsSeat entry.now.seat }
-{
-    match way {
-        Way::Whole => bench.handle(alloc, entry, steps),
-        Way::Parts => bench.handle_in_parts(alloc, entry, steps),
-    }
 }
 
 // Whether the history is the earlier one with one line more, and the version counts it.
@@ -111,7 +88,7 @@ fn given<L: Ledger>(
     let before = world_text(alloc, bench, steps)?;
     let earlier = history_text(alloc, bench)?;
     let version = bench.version();
-    let reply = replied(alloc, bench, entry, way, steps)?;
+    let reply = bench.handle(alloc, entry, way, steps)?;
     let rest = match reply {
         Reply::Taken(now) => { taken_text(alloc, bench, entry, earlier.as_str(), (version, now))? }
         _ => refused_text(alloc, bench, before.as_str(), steps)?,
@@ -121,7 +98,7 @@ fn given<L: Ledger>(
     Ok(text)
 }
 
-// The same, which is in two parts behind its being prepared and abandoned.
+// The same, which is prepared and abandoned before where it is given in two parts.
 fn told<L: Ledger>(
     alloc: Global,
     bench: &mut WorldBench,

@@ -4,7 +4,7 @@ ghost use Rattle.task_model.specs.State.{IsSeat};
 use std::alloc::Global;
 use std::sync::ledger::Ledger;
 use task_model::{Entry, OutOfMemory, Steps};
-use world_bench::{Script, WorldBench};
+use world_bench::{Script, Way, WorldBench};
 use world_core::Reply;
 
 /// Values, and programs with a mark for each of the values: `y` where it is taken, and a dot where it isn't.
@@ -43,7 +43,7 @@ fn reply_mark<L: Ledger>(
 ) -> Result<&'static str, OutOfMemory>
     requires { IsSeat entry.now.seat }
 {
-    match bench.handle(alloc, entry, steps)? {
+    match bench.handle(alloc, entry, Way::Whole, steps)? {
         Reply::Taken(_) => Ok("y"),
         Reply::NotOffered => Ok("."),
         Reply::Over => Ok("?"),

@@ -4,7 +4,7 @@ ghost use Rattle.task_model.specs.State.{IsSeat};
 use std::alloc::Global;
 use std::sync::ledger::Ledger;
 use task_model::{Entry, OutOfMemory, Steps};
-use world_bench::{Script, WorldBench, history_text, reply_text, state_text};
+use world_bench::{Script, Way, WorldBench, history_text, reply_text, state_text};
 use world_core::Reply;
 
 /// Programs, each with a line and what becomes of it.
@@ -55,7 +55,7 @@ fn is_right_again<L: Ledger>(
     if kept_text(alloc, bench)?.as_str() != before {
         return Ok(false);
     }
-    let reply = bench.handle(alloc, entry, steps)?;
+    let reply = bench.handle(alloc, entry, Way::Whole, steps)?;
     is_so(alloc, bench, reply, wanted)
 }
 
@@ -70,7 +70,7 @@ fn is_right<L: Ledger>(
     requires { IsSeat entry.now.seat }
 {
     let before = kept_text(alloc, bench)?;
-    match bench.handle(alloc, entry, steps) {
+    match bench.handle(alloc, entry, Way::Whole, steps) {
         Ok(reply) => is_so(alloc, bench, reply, wanted),
         Err(OutOfMemory) => {
             is_right_again(alloc, bench, entry, (before.as_str(), wanted), steps)

@@ -1,4 +1,0 @@
-use Rattle.engine_tests.proofs.tests.program_differences.Given as goal
-
-abbrev pub ghosts-counted_differences : goal.ghosts-counted_differences
-ghosts-counted_differences a = record { name = a.blank.name; parts = a.blank.parts }
