@@ -6,7 +6,7 @@ use Rattle.task_model.specs.Left.{Left}
 use Rattle.task_model.specs.Basic.{BasicTerm}
 use Rattle.task_model.specs.Value.{ValueTerm, value_term}
 use Rattle.task_model.specs.Env.{plain_slot}
-use Rattle.task_model.specs.Tree.{LaterTerm, TreeTerm, share_tree, then_tree, next_tree, State, at}
+use Rattle.task_model.specs.Tree.{LaterTerm, TreeTerm, share_tree, State, at}
 use Rattle.task_model.specs.Input.{InputTerm}
 use Rattle.task_model.specs.Checked.{CheckedTerm}
 use Rattle.task_model.specs.Handling.{unless_failing, handles, settled, interacts}
@@ -31,12 +31,6 @@ use Rattle.task_engine.specs.declared.kinds.PairKind.TheVariants as pairs
 module _ {c : CheckedTerm} {σ : List ValueTerm} where
   pub fits_is : {t u : TreeTerm} → t ≡ u → Fits c (at t σ) → Fits c (at u σ)
   fits_is e f = subst (λ z. Fits c (at z σ)) e f
-
-  pub fits_then : {t : TreeTerm} {k : LaterTerm} → Fits c (at (then_tree t k) σ) → Fits c (at t σ)
-  fits_then f = (f.0, f.2.tree.0, record { store = f.2.store; tree = f.2.tree.1 })
-
-  pub fits_next : {t : TreeTerm} {k : LaterTerm} → Fits c (at (next_tree t k) σ) → Fits c (at t σ)
-  fits_next f = (f.0, f.2.tree.0, record { store = f.2.store; tree = f.2.tree.1 })
 
   pub fits_pair_first : (kind : PairKind) (t u : TreeTerm) → Fits c (at (pair_tree kind t u) σ) → Fits c (at t σ)
   fits_pair_first pairs.And t u f = (f.0, f.2.tree.0, record { store = f.2.store; tree = f.2.tree.3 })
