@@ -1,9 +1,9 @@
 -- The end of an input: what its layer was kept or dropped for, and the outcome that is told.
-use Rattle.std.proofs.Common.{◌≡◌, ◌≤◌, ◌+◌, ℕ, List, map, Option, Some, None, Result, Ok, Err, refl, sym, ap, subst, arith}
+use Rattle.std.proofs.Common.{◌≡◌, ◌≤◌, ◌+◌, ℕ, List, map, Option, Some, None, Result, Ok, Err, sym, subst, arith}
 use Rattle.std.specs.Option.{option_map}
 use Rattle.std.specs.Prelude.{OnOk, IfOk, IfSome}
 use Rattle.task_model.specs.Left.{Left}
-use Rattle.task_model.specs.Value.{ValueTerm, value_term}
+use Rattle.task_model.specs.Value.{value_term}
 use Rattle.task_model.specs.Tree.{tree_term, State, at}
 use Rattle.task_model.specs.Input.{InputTerm}
 use Rattle.task_model.specs.Checked.{CheckedTerm}

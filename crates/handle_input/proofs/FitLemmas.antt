@@ -1,15 +1,14 @@
 -- What fits where an input goes on.
-use Rattle.std.proofs.Common.{◌≡◌, ℕ, suc, ◌<◌, List, [], ◌∷◌, ◌++◌, length, map, Option, Some, None, Ok, refl, ap, subst, arith}
+use Rattle.std.proofs.Common.{◌≡◌, ℕ, suc, ◌<◌, List, [], ◌∷◌, ◌++◌, length, map, Option, Ok, refl, ap, subst, arith}
 use Rattle.std.proofs.lemmas.List.{length-map}
 use Rattle.std.proofs.lemmas.Option.{slice_get_within}
 use Rattle.task_model.specs.Left.{Left}
 use Rattle.task_model.specs.Basic.{BasicTerm}
 use Rattle.task_model.specs.Value.{ValueTerm, value_term}
 use Rattle.task_model.specs.Env.{plain_slot}
-use Rattle.task_model.specs.Tree.{LaterTerm, TreeTerm, share_tree, then_tree, next_tree, and_tree, or_tree, xor_tree, State, at}
+use Rattle.task_model.specs.Tree.{LaterTerm, TreeTerm, share_tree, State, at}
 use Rattle.task_model.specs.Input.{InputTerm}
 use Rattle.task_model.specs.Checked.{CheckedTerm}
-use Rattle.task_model.specs.Rules.{value_of}
 use Rattle.task_model.specs.Handling.{unless_failing, handles, settled, interacts}
 use Rattle.task_model.specs.Calls.{RunsPlan}
 use Rattle.task_model.specs.Accepted.{IsAccepted}
@@ -19,50 +18,27 @@ use Rattle.typing_laws.specs.Supposed.{Supposed, Assured}
 use Rattle.typing_laws.specs.Well.{Well}
 use Rattle.typing_laws.proofs.GoodLemmas.{good_any}
 use Rattle.typing_laws.proofs.ValueLemmas.{good_branch}
-use Rattle.typing_laws.proofs.TreeLemmas.{value_typed, good_trial, good_side}
+use Rattle.typing_laws.proofs.TreeLemmas.{good_trial, good_side}
 use Rattle.typing_laws.proofs.ProgramLemmas.{facts_of}
 use Rattle.typing_laws.proofs.HandlingLemmas.{interacts_good}
 use Rattle.typing_laws.proofs.CallLemmas.{well_after}
 use Rattle.task_engine.specs.Fitting.{ContFits, SideFits}
+use Rattle.task_engine.specs.Kinds.{pair_tree}
+use Rattle.task_engine.specs.declared.kinds.PairKind.{PairKind}
+use Rattle.task_engine.specs.declared.kinds.PairKind.TheVariants as pairs
 
 -- ---- parts of a tree that fits
 module _ {c : CheckedTerm} {σ : List ValueTerm} where
   pub fits_is : {t u : TreeTerm} → t ≡ u → Fits c (at t σ) → Fits c (at u σ)
   fits_is e f = subst (λ z. Fits c (at z σ)) e f
 
-  pub fits_then : {t : TreeTerm} {k : LaterTerm} → Fits c (at (then_tree t k) σ) → Fits c (at t σ)
-  fits_then f = (f.0, f.2.tree.0, record { store = f.2.store; tree = f.2.tree.1 })
+  pub fits_pair_first : (kind : PairKind) (t u : TreeTerm) → Fits c (at (pair_tree kind t u) σ) → Fits c (at t σ)
+  fits_pair_first pairs.And t u f = (f.0, f.2.tree.0, record { store = f.2.store; tree = f.2.tree.3 })
+  fits_pair_first pairs.Or t u f = (f.0, f.1, record { store = f.2.store; tree = f.2.tree.0 })
 
-  pub fits_next : {t : TreeTerm} {k : LaterTerm} → Fits c (at (next_tree t k) σ) → Fits c (at t σ)
-  fits_next f = (f.0, f.2.tree.0, record { store = f.2.store; tree = f.2.tree.1 })
-
-  pub fits_and_first : {t u : TreeTerm} → Fits c (at (and_tree t u) σ) → Fits c (at t σ)
-  fits_and_first f = (f.0, f.2.tree.0, record { store = f.2.store; tree = f.2.tree.3 })
-
-  pub fits_and_second : {t u : TreeTerm} → Fits c (at (and_tree t u) σ) → Fits c (at u σ)
-  fits_and_second f = (f.0, f.2.tree.1, record { store = f.2.store; tree = f.2.tree.4 })
-
-  pub fits_or_first : {t u : TreeTerm} → Fits c (at (or_tree t u) σ) → Fits c (at t σ)
-  fits_or_first f = (f.0, f.1, record { store = f.2.store; tree = f.2.tree.0 })
-
-  pub fits_or_second : {t u : TreeTerm} → Fits c (at (or_tree t u) σ) → Fits c (at u σ)
-  fits_or_second f = (f.0, f.1, record { store = f.2.store; tree = f.2.tree.1 })
-
-  pub step_fits : {t : TreeTerm} {k : LaterTerm} {v : ValueTerm} → Fits c (at (next_tree t k) σ) → value_of t σ ≡ Some v → ContFits c k v σ
-  step_fits {t = t} {v = v} f e = record {
-    places = f.0;
-    takes = f.2.tree.0;
-    gives = f.1;
-    cont = f.2.tree.2;
-    value = value_typed c f.0 (at t σ) f.2.tree.0 v (record { store = f.2.store; tree = f.2.tree.1 }) e;
-    store = f.2.store;
-  }
-
-  pub left_fits : {j k : LaterTerm} → Fits c (at (xor_tree j k) σ) → SideFits c j σ
-  left_fits f = record { places = f.0; gives = f.1; side = f.2.tree.0; store = f.2.store }
-
-  pub right_fits : {j k : LaterTerm} → Fits c (at (xor_tree j k) σ) → SideFits c k σ
-  right_fits f = record { places = f.0; gives = f.1; side = f.2.tree.1; store = f.2.store }
+  pub fits_pair_second : (kind : PairKind) (t u : TreeTerm) → Fits c (at (pair_tree kind t u) σ) → Fits c (at u σ)
+  fits_pair_second pairs.And t u f = (f.0, f.2.tree.1, record { store = f.2.store; tree = f.2.tree.4 })
+  fits_pair_second pairs.Or t u f = (f.0, f.1, record { store = f.2.store; tree = f.2.tree.1 })
 
 types_long : (σ : List ValueTerm) (Σ : List BasicTerm) → StoreHas σ Σ → length σ ≡ length Σ
 types_long [] [] h = refl

@@ -5,11 +5,11 @@ use Rattle.std.specs.Prelude.{slice_set, get_or, IfSome}
 use Rattle.task_model.specs.Left.{Left}
 use Rattle.task_model.specs.Basic.{BasicTerm}
 use Rattle.task_model.specs.Value.{ValueTerm, value_has}
-use Rattle.task_model.specs.Tree.{LaterTerm, TreeTerm, edit_tree, share_tree, and_tree, or_tree, xor_tree, tree_term, State, at}
-use Rattle.task_model.specs.Input.{ActTerm, set_act, next_act, left_act, right_act}
+use Rattle.task_model.specs.Tree.{TreeTerm, edit_tree, share_tree, and_tree, or_tree, tree_term, at}
+use Rattle.task_model.specs.Input.{ActTerm, set_act, next_act}
 use Rattle.task_model.specs.Handling.{if_typed, at_editor, rebuilt, rebuilds, stopped, handled}
 use Rattle.task_model.specs.Checked.{CheckedTerm}
-use Rattle.task_model.specs.Plan.{Judgement, Derived, Plan, give, Derives}
+use Rattle.task_model.specs.Plan.{Judgement, Derived, give, Derives}
 use Rattle.task_model.specs.Rules.{rule_of}
 use Rattle.task_model.specs.Spends.{Spends}
 use Rattle.task_model.specs.Calls.{RunsJudgement, RunsPlan}
@@ -22,7 +22,10 @@ use Rattle.task_model.proofs.PlanLemmas.{under_at, low_derives}
 use Rattle.task_model.proofs.RanLemmas.{ran_give}
 use Rattle.host_eval.proofs.ListLemmas.{in_front}
 use Rattle.host_eval.proofs.RunLemmas.{ran_is}
-use Rattle.handle_input.specs.Editing.{typed_value, value_put, edited_tree, edited_state, picked_side}
+use Rattle.task_engine.specs.Kinds.{pair_tree}
+use Rattle.task_engine.specs.declared.kinds.PairKind.{PairKind}
+use Rattle.task_engine.specs.declared.kinds.PairKind.TheVariants as pairs
+use Rattle.handle_input.specs.Editing.{value_put, edited_tree, edited_state}
 
 -- what a call within a plan is told by a call that is no part of one
 pub asked_spent : (c : CheckedTerm) (q : Judgement) {X : Type 0} (view : X → Derived q) (old new : Left) (r : Result X Stop)
@@ -89,23 +92,22 @@ turned : (path : List Turn) (turn x : Turn) → 1 ≤ length path → get_or pat
 turned [] turn x le e = absurd (omega arith)
 turned (y ∷ ys) turn x le e = in_front (y ∷ ys) x le (sym e)
 
-module _ (c : CheckedTerm) (t u : TreeTerm) (σ : List ValueTerm) (path : List Turn) (turn : Turn) (act : ActTerm)
-    (le : 1 ≤ length path) where
-  pub and_first : get_or path 0 turn ≡ turns.First → handled c (and_tree t u) σ path act ≡ rebuilds (handled c t σ (tail_of path) act)
-      (λ t'. and_tree t' u)
-  and_first e = ap (λ p. handled c (and_tree t u) σ p act) (turned path turn turns.First le e)
+module _ (c : CheckedTerm) (t u : TreeTerm) (σ : List ValueTerm) (path : List Turn) (act : ActTerm) where
+  -- a path that is used up leads to neither part
+  pub pair_ends : (kind : PairKind) → path ≡ [] → handled c (pair_tree kind t u) σ path act ≡ give None
+  pair_ends pairs.And e = ap (λ p. handled c (and_tree t u) σ p act) e
+  pair_ends pairs.Or e = ap (λ p. handled c (or_tree t u) σ p act) e
 
-  pub and_second : get_or path 0 turn ≡ turns.Second → handled c (and_tree t u) σ path act ≡ rebuilds (handled c u σ (tail_of path) act)
-      (λ u'. and_tree t u')
-  and_second e = ap (λ p. handled c (and_tree t u) σ p act) (turned path turn turns.Second le e)
+  module _ (turn : Turn) (le : 1 ≤ length path) where
+    pub pair_first : (kind : PairKind) → get_or path 0 turn ≡ turns.First → handled c (pair_tree kind t u) σ path act
+        ≡ rebuilds (handled c t σ (tail_of path) act) (λ t'. pair_tree kind t' u)
+    pair_first pairs.And e = ap (λ p. handled c (and_tree t u) σ p act) (turned path turn turns.First le e)
+    pair_first pairs.Or e = ap (λ p. handled c (or_tree t u) σ p act) (turned path turn turns.First le e)
 
-  pub or_first : get_or path 0 turn ≡ turns.First → handled c (or_tree t u) σ path act ≡ rebuilds (handled c t σ (tail_of path) act)
-      (λ t'. or_tree t' u)
-  or_first e = ap (λ p. handled c (or_tree t u) σ p act) (turned path turn turns.First le e)
-
-  pub or_second : get_or path 0 turn ≡ turns.Second → handled c (or_tree t u) σ path act ≡ rebuilds (handled c u σ (tail_of path) act)
-      (λ u'. or_tree t u')
-  or_second e = ap (λ p. handled c (or_tree t u) σ p act) (turned path turn turns.Second le e)
+    pub pair_second : (kind : PairKind) → get_or path 0 turn ≡ turns.Second → handled c (pair_tree kind t u) σ path act
+        ≡ rebuilds (handled c u σ (tail_of path) act) (λ u'. pair_tree kind t u')
+    pair_second pairs.And e = ap (λ p. handled c (and_tree t u) σ p act) (turned path turn turns.Second le e)
+    pair_second pairs.Or e = ap (λ p. handled c (or_tree t u) σ p act) (turned path turn turns.Second le e)
 
 -- ---- what is held
 module _ (P : Type 0) where

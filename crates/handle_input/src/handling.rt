@@ -13,6 +13,7 @@ ghost use Rattle.task_model.specs.Checked.{CheckedTerm, checked_term};
 ghost use Rattle.task_model.specs.Fits.{Fits};
 ghost use Rattle.task_model.specs.Calls.{RunsPlan};
 ghost use Rattle.task_engine.specs.Fitting.{SideFits};
+ghost use Rattle.task_engine.specs.Kinds as kinds;
 ghost use Rattle.task_engine.specs.Stores.{values_in, state_in};
 ghost use Rattle.handle_input.specs.Editing.{picked_side};
 
@@ -28,7 +29,6 @@ use task_tree::value;
 /// Handles an act at the place that a path leads to: the tree that it leads to, or none where it is lacking. What doesn't lie on
 /// the path is shared with the tree that was.
 #[cycle(handled)]
-#[tactic(auto, using(crate::proofs::FitLemmas::fits_and_first, crate::proofs::FitLemmas::fits_and_second, crate::proofs::FitLemmas::fits_or_first, crate::proofs::FitLemmas::fits_or_second))]
 pub(crate) fn handled(
     engine: &Engine,
     t: &Tree,
@@ -56,32 +56,8 @@ pub(crate) fn handled(
         }
         Tree::Next(left, k) => at_next(engine, left, k, store, path, act, purse),
         Tree::Fail => Ok(None),
-        Tree::And(a, b) => match path {
-            [] => Ok(None),
-            [turn, rest @ ..] => match turn {
-                Turn::First => {
-                    let led = handled(engine, a, store, rest, act, purse)?;
-                    Ok(in_first(engine.alloc(), PairKind::And, led, b)?)
-                }
-                Turn::Second => {
-                    let led = handled(engine, b, store, rest, act, purse)?;
-                    Ok(in_second(engine.alloc(), PairKind::And, a, led)?)
-                }
-            },
-        },
-        Tree::Or(a, b) => match path {
-            [] => Ok(None),
-            [turn, rest @ ..] => match turn {
-                Turn::First => {
-                    let led = handled(engine, a, store, rest, act, purse)?;
-                    Ok(in_first(engine.alloc(), PairKind::Or, led, b)?)
-                }
-                Turn::Second => {
-                    let led = handled(engine, b, store, rest, act, purse)?;
-                    Ok(in_second(engine.alloc(), PairKind::Or, a, led)?)
-                }
-            },
-        },
+        Tree::And(a, b) => at_pair(engine, PairKind::And, a, b, store, path, act, purse),
+        Tree::Or(a, b) => at_pair(engine, PairKind::Or, a, b, store, path, act, purse),
         Tree::Xor(j, k) => at_xor(engine, j, k, store, path, act, purse),
     }
 }
@@ -132,6 +108,43 @@ fn stopped(
     match (path, act) {
         ([], Act::Next) => value(engine.alloc(), left, store),
         _ => Ok(None),
+    }
+}
+
+// At two parts of a kind: the path turns into one of them.
+#[cycle(handled)]
+fn at_pair(
+    engine: &Engine,
+    kind: PairKind,
+    a: &Arc<Tree>,
+    b: &Arc<Tree>,
+    store: &mut Store<Value>,
+    path: &[Turn],
+    act: &Act,
+    purse: &mut Purse,
+) -> Result<Option<Tree>, Stop>
+    requires accepted { IsAccepted (checked_term engine.now) }
+    requires fits { Fits (checked_term engine.now)
+        (at (kinds.pair_tree kind (tree_term (arc_value a.now)) (tree_term (arc_value b.now))) (values_in store.old)) }
+    ensures held { IfOk result (λ o. IfSome o (λ t. IsHeldAct (act_term act.now))) }
+    ensures height { OnOk result (purse.new.height ≡ purse.old.height) }
+    ensures layers { store.new.layers ≡ store.old.layers }
+    ensures ran { RunsPlan (checked_term engine.now)
+        (model.handled (checked_term engine.now) (kinds.pair_tree kind (tree_term (arc_value a.now)) (tree_term (arc_value b.now)))
+        (values_in store.old) path.now (act_term act.now)) (option_map (state_in store.new)) purse.old purse.new result }
+{
+    match path {
+        [] => Ok(None),
+        [turn, rest @ ..] => match turn {
+            Turn::First => {
+                let led = handled(engine, a, store, rest, act, purse)?;
+                Ok(in_first(engine.alloc(), kind, led, b)?)
+            }
+            Turn::Second => {
+                let led = handled(engine, b, store, rest, act, purse)?;
+                Ok(in_second(engine.alloc(), kind, a, led)?)
+            }
+        },
     }
 }
 

@@ -5,3 +5,4 @@ pub mod StartLemmas
 pub mod ChangeLemmas
 pub mod StrideLemmas
 pub mod SignLemmas
+pub mod FittingLemmas

@@ -1,4 +1,4 @@
--- Values, states and evaluations, over stores with layers.
+-- Values, states, evaluations and strides, over stores with layers.
 use Rattle.std.specs.Prelude.{List, map, Option, Result}
 use Rattle.shared_store.specs.Layered.{Layered}
 use Rattle.task_model.specs.Left.{Left}
@@ -7,8 +7,8 @@ use Rattle.task_model.specs.declared.value.Value.{Value}
 use Rattle.task_model.specs.Task.{TaskTerm}
 use Rattle.task_model.specs.Tree.{TreeTerm, tree_term, State, at}
 use Rattle.task_model.specs.Checked.{SeenChecked, checked_term}
-use Rattle.task_model.specs.Plan.{evaluates}
-use Rattle.task_model.specs.Rules.{evaluate_rule}
+use Rattle.task_model.specs.Plan.{evaluates, strides}
+use Rattle.task_model.specs.Rules.{evaluate_rule, stride_rule}
 use Rattle.task_model.specs.Calls.{RunsPlan}
 use Rattle.task_model.specs.declared.purse.Stop.{Stop}
 use Rattle.task_model.specs.declared.tree.Tree.{Tree}
@@ -36,3 +36,11 @@ MayEvaluate c t names s = MayAsk (checked_term c) (evaluates t (names_term names
 -- a task was evaluated by its rule, from a store to another
 abbrev pub RunsEvaluation : SeenChecked → TaskTerm → Names → Layered Value → Layered Value → Left → Left → Result Tree Stop → Type 0
 RunsEvaluation c t names s s' = RunsPlan (checked_term c) (evaluate_rule (checked_term c) t (names_term names) (values_in s)) (state_in s')
+
+-- a tree may stride
+abbrev pub MayStride : SeenChecked → TreeTerm → Layered Value → Type 0
+MayStride c t s = MayAsk (checked_term c) (strides (at t (values_in s)))
+
+-- a tree strode by its rule, from a store to another
+abbrev pub RunsStride : SeenChecked → TreeTerm → Layered Value → Layered Value → Left → Left → Result (Option Tree) Stop → Type 0
+RunsStride c t s s' = RunsPlan (checked_term c) (stride_rule (checked_term c) t (values_in s)) (state_after t s')

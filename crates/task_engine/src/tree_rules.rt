@@ -12,7 +12,7 @@ ghost use Rattle.task_model.specs.Rules as rules;
 ghost use Rattle.task_model.specs.Calls.{RunsJudgement, RunsPlan};
 ghost use Rattle.typing_laws.specs.Well.{MayAsk, Well};
 ghost use Rattle.host_eval.specs.NamesTerm.{names_term};
-ghost use Rattle.task_engine.specs.Stores.{values_in, state_in, state_after};
+ghost use Rattle.task_engine.specs.Stores.{values_in, state_in, state_after, MayStride, RunsStride};
 ghost use Rattle.task_engine.specs.Strides.{Calm, after_stride, state_at, attempt, Binds, BindsNone, AnswersStride};
 
 use crate::engine::{Engine, binder_of};
@@ -269,7 +269,7 @@ pub(crate) fn stride_all(
     purse: &mut Purse,
 ) -> Result<Tree, Stop>
     requires accepted { IsAccepted (checked_term engine.now) }
-    requires may { MayAsk (checked_term engine.now) (strides (state_in store.old t)) }
+    requires may { MayStride engine.now (tree_term t) store.old }
     ensures height { OnOk result (purse.new.height ≡ purse.old.height) }
     ensures layers { store.new.layers ≡ store.old.layers }
     ensures ran { RunsPlan (checked_term engine.now) (stride_on (state_in store.old t) give) (state_in store.new)
@@ -315,7 +315,7 @@ fn changing(
     purse: &mut Purse,
 ) -> Result<Option<Tree>, Stop>
     requires accepted { IsAccepted (checked_term engine.now) }
-    requires may { MayAsk (checked_term engine.now) (strides (state_in store.old t.now)) }
+    requires may { MayStride engine.now (tree_term t.now) store.old }
     ensures height { OnOk result (purse.new.height ≡ purse.old.height) }
     ensures layers { store.new.layers ≡ store.old.layers }
     ensures none { IfOk result (λ o. o ≡ None → values_in store.new ≡ values_in store.old) }
@@ -338,7 +338,7 @@ pub(crate) fn stride_at(
     purse: &mut Purse,
 ) -> Result<Option<Tree>, Stop>
     requires accepted { IsAccepted (checked_term engine.now) }
-    requires may { MayAsk (checked_term engine.now) (strides (state_in store.old t.now)) }
+    requires may { MayStride engine.now (tree_term t.now) store.old }
     ensures height { OnOk result (purse.new.height ≡ purse.old.height) }
     ensures layers { store.new.layers ≡ store.old.layers }
     ensures kept { IfOk result (λ o. o ≡ None → store.new.list ≡ store.old.list) }
@@ -362,13 +362,12 @@ fn stride_form(
     purse: &mut Purse,
 ) -> Result<Option<Tree>, Stop>
     requires accepted { IsAccepted (checked_term engine.now) }
-    requires may { MayAsk (checked_term engine.now) (strides (state_in store.old t.now)) }
+    requires may { MayStride engine.now (tree_term t.now) store.old }
     ensures height { OnOk result (purse.new.height ≡ purse.old.height) }
     ensures layers { store.new.layers ≡ store.old.layers }
     ensures kept { IfOk result (λ o. o ≡ None → store.new.list ≡ store.old.list) }
     ensures calm { IfOk result (λ o. o ≡ None → Calm (tree_term t.now) (values_in store.new)) }
-    ensures ran { RunsPlan (checked_term engine.now) (rules.stride_rule (checked_term engine.now) (tree_term t.now) (values_in store.old))
-        (state_after (tree_term t.now) store.new) purse.old purse.new result }
+    ensures ran { RunsStride engine.now (tree_term t.now) store.old store.new purse.old purse.new result }
 {
     match t {
         Tree::Edit(..) => Ok(None),
@@ -392,14 +391,12 @@ fn next_form(
     purse: &mut Purse,
 ) -> Result<Option<Tree>, Stop>
     requires accepted { IsAccepted (checked_term engine.now) }
-    requires may { MayAsk (checked_term engine.now)
-        (strides (at (trees.next_tree (tree_term left.now) (cont_term k.now)) (values_in store.old))) }
+    requires may { MayStride engine.now (trees.next_tree (tree_term left.now) (cont_term k.now)) store.old }
     ensures height { OnOk result (purse.new.height ≡ purse.old.height) }
     ensures layers { store.new.layers ≡ store.old.layers }
     ensures kept { IfOk result (λ o. o ≡ None → store.new.list ≡ store.old.list) }
-    ensures ran { RunsPlan (checked_term engine.now)
-        (rules.stride_rule (checked_term engine.now) (trees.next_tree (tree_term left.now) (cont_term k.now)) (values_in store.old))
-        (state_after (trees.next_tree (tree_term left.now) (cont_term k.now)) store.new) purse.old purse.new result }
+    ensures ran { RunsStride engine.now (trees.next_tree (tree_term left.now) (cont_term k.now))
+        store.old store.new purse.old purse.new result }
 {
     let strode = stride_at(engine, left, store, purse)?;
     Ok(step_of(engine.alloc(), StepKind::Next, strode, k)?)
@@ -414,18 +411,14 @@ fn and_form(
     purse: &mut Purse,
 ) -> Result<Option<Tree>, Stop>
     requires accepted { IsAccepted (checked_term engine.now) }
-    requires may { MayAsk (checked_term engine.now)
-        (strides (at (trees.and_tree (tree_term (arc_value a.now)) (tree_term (arc_value b.now))) (values_in store.old))) }
+    requires may { MayStride engine.now (trees.and_tree (tree_term (arc_value a.now)) (tree_term (arc_value b.now))) store.old }
     ensures height { OnOk result (purse.new.height ≡ purse.old.height) }
     ensures layers { store.new.layers ≡ store.old.layers }
     ensures kept { IfOk result (λ o. o ≡ None → store.new.list ≡ store.old.list) }
     ensures calm { IfOk result
         (λ o. o ≡ None → Calm (trees.and_tree (tree_term (arc_value a.now)) (tree_term (arc_value b.now))) (values_in store.new)) }
-    ensures ran { RunsPlan (checked_term engine.now)
-        (rules.stride_rule (checked_term engine.now) (trees.and_tree (tree_term (arc_value a.now)) (tree_term (arc_value b.now)))
-        (values_in store.old))
-        (state_after (trees.and_tree (tree_term (arc_value a.now)) (tree_term (arc_value b.now))) store.new)
-        purse.old purse.new result }
+    ensures ran { RunsStride engine.now (trees.and_tree (tree_term (arc_value a.now)) (tree_term (arc_value b.now)))
+        store.old store.new purse.old purse.new result }
 {
     let t = stride_at(engine, a, store, purse)?;
     let u = stride_at(engine, b, store, purse)?;
@@ -441,18 +434,14 @@ fn or_form(
     purse: &mut Purse,
 ) -> Result<Option<Tree>, Stop>
     requires accepted { IsAccepted (checked_term engine.now) }
-    requires may { MayAsk (checked_term engine.now)
-        (strides (at (trees.or_tree (tree_term (arc_value a.now)) (tree_term (arc_value b.now))) (values_in store.old))) }
+    requires may { MayStride engine.now (trees.or_tree (tree_term (arc_value a.now)) (tree_term (arc_value b.now))) store.old }
     ensures height { OnOk result (purse.new.height ≡ purse.old.height) }
     ensures layers { store.new.layers ≡ store.old.layers }
     ensures kept { IfOk result (λ o. o ≡ None → store.new.list ≡ store.old.list) }
     ensures calm { IfOk result
         (λ o. o ≡ None → Calm (trees.or_tree (tree_term (arc_value a.now)) (tree_term (arc_value b.now))) (values_in store.new)) }
-    ensures ran { RunsPlan (checked_term engine.now)
-        (rules.stride_rule (checked_term engine.now) (trees.or_tree (tree_term (arc_value a.now)) (tree_term (arc_value b.now)))
-        (values_in store.old))
-        (state_after (trees.or_tree (tree_term (arc_value a.now)) (tree_term (arc_value b.now))) store.new)
-        purse.old purse.new result }
+    ensures ran { RunsStride engine.now (trees.or_tree (tree_term (arc_value a.now)) (tree_term (arc_value b.now)))
+        store.old store.new purse.old purse.new result }
 {
     let t = stride_at(engine, a, store, purse)?;
     if strode_has_value(&t, a, store) {
@@ -472,14 +461,12 @@ fn then_form(
     purse: &mut Purse,
 ) -> Result<Option<Tree>, Stop>
     requires accepted { IsAccepted (checked_term engine.now) }
-    requires may { MayAsk (checked_term engine.now)
-        (strides (at (trees.then_tree (tree_term left.now) (cont_term k.now)) (values_in store.old))) }
+    requires may { MayStride engine.now (trees.then_tree (tree_term left.now) (cont_term k.now)) store.old }
     ensures height { OnOk result (purse.new.height ≡ purse.old.height) }
     ensures layers { store.new.layers ≡ store.old.layers }
     ensures kept { IfOk result (λ o. o ≡ None → store.new.list ≡ store.old.list) }
-    ensures ran { RunsPlan (checked_term engine.now)
-        (rules.stride_rule (checked_term engine.now) (trees.then_tree (tree_term left.now) (cont_term k.now)) (values_in store.old))
-        (state_after (trees.then_tree (tree_term left.now) (cont_term k.now)) store.new) purse.old purse.new result }
+    ensures ran { RunsStride engine.now (trees.then_tree (tree_term left.now) (cont_term k.now))
+        store.old store.new purse.old purse.new result }
 {
     let strode = stride_at(engine, left, store, purse)?;
     fired(engine, left, strode, k, store, purse)

@@ -1,9 +1,8 @@
-use Rattle.std.proofs.Common.{Bool, map, Ok, Err, Result, refl, ◌∙◌}
+use Rattle.std.proofs.Common.{map, Ok, Err, refl}
 use Rattle.task_model.specs.Value.{value_term}
 use Rattle.task_model.specs.Task.{task_term}
 use Rattle.task_model.specs.Tree.{tree_term, at}
 use Rattle.task_model.specs.declared.tree.Tree.{Tree}
-use Rattle.task_model.specs.declared.purse.Stop.{Stop}
 use Rattle.task_model.specs.Checked.{checked_term}
 use Rattle.task_model.specs.Plan.{fails, normal}
 use Rattle.task_model.proofs.RanLemmas.{stopped, ran_give, ran_ask, ran_ask_stops}

@@ -2,7 +2,7 @@ use Rattle.std.proofs.Common.{map, refl, sym, ap, rules}
 use Rattle.std.specs.Arc.{arc_value}
 use Rattle.task_model.specs.Basic.{basic_term}
 use Rattle.task_model.specs.Value.{value_term}
-use Rattle.task_model.specs.Tree.{TreeTerm, tree_term, cont_term, then_tree, next_tree, and_tree, or_tree}
+use Rattle.task_model.specs.Tree.{TreeTerm, tree_term, cont_term, then_tree, next_tree}
 use Rattle.task_model.specs.Input.{act_term}
 use Rattle.task_model.specs.Checked.{checked_term}
 use Rattle.task_model.specs.Handling.{handled, rebuilds, at_step}
@@ -10,8 +10,10 @@ use Rattle.task_model.proofs.RanLemmas.{stopped, ran_give, ran_after, ran_after_
 use Rattle.host_eval.proofs.ListLemmas.{empty}
 use Rattle.host_eval.proofs.RunLemmas.{ran_is}
 use Rattle.handle_input.specs.Editing.{value_put, edited_tree}
-use Rattle.handle_input.proofs.FitLemmas.{fits_is, fits_then, fits_next, fits_and_first, fits_and_second, fits_or_first, fits_or_second, step_fits, share_within}
-use Rattle.handle_input.proofs.HandledLemmas.{editor_is, place_is, ran_made_option, ran_rebuilt, held_rebuilt, stopped_value, and_first, and_second, or_first, or_second}
+use Rattle.task_engine.specs.Kinds.{pair_tree}
+use Rattle.task_engine.proofs.FittingLemmas.{step_fits}
+use Rattle.handle_input.proofs.FitLemmas.{fits_is, fits_pair_first, fits_pair_second, share_within}
+use Rattle.handle_input.proofs.HandledLemmas.{editor_is, place_is, ran_made_option, ran_rebuilt, held_rebuilt, stopped_value, pair_first, pair_second, pair_ends}
 use Rattle.handle_input.proofs.handling.+handled.Goals as goal
 
 -- ---- editors
@@ -78,7 +80,7 @@ handled-returns-in-Xor-clause-ran t c = rw c.in-Xor.is c.at_xor.ensures.ran
 pub at_next-stepped-requires-clause-fits : goal.at_next-stepped-requires-clause-fits
 at_next-stepped-requires-clause-fits t c =
     let value = rw (c.in-Some.is, c.deref.ensures) at c.in_ok-stopped.ensures.value in
-    step_fits c.requires.fits (stopped_value _ _ _ _ (sym value))
+    step_fits _ _ _ _ _ c.requires.fits (stopped_value _ _ _ _ (sym value))
 
 pub at_next-returns-in_err-led-in-None-clause-ran : goal.at_next-returns-in_err-led-in-None-clause-ran
 at_next-returns-in_err-led-in-None-clause-ran t c =
@@ -107,111 +109,74 @@ at_next-returns-in_ok-in_step-in-None-clause-ran t c =
     (ran_rebuilt (λ (u : TreeTerm). next_tree u k) _ c.in_ok-led-in-None.led c.in_ok-in_step-in-None.ensures))
 
 -- ---- pairs
-pub handled-returns-in-empty-clause-ran : goal.handled-returns-in-empty-clause-ran
-handled-returns-in-empty-clause-ran t c =
-    let path = empty c.args.path.now c.in-empty.len_below in rw c.in-And.is (rw path (ran_give refl))
+pub handled-returns-in-And-clause-ran : goal.handled-returns-in-And-clause-ran
+handled-returns-in-And-clause-ran t c = rw c.in-And.is c.at_pair.ensures.ran
 
-pub handled-returns-in_err-led-in-First-clause-ran : goal.handled-returns-in_err-led-in-First-clause-ran
-handled-returns-in_err-led-in-First-clause-ran t c =
+pub handled-returns-in-Or-clause-ran : goal.handled-returns-in-Or-clause-ran
+handled-returns-in-Or-clause-ran t c = rw c.in-Or.is c.at_pair-in-Or.ensures.ran
+
+pub at_pair-returns-in-empty-clause-ran : goal.at_pair-returns-in-empty-clause-ran
+at_pair-returns-in-empty-clause-ran t c =
     let checked = checked_term c.args.engine.now in
     let σ = map value_term c.args.store.now.list in
     let path = c.args.path.now in
     let act = act_term c.args.act.now in
-    let left = tree_term c.in-And.a.value in
-    let right = tree_term c.in-And.b.value in
-    rw (stopped _ c.in_err-led-in-First.field-0.0 c.from_residual-in_err-led-in-First.ensures.1, c.in-And.is)
-    (ran_is (and_first checked left right σ path _ act c.in-len1-up.len_at_least c.in-First.is)
-    (ran_after_stops _ (rw c.deref-in-First.ensures at c.in_err-led-in-First.ensures.ran)))
+    let left = tree_term (arc_value c.args.a.now) in
+    let right = tree_term (arc_value c.args.b.now) in
+    ran_is (pair_ends checked left right σ path act c.args.kind (empty path c.in-empty.len_below)) (ran_give refl)
 
-pub handled-returns-in_ok-in_first-in-First-clause-ran : goal.handled-returns-in_ok-in_first-in-First-clause-ran
-handled-returns-in_ok-in_first-in-First-clause-ran t c =
+pub at_pair-handled-requires : goal.at_pair-handled-requires
+at_pair-handled-requires t c =
+    (search rules, (c.requires.accepted, rw c.deref.ensures (fits_pair_first c.args.kind _ _ c.requires.fits)))
+
+pub at_pair-returns-in_err-led-in-First-clause-ran : goal.at_pair-returns-in_err-led-in-First-clause-ran
+at_pair-returns-in_err-led-in-First-clause-ran t c =
     let checked = checked_term c.args.engine.now in
     let σ = map value_term c.args.store.now.list in
     let path = c.args.path.now in
     let act = act_term c.args.act.now in
-    let left = tree_term c.in-And.a.value in
-    let right = tree_term c.in-And.b.value in
-    rw c.in-And.is
-    (ran_is (and_first checked left right σ path _ act c.in-len1-up.len_at_least c.in-First.is)
-    (ran_after _ (rw c.deref-in-First.ensures at c.in_ok-led-in-First.ensures.ran)
-    (ran_rebuilt (λ (u : TreeTerm). and_tree u right) _ c.in_ok-led-in-First.led c.in_ok-in_first-in-First.ensures)))
+    let left = tree_term (arc_value c.args.a.now) in
+    let right = tree_term (arc_value c.args.b.now) in
+    rw (stopped _ c.in_err-led-in-First.field-0.0 c.from_residual.ensures.1)
+    (ran_is (pair_first checked left right σ path act _ c.in-len1-up.len_at_least c.args.kind c.in-First.is)
+    (ran_after_stops _ (rw c.deref.ensures at c.in_err-led-in-First.ensures.ran)))
 
-pub handled-returns-in_err-led-in-Second-clause-ran : goal.handled-returns-in_err-led-in-Second-clause-ran
-handled-returns-in_err-led-in-Second-clause-ran t c =
+pub at_pair-returns-in_ok-in_first-in-First-clause-ran : goal.at_pair-returns-in_ok-in_first-in-First-clause-ran
+at_pair-returns-in_ok-in_first-in-First-clause-ran t c =
     let checked = checked_term c.args.engine.now in
     let σ = map value_term c.args.store.now.list in
     let path = c.args.path.now in
     let act = act_term c.args.act.now in
-    let left = tree_term c.in-And.a.value in
-    let right = tree_term c.in-And.b.value in
-    rw (stopped _ c.in_err-led-in-Second.field-0.0 c.from_residual-in_err-led-in-Second.ensures.1, c.in-And.is)
-    (ran_is (and_second checked left right σ path _ act c.in-len1-up.len_at_least c.in-Second.is)
+    let left = tree_term (arc_value c.args.a.now) in
+    let right = tree_term (arc_value c.args.b.now) in
+    ran_is (pair_first checked left right σ path act _ c.in-len1-up.len_at_least c.args.kind c.in-First.is)
+    (ran_after _ (rw c.deref.ensures at c.in_ok-led-in-First.ensures.ran)
+    (ran_rebuilt (λ (u : TreeTerm). pair_tree c.args.kind u right) _ c.in_ok-led-in-First.led c.in_ok-in_first-in-First.ensures))
+
+pub at_pair-handled-requires-in-Second : goal.at_pair-handled-requires-in-Second
+at_pair-handled-requires-in-Second t c =
+    (search rules, (c.requires.accepted, rw c.deref-in-Second.ensures (fits_pair_second c.args.kind _ _ c.requires.fits)))
+
+pub at_pair-returns-in_err-led-in-Second-clause-ran : goal.at_pair-returns-in_err-led-in-Second-clause-ran
+at_pair-returns-in_err-led-in-Second-clause-ran t c =
+    let checked = checked_term c.args.engine.now in
+    let σ = map value_term c.args.store.now.list in
+    let path = c.args.path.now in
+    let act = act_term c.args.act.now in
+    let left = tree_term (arc_value c.args.a.now) in
+    let right = tree_term (arc_value c.args.b.now) in
+    rw (stopped _ c.in_err-led-in-Second.field-0.0 c.from_residual-in_err-led-in-Second.ensures.1)
+    (ran_is (pair_second checked left right σ path act _ c.in-len1-up.len_at_least c.args.kind c.in-Second.is)
     (ran_after_stops _ (rw c.deref-in-Second.ensures at c.in_err-led-in-Second.ensures.ran)))
 
-pub handled-returns-in_ok-in_second-in-Second-clause-ran : goal.handled-returns-in_ok-in_second-in-Second-clause-ran
-handled-returns-in_ok-in_second-in-Second-clause-ran t c =
+pub at_pair-returns-in_ok-in_second-in-Second-clause-ran : goal.at_pair-returns-in_ok-in_second-in-Second-clause-ran
+at_pair-returns-in_ok-in_second-in-Second-clause-ran t c =
     let checked = checked_term c.args.engine.now in
     let σ = map value_term c.args.store.now.list in
     let path = c.args.path.now in
     let act = act_term c.args.act.now in
-    let left = tree_term c.in-And.a.value in
-    let right = tree_term c.in-And.b.value in
-    rw c.in-And.is
-    (ran_is (and_second checked left right σ path _ act c.in-len1-up.len_at_least c.in-Second.is)
+    let left = tree_term (arc_value c.args.a.now) in
+    let right = tree_term (arc_value c.args.b.now) in
+    ran_is (pair_second checked left right σ path act _ c.in-len1-up.len_at_least c.args.kind c.in-Second.is)
     (ran_after _ (rw c.deref-in-Second.ensures at c.in_ok-led-in-Second.ensures.ran)
-    (ran_rebuilt (λ (u : TreeTerm). and_tree left u) _ c.in_ok-led-in-Second.led c.in_ok-in_second-in-Second.ensures)))
-
--- ---- internal choices
-pub handled-returns-in-empty-path-clause-ran : goal.handled-returns-in-empty-path-clause-ran
-handled-returns-in-empty-path-clause-ran t c =
-    let path = empty c.args.path.now c.in-empty-path.len_below in rw c.in-Or.is (rw path (ran_give refl))
-
-pub handled-returns-in_err-led-in-First-turn-clause-ran : goal.handled-returns-in_err-led-in-First-turn-clause-ran
-handled-returns-in_err-led-in-First-turn-clause-ran t c =
-    let checked = checked_term c.args.engine.now in
-    let σ = map value_term c.args.store.now.list in
-    let path = c.args.path.now in
-    let act = act_term c.args.act.now in
-    let left = tree_term c.in-Or.a.value in
-    let right = tree_term c.in-Or.b.value in
-    rw (stopped _ c.in_err-led-in-First-turn.field-0.0 c.from_residual-in_err-led-in-First-turn.ensures.1, c.in-Or.is)
-    (ran_is (or_first checked left right σ path _ act c.in-len1-up-path.len_at_least c.in-First-turn.is)
-    (ran_after_stops _ (rw c.deref-in-First-turn.ensures at c.in_err-led-in-First-turn.ensures.ran)))
-
-pub handled-returns-in_ok-in_first-in-First-turn-clause-ran : goal.handled-returns-in_ok-in_first-in-First-turn-clause-ran
-handled-returns-in_ok-in_first-in-First-turn-clause-ran t c =
-    let checked = checked_term c.args.engine.now in
-    let σ = map value_term c.args.store.now.list in
-    let path = c.args.path.now in
-    let act = act_term c.args.act.now in
-    let left = tree_term c.in-Or.a.value in
-    let right = tree_term c.in-Or.b.value in
-    rw c.in-Or.is
-    (ran_is (or_first checked left right σ path _ act c.in-len1-up-path.len_at_least c.in-First-turn.is)
-    (ran_after _ (rw c.deref-in-First-turn.ensures at c.in_ok-led-in-First-turn.ensures.ran)
-    (ran_rebuilt (λ (u : TreeTerm). or_tree u right) _ c.in_ok-led-in-First-turn.led c.in_ok-in_first-in-First-turn.ensures)))
-
-pub handled-returns-in_err-led-in-Second-turn-clause-ran : goal.handled-returns-in_err-led-in-Second-turn-clause-ran
-handled-returns-in_err-led-in-Second-turn-clause-ran t c =
-    let checked = checked_term c.args.engine.now in
-    let σ = map value_term c.args.store.now.list in
-    let path = c.args.path.now in
-    let act = act_term c.args.act.now in
-    let left = tree_term c.in-Or.a.value in
-    let right = tree_term c.in-Or.b.value in
-    rw (stopped _ c.in_err-led-in-Second-turn.field-0.0 c.from_residual-in_err-led-in-Second-turn.ensures.1, c.in-Or.is)
-    (ran_is (or_second checked left right σ path _ act c.in-len1-up-path.len_at_least c.in-Second-turn.is)
-    (ran_after_stops _ (rw c.deref-in-Second-turn.ensures at c.in_err-led-in-Second-turn.ensures.ran)))
-
-pub handled-returns-in_ok-in_second-in-Second-turn-clause-ran : goal.handled-returns-in_ok-in_second-in-Second-turn-clause-ran
-handled-returns-in_ok-in_second-in-Second-turn-clause-ran t c =
-    let checked = checked_term c.args.engine.now in
-    let σ = map value_term c.args.store.now.list in
-    let path = c.args.path.now in
-    let act = act_term c.args.act.now in
-    let left = tree_term c.in-Or.a.value in
-    let right = tree_term c.in-Or.b.value in
-    rw c.in-Or.is
-    (ran_is (or_second checked left right σ path _ act c.in-len1-up-path.len_at_least c.in-Second-turn.is)
-    (ran_after _ (rw c.deref-in-Second-turn.ensures at c.in_ok-led-in-Second-turn.ensures.ran)
-    (ran_rebuilt (λ (u : TreeTerm). or_tree left u) _ c.in_ok-led-in-Second-turn.led c.in_ok-in_second-in-Second-turn.ensures)))
+    (ran_rebuilt (λ (u : TreeTerm). pair_tree c.args.kind left u) _ c.in_ok-led-in-Second.led c.in_ok-in_second-in-Second.ensures))

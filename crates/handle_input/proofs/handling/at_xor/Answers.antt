@@ -3,12 +3,12 @@ use Rattle.task_model.specs.Value.{value_term}
 use Rattle.task_model.specs.Checked.{checked_term}
 use Rattle.task_model.proofs.RanLemmas.{ran_give}
 use Rattle.host_eval.proofs.RunLemmas.{ran_is}
-use Rattle.handle_input.proofs.FitLemmas.{left_fits, right_fits}
+use Rattle.task_engine.proofs.FittingLemmas.{left_fits, right_fits}
 use Rattle.handle_input.proofs.handling.at_xor.Goals as goal
 
 pub side_taken-requires-clause-fits : goal.side_taken-requires-clause-fits
 side_taken-requires-clause-fits c = c.in-Some.ensures.fits (checked_term c.args.engine.now) (map value_term c.args.store.now.list)
-    (left_fits c.requires.fits) (right_fits c.requires.fits)
+    (left_fits _ _ _ _ c.requires.fits) (right_fits _ _ _ _ c.requires.fits)
 
 pub returns-in-Some-clause-ran : goal.returns-in-Some-clause-ran
 returns-in-Some-clause-ran c = ran_is (c.in-Some.ensures.plan (checked_term c.args.engine.now) (map value_term c.args.store.now.list))

@@ -1,5 +1,4 @@
 use Rattle.std.proofs.Common.{◌∙◌, arith}
-use Rattle.task_model.proofs.RanLemmas.{stopped}
 use Rattle.task_engine.proofs.SignLemmas.{ran_spends}
 use Rattle.handle_input.proofs.EndLemmas.{ran_ended, held_ended}
 use Rattle.handle_input.proofs.inputs.handle.Goals as goal

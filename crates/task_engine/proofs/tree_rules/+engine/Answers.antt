@@ -437,14 +437,15 @@ and_form-stride_at-requires t c =
     (search rules, (c.requires.accepted, rw c.deref.ensures (well_ask (well_strides _ c.requires.accepted c.requires.may))))
 
 pub and_form-stride_at-requires-2 : goal.and_form-stride_at-requires-2
-and_form-stride_at-requires-2 t c = (
-  search rules,
-  (
-    c.requires.accepted,
-    rw c.deref-2.ensures (well_ask
-        (well_next c.requires.accepted (well_strides _ c.requires.accepted c.requires.may) (rw c.deref.ensures at c.in_ok-t.ensures.asked))),
-  ),
-)
+and_form-stride_at-requires-2 t c =
+    let first = rw c.deref.ensures at c.in_ok-t.ensures.asked in (
+      search rules,
+      (
+        c.requires.accepted,
+        rw c.deref-2.ensures (well_ask
+            (well_next c.requires.accepted (well_strides _ c.requires.accepted c.requires.may) first)),
+      ),
+    )
 
 pub and_form-returns-in_err-u-clause-ran : goal.and_form-returns-in_err-u-clause-ran
 and_form-returns-in_err-u-clause-ran t c =
@@ -491,16 +492,17 @@ or_form-returns-in_ok-strode_tree-clause-ran t c =
     (ran_strode _ (rw c.deref-then-strode_has_value.ensures at c.in_ok-strode_tree.ensures)))
 
 pub or_form-stride_at-requires-else-strode_has_value : goal.or_form-stride_at-requires-else-strode_has_value
-or_form-stride_at-requires-else-strode_has_value t c = (
-  search rules,
-  (
-    c.requires.accepted,
-    rw c.deref-else-strode_has_value.ensures (well_ask (well_is (with_none
-        (value_of (after_stride (tree_term c.args.a.now.value) c.in_ok-t.t) (map value_term c.stride_at.new.store.list)) _ _
-        (sym (rw c.deref-2.ensures at c.strode_has_value.ensures) ∙ c.if-strode_has_value.false))
-        (well_next c.requires.accepted (well_strides _ c.requires.accepted c.requires.may) (rw c.deref.ensures at c.in_ok-t.ensures.asked)))),
-  ),
-)
+or_form-stride_at-requires-else-strode_has_value t c =
+    let first = rw c.deref.ensures at c.in_ok-t.ensures.asked in (
+      search rules,
+      (
+        c.requires.accepted,
+        rw c.deref-else-strode_has_value.ensures (well_ask (well_is (with_none
+            (value_of (after_stride (tree_term c.args.a.now.value) c.in_ok-t.t) (map value_term c.stride_at.new.store.list)) _ _
+            (sym (rw c.deref-2.ensures at c.strode_has_value.ensures) ∙ c.if-strode_has_value.false))
+            (well_next c.requires.accepted (well_strides _ c.requires.accepted c.requires.may) first))),
+      ),
+    )
 
 pub or_form-returns-in_err-u-clause-ran : goal.or_form-returns-in_err-u-clause-ran
 or_form-returns-in_err-u-clause-ran t c =

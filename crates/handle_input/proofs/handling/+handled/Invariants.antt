@@ -1,0 +1,13 @@
+use Rattle.std.proofs.Common.{◌+◌, ◌*◌, max}
+use Rattle.std.specs.Arc.{arc_value}
+use Rattle.task_model.specs.declared.tree.Tree.{size-Tree}
+use Rattle.handle_input.proofs.handling.+handled.Given as goal
+
+abbrev pub decreases-handled : goal.decreases-handled
+decreases-handled l = 2 * size-Tree l.t.now
+
+abbrev pub decreases-at_next : goal.decreases-at_next
+decreases-at_next l = 2 * size-Tree (arc_value l.left.now) + 1
+
+abbrev pub decreases-at_pair : goal.decreases-at_pair
+decreases-at_pair l = 2 * max (size-Tree (arc_value l.a.now)) (size-Tree (arc_value l.b.now)) + 1
