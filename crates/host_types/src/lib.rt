@@ -1,7 +1,7 @@
 //! Types: whether a program meets every demand, or the first one that it doesn't meet.
 #![tactic(auto)]
 
-mod binding;
+mod bound_to;
 mod calls;
 mod checking;
 mod compare;
