@@ -9,3 +9,4 @@ pub mod WithinLemmas
 pub mod TaskMetLemmas
 pub mod CountLemmas
 pub mod CheckLemmas
+pub mod BoundLemmas

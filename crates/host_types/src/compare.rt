@@ -1,15 +1,15 @@
-ghost use Rattle.std.specs.Prelude.{◌≡◌, ◌+◌, ◌<◌, nat_le, MatchOption, MatchResult};
+ghost use Rattle.std.specs.Prelude.{◌≡◌, ◌↔◌, ◌+◌, ◌<◌, IsTrue, nat_le, MatchOption, MatchResult};
 ghost use Rattle.task_model.specs.Basic.{basic_term};
-ghost use Rattle.task_model.specs.TypeParts.{symbols_of, same_type};
+ghost use Rattle.task_model.specs.TypeParts.{symbols_of};
 ghost use Rattle.task_model.specs.TypeFault.{sized, compared, IsMet};
 ghost use Rattle.host_types.specs.Answer.{IsStop};
 
 use crate::fault::CheckStop;
 use task_model::{Basic, TYPE_SYMBOL_LIMIT, TypeKind, copy_basic};
 
-/// Whether two types are the same.
-pub(crate) fn same_basic(a: &Basic, b: &Basic) -> bool
-    ensures { result ≡ same_type (basic_term a.now) (basic_term b.now) }
+/// Whether two types are the same. It stops at the first difference, and takes no memory.
+pub fn same_basic(a: &Basic, b: &Basic) -> bool
+    ensures { IsTrue result ↔ (basic_term a.now ≡ basic_term b.now) }
 {
     match (a, b) {
         (Basic::Unit, Basic::Unit) => true,

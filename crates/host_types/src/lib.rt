@@ -1,7 +1,7 @@
 //! Types: whether a program meets every demand, or the first one that it doesn't meet.
 #![tactic(auto)]
 
-mod binding;
+mod bound_to;
 mod calls;
 mod checking;
 mod compare;
@@ -15,6 +15,7 @@ mod operators;
 mod tasks;
 
 pub use checking::check;
+pub use compare::same_basic;
 pub use fault::CheckStop;
 pub use laws::{
     examples, met_is_typed, met_task_is_typed, typed_is_met, typed_task_is_met, types_are_counted,

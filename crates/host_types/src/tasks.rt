@@ -10,10 +10,11 @@ ghost use Rattle.task_model.specs.NodeCounts.{nodes_all};
 ghost use Rattle.task_model.specs.TypeOf.{task_type};
 ghost use Rattle.task_model.specs.TaskDemands.{task_demands};
 ghost use Rattle.host_types.specs.Answer.{IsTask, IsStop, AnswersType, Checks, ChecksWanted, ChecksTask, ChecksTaskForm, ChecksTaskWanted};
-ghost use Rattle.host_types.specs.Bound.{ChecksBinding};
+ghost use Rattle.host_types.specs.Bound.{bound_form};
 ghost use Rattle.host_types.specs.Seen.{scope_term, calls_term};
 
-use crate::binding::Binding;
+use crate::bound_to::BoundTo;
+use crate::bound_to::BoundTo::{Place, Value};
 use crate::calls::{Callee, Calls};
 use crate::compare::{compared, sized};
 use crate::expressions::{Typed, arguments, wanted, whole};
@@ -79,8 +80,6 @@ fn form(
     ensures { ChecksTaskForm (calls_term calls.now) (scope_term scope.now) node (full_task later.now (task_term t.now))
         (map basic_term types.old.list) (map basic_term types.new.list) result }
 {
-    let to_value = Binding::Value;
-    let to_place = Binding::Place;
     match t {
         Task::Edit(e) => edit_form(alloc, calls, scope, node, e, types),
         Task::Enter(b) | Task::Fail(b) => typed_form(node, b),
@@ -95,7 +94,7 @@ fn form(
             xor_form(alloc, calls, later, scope, node, *left, *right, types)
         }
         Task::Let { name, bound, rest } => binding_form(
-            alloc, calls, later, scope, node, to_value, name, bound, rest, types,
+            alloc, calls, later, scope, node, Value, name, bound, rest, types,
         ),
         Task::If { test, yes, no } => {
             if_form(alloc, calls, later, scope, node, test, yes, no, types)
@@ -110,7 +109,7 @@ fn form(
             alloc, calls, later, scope, node, list, empty, head, tail, more, types,
         ),
         Task::New { name, init, rest } => binding_form(
-            alloc, calls, later, scope, node, to_place, name, init, rest, types,
+            alloc, calls, later, scope, node, Place, name, init, rest, types,
         ),
         Task::Put { name, value, rest } => {
             put_form(alloc, calls, later, scope, node, name, value, rest, types)
@@ -386,19 +385,20 @@ fn binding_form(
     later: &LaterBodies,
     scope: &Names,
     node: u64,
-    binding: Binding,
+    to: BoundTo,
     name: &TaskText,
     e: &Host,
     rest: &Task,
     types: &mut Row<Basic>,
 ) -> Result<Typed, CheckStop>
-    ensures { ChecksBinding binding (calls_term calls.now) (scope_term scope.now) node name.now (host_term e.now)
-        (full_task later.now (task_term rest.now)) (map basic_term types.old.list) (map basic_term types.new.list) result }
+    ensures { ChecksTaskForm (calls_term calls.now) (scope_term scope.now) node
+        (bound_form to name.now (host_term e.now) (full_task later.now (task_term rest.now)))
+        (map basic_term types.old.list) (map basic_term types.new.list) result }
 {
     room_for_name(scope, node)?;
     let inner = next(node)?;
     let bound = expression(alloc, calls, scope, inner, e)?;
-    let kind = binding.kind(bound.basic);
+    let kind = to.kind(bound.basic);
     let within = (&*scope).with(&*name, &kind);
     task(alloc, calls, later, &within, bound.next, rest, types)
 }

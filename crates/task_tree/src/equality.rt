@@ -1,25 +1,11 @@
 ghost use Rattle.std.specs.Prelude.{◌≡◌, ◌↔◌, IsTrue, map};
-ghost use Rattle.task_model.specs.Basic.{basic_term};
 ghost use Rattle.task_model.specs.Value.{value_term};
 ghost use Rattle.task_model.specs.Env.{slot_term};
 ghost use Rattle.task_model.specs.Tree.{cont_term, delay_term, tree_term};
 
 use host_eval::same_value;
-use task_model::{Basic, Cont, Delay, Slot, Tree};
-
-fn same_basic(a: &Basic, b: &Basic) -> bool
-    ensures { IsTrue result ↔ (basic_term a.now ≡ basic_term b.now) }
-{
-    match (a, b) {
-        (Basic::Unit, Basic::Unit) => true,
-        (Basic::Bool, Basic::Bool) => true,
-        (Basic::Int, Basic::Int) => true,
-        (Basic::Text, Basic::Text) => true,
-        (Basic::Pair(a, b), Basic::Pair(c, d)) => same_basic(a, c) && same_basic(b, d),
-        (Basic::List(a), Basic::List(b)) => same_basic(a, b),
-        _ => false,
-    }
-}
+use host_types::same_basic;
+use task_model::{Cont, Delay, Slot, Tree};
 
 fn same_slot(a: &Slot, b: &Slot) -> bool
     ensures { IsTrue result ↔ (slot_term a.now ≡ slot_term b.now) }

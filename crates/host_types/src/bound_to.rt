@@ -7,19 +7,19 @@ use task_model::{Basic, Kind};
 
 /// What a task binds a name to: a value, or a new place of shared data.
 #[derive(Clone, Copy)]
-pub(crate) enum Binding {
+pub(crate) enum BoundTo {
     Value,
     Place,
 }
 
-impl Binding {
+impl BoundTo {
     /// The kind of a name that is bound to what has this type.
     pub(crate) fn kind(self, basic: Basic) -> Kind
         ensures { kind_term result ≡ bound_kind self (basic_term basic) }
     {
         match self {
-            Binding::Value => Kind::Plain(basic),
-            Binding::Place => Kind::Ref(basic),
+            BoundTo::Value => Kind::Plain(basic),
+            BoundTo::Place => Kind::Ref(basic),
         }
     }
 }
