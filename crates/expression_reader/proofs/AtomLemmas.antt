@@ -6,13 +6,12 @@ use Rattle.task_model.specs.declared.symbol.Symbol.TheVariants as signs
 use Rattle.exact_reading.specs.declared.stop.ParseStop.TheVariants.{Fault}
 use Rattle.exact_reading.specs.declared.stop.FaultKind.TheVariants.{Unexpected, TooNested}
 use Rattle.exact_reading.specs.Reading.{IsWithinLevels, Right}
-use Rattle.exact_reading.proofs.Productions.{refused_first}
 use Rattle.exact_reading.proofs.Symbols.{seq_done}
 use Rattle.task_model.specs.Lexemes.{Lexeme, keyword, symbol, name, number, quoted_text}
 use Rattle.task_model.specs.Grammar.{atom, Parse, digits, quoted, constant, nothing, named, content, call, group, pair, elements, nil}
 use Rattle.program_grammar.specs.Languages.{Of, EndsForm}
-use Rattle.program_grammar.proofs.GrammarLemmas.{grammar, head, begins_head}
-use Rattle.program_grammar.proofs.RuleLemmas.{by_rule, too_deep}
+use Rattle.program_grammar.proofs.GrammarLemmas.{grammar, head}
+use Rattle.program_grammar.proofs.RuleLemmas.{by_rule, too_deep, no_parse}
 use Rattle.program_grammar.proofs.ExpressionRules.{number_rule, quote_rule, truth_rule}
 use Rattle.expression_reader.specs.LiteralTokens.{Literal, a_number, a_text, a_truth, literal_token, literal_atom, NoLiteral, NoSimple}
 
@@ -56,4 +55,4 @@ module _ (ts : List Lexeme) (simple : NoSimple ts) (no_name : (x : Text) (p : �
   none (nil p b) s e = simple.no_nil p s e
 
   pub no_atom : {room : ℕ} → Right (Of atom) (IsWithinLevels room) (EndsForm atom) ts (Err (Fault Unexpected (length ts)))
-  no_atom = refused_first (Of atom) ts (λ a y z h _ b. let (s, is) = begins_head y.0 tt a z ts h.0 b in none y.0 s is)
+  no_atom = no_parse tt ts none

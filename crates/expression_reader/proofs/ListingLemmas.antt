@@ -1,20 +1,18 @@
 -- Arguments and elements, as the loop over their commas goes on, and what stands between their parentheses.
-use Rattle.std.proofs.Common.{◌≡◌, ℕ, ◌+◌, ◌≤◌, max, List, [], ◌∷◌, ◌++◌, length, Ok, Err, refl, sym, ap, ◌∙◌, subst, arith}
+use Rattle.std.proofs.Common.{◌≡◌, ℕ, ◌+◌, ◌≤◌, max, List, [], ◌∷◌, ◌++◌, Ok, Err, refl, sym, ap, ◌∙◌, subst, arith}
 use Rattle.task_model.specs.Host.{HostTerm}
 use Rattle.task_model.specs.declared.symbol.Symbol.TheVariants as signs
 use Rattle.exact_reading.specs.declared.stop.ParseStop.{ParseStop}
-use Rattle.exact_reading.specs.declared.stop.ParseStop.TheVariants.{Fault}
-use Rattle.exact_reading.specs.declared.stop.FaultKind.TheVariants.{Unexpected}
 use Rattle.exact_reading.specs.Reading.{Language, IsWithinLevels, Right}
-use Rattle.exact_reading.proofs.Productions.{Least, refused_first, bind_stop, by_production, least_alive, least_ever}
+use Rattle.exact_reading.proofs.Productions.{Least, bind_stop, by_production, least_alive, least_ever}
 use Rattle.exact_reading.proofs.Symbols.{part, one, Seq, Sequence, least_seq}
 use Rattle.task_model.specs.Lexemes.{Lexeme, symbol}
-use Rattle.task_model.specs.Grammar.{Listing, list, arguments, expression, series, enclosed, Operator, comma, operator, Parse, empty, full, joined, levels}
+use Rattle.task_model.specs.Grammar.{Listing, list, arguments, expression, series, enclosed, Operator, comma, operator, Parse, full, joined, levels}
 use Rattle.task_model.specs.Meaning.{meaning}
 use Rattle.task_model.specs.Nodes.{places}
 use Rattle.program_grammar.specs.Languages.{Of, EndsForm, Reads}
 use Rattle.program_grammar.specs.Parts.{ParsedTerm, shown, Listed, shown_list, one_item, more_items}
-use Rattle.program_grammar.proofs.GrammarLemmas.{grammar, head, begins_head, a_sign}
+use Rattle.program_grammar.proofs.GrammarLemmas.{grammar, a_sign}
 use Rattle.program_grammar.proofs.RuleLemmas.{built}
 use Rattle.program_grammar.proofs.SeriesReading as loops
 
@@ -66,15 +64,6 @@ module _ {room : ℕ} {ts : List Lexeme} where
       no_comma (comma m) p s e = none p s e
 
 -- ---- in parentheses
--- the tokens begin with no parenthesis
-pub no_enclosed : {l : Listing} {room : ℕ} (ts : List Lexeme) → ((p : ℕ) (s : List Lexeme) → ts ≡ symbol signs.Open p ∷ s → ⊥)
-    → Right (Of (enclosed l)) (IsWithinLevels room) (EndsForm (enclosed l)) ts (Err (Fault Unexpected (length ts)))
-no_enclosed {l} ts none = refused_first (Of (enclosed l)) ts (λ a y z h _ b. let (s, is) = begins_head y.0 tt a z ts h.0 b in go y.0 s is)
-  where
-    go : (d : Parse (enclosed l)) (s : List Lexeme) → ts ≡ head d ∷ s → ⊥
-    go (empty m p q) s e = none p s e
-    go (full m p es q) s e = none p s e
-
 -- what stands behind the items
 abbrev Behind : (l : Listing) → ℕ → Parse (series (list l)) × ℕ → Language Lexeme (Parse (enclosed l) × ℕ)
 Behind l p x = Seq grammar 0 (one (a_sign signs.Close) ∷ []) (λ vs. full l p x.0 vs.0) (max 0 x.1)

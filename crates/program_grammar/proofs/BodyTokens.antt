@@ -1,7 +1,7 @@
 -- A parse has no more bodies than tokens, and where bodies are read there is room for one more.
-use Rattle.std.proofs.Common.{◌≡◌, ℕ, suc, ◌+◌, ◌≤◌, List, ◌++◌, length, Ok, sym, ap, ◌∙◌, arith, length-append}
+use Rattle.std.proofs.Common.{◌≡◌, ℕ, ◌+◌, ◌≤◌, List, ◌++◌, length, Ok, sym, ap, ◌∙◌, arith, length-append}
 use Rattle.task_model.specs.Lexemes.{Lexeme}
-use Rattle.task_model.specs.Grammar.{parameters, arguments, list, choice, chain, internal, external, Form, program, task, task_atom, series, Parse, no_definitions, more_definitions, task_named, task_let, task_if, task_case, task_new, task_put, task_plain, task_then, task_next, task_edit, task_enter, task_share, task_fail, task_call, task_group, single, joined, full, tokens}
+use Rattle.task_model.specs.Grammar.{parameters, arguments, list, choice, chain, internal, external, Form, task, task_atom, series, Parse, more_definitions, task_named, task_let, task_if, task_case, task_new, task_put, task_plain, task_then, task_next, task_edit, task_enter, task_share, task_fail, task_call, task_group, single, joined, full, tokens}
 use Rattle.task_model.specs.Meaning.{bodies}
 use Rattle.exact_reading.specs.Reading.{Right}
 use Rattle.program_grammar.specs.Languages.{Of, Reads}

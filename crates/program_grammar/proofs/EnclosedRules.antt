@@ -1,6 +1,8 @@
 -- Listings in parentheses.
-use Rattle.std.proofs.Common.{◌≡◌, ℕ, ◌+◌, max, false, List, [], ◌∷◌, ◌++◌, Ok, refl, sym, ap, ◌∙◌, subst, arith, append_assoc}
+use Rattle.std.proofs.Common.{◌≡◌, ℕ, ◌+◌, max, false, List, [], ◌∷◌, ◌++◌, length, Ok, Err, refl, sym, ap, ◌∙◌, subst, arith, append_assoc}
 use Rattle.task_model.specs.declared.symbol.Symbol.TheVariants as signs
+use Rattle.exact_reading.specs.declared.stop.ParseStop.TheVariants.{Fault}
+use Rattle.exact_reading.specs.declared.stop.FaultKind.TheVariants.{Unexpected}
 use Rattle.exact_reading.specs.Reading.{Language, IsWithinLevels, SharesPrefix, Answer, Right}
 use Rattle.task_model.specs.Lexemes.{Lexeme, symbol}
 use Rattle.task_model.specs.Grammar.{series, enclosed, Listing, parameters, arguments, list, Parse, empty, full, tokens, levels}
@@ -9,11 +11,20 @@ use Rattle.exact_reading.proofs.Productions.{by_production}
 use Rattle.exact_reading.proofs.Starts.{After, after_right}
 use Rattle.exact_reading.proofs.Symbols.{Sym, one, part, Values, Seq, Sequence, open_up}
 use Rattle.program_grammar.proofs.GrammarLemmas.{grammar, head, head_first, known_head, starts_not, starts, a_sign}
-use Rattle.program_grammar.proofs.RuleLemmas.{built, build_up, seen_first}
+use Rattle.program_grammar.proofs.RuleLemmas.{built, build_up, seen_first, no_parse}
 
 close_starts_none : (l : Listing) (q : ℕ) → starts (series (list l)) (symbol signs.Close q) ≡ false
 close_starts_none parameters q = refl
 close_starts_none arguments q = refl
+
+-- the tokens begin with no parenthesis
+pub no_enclosed : {l : Listing} {room : ℕ} (ts : List Lexeme) → ((p : ℕ) (s : List Lexeme) → ts ≡ symbol signs.Open p ∷ s → ⊥)
+    → Right (Of (enclosed l)) (IsWithinLevels room) (EndsForm (enclosed l)) ts (Err (Fault Unexpected (length ts)))
+no_enclosed {l} ts none = no_parse tt ts go
+  where
+    go : (d : Parse (enclosed l)) (s : List Lexeme) → ts ≡ head d ∷ s → ⊥
+    go (empty m p q) s e = none p s e
+    go (full m p es q) s e = none p s e
 
 module _ (l : Listing) (p : ℕ) where
   no_close_starts : (d : Parse (series (list l))) (q : ℕ) → head d ≡ symbol signs.Close q → ⊥

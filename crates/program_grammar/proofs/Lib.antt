@@ -15,7 +15,7 @@ pub mod SeriesReading
 pub mod OperatorLemmas
 pub mod AtomRules
 pub mod EnclosedRules
-pub mod NoOperators
+pub mod LeadingOperators
 pub mod FaultLemmas
 pub mod ReadingLemmas
 pub mod RowTerms

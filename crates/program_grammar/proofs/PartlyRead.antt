@@ -1,7 +1,7 @@
 -- A production as it is read: some of its symbols were, and the others are left. What is read next goes on from there, and so does a fault.
 use Rattle.std.proofs.Common.{◌≡◌, ℕ, ◌+◌, ◌≤◌, max, List, [], ◌∷◌, Ok, Err, arith}
 use Rattle.exact_reading.specs.declared.stop.ParseStop.{ParseStop}
-use Rattle.exact_reading.specs.Reading.{Language, IsWithinLevels, Always, Anything, Answer, Right}
+use Rattle.exact_reading.specs.Reading.{IsWithinLevels, Always, Anything, Answer, Right}
 use Rattle.exact_reading.proofs.Symbols.{Sym, one, part, Values, One, Follow, Sequence, size, size_up, size_max, seq_one, seq_one_stop, seq_part, seq_part_stop, seq_done}
 use Rattle.task_model.specs.Lexemes.{Lexeme}
 use Rattle.task_model.specs.Grammar.{Form, Parse}

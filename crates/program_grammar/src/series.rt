@@ -1,9 +1,7 @@
 ghost use Rattle.std.specs.Prelude.{MatchOption};
-ghost use Rattle.task_model.specs.Grammar as grammar;
 ghost use Rattle.program_grammar.specs.Parts.{lexemes, series_of, NoOperator, Operated};
 
-use crate::lexeme::PositionedToken;
-use crate::steps::{strip_keyword, strip_symbol};
+use crate::lexeme::{Lexeme, PositionedToken};
 use task_model::{Keyword, Op, Symbol};
 
 /// Operators that group to the left, from the loosest to the tightest.
@@ -23,62 +21,34 @@ pub fn operator<'t>(
     ensures { MatchOption result (NoOperator (series_of level) (lexemes tokens.now))
         (λ r. Operated (series_of level) (lexemes tokens.now) r.0 (lexemes r.1.now)) }
 {
-    match level {
-        Level::Either => either(tokens),
-        Level::Both => both(tokens),
-        Level::Sum => sum(tokens),
-        Level::Product => product(tokens),
+    match leading(tokens) {
+        Some((found, op, rest)) if found == level => Some((op, rest)),
+        _ => None,
     }
 }
 
-fn either<'t>(tokens: &'t [PositionedToken<'t>]) -> Option<(Op, &'t [PositionedToken<'t>])>
-    ensures { MatchOption result (NoOperator grammar.either (lexemes tokens.now))
-        (λ r. Operated grammar.either (lexemes tokens.now) r.0 (lexemes r.1.now)) }
+/// The operator of any level that stands first, if one does, its level, and what stands after it.
+fn leading<'t>(tokens: &'t [PositionedToken<'t>]) -> Option<(Level, Op, &'t [PositionedToken<'t>])>
+    ensures { MatchOption result ((l : Level) → NoOperator (series_of l) (lexemes tokens.now))
+        (λ r. Operated (series_of r.0) (lexemes tokens.now) r.1 (lexemes r.2.now)) }
 {
-    if let Some((_, rest)) = strip_symbol(tokens, Symbol::Or) {
-        return Some((Op::Or, rest));
-    }
-    None
-}
-
-fn both<'t>(tokens: &'t [PositionedToken<'t>]) -> Option<(Op, &'t [PositionedToken<'t>])>
-    ensures { MatchOption result (NoOperator grammar.both (lexemes tokens.now))
-        (λ r. Operated grammar.both (lexemes tokens.now) r.0 (lexemes r.1.now)) }
-{
-    if let Some((_, rest)) = strip_symbol(tokens, Symbol::And) {
-        return Some((Op::And, rest));
-    }
-    None
-}
-
-fn sum<'t>(tokens: &'t [PositionedToken<'t>]) -> Option<(Op, &'t [PositionedToken<'t>])>
-    ensures { MatchOption result (NoOperator grammar.sum (lexemes tokens.now))
-        (λ r. Operated grammar.sum (lexemes tokens.now) r.0 (lexemes r.1.now)) }
-{
-    if let Some((_, rest)) = strip_symbol(tokens, Symbol::Plus) {
-        return Some((Op::Add, rest));
-    }
-    if let Some((_, rest)) = strip_symbol(tokens, Symbol::Minus) {
-        return Some((Op::Sub, rest));
-    }
-    if let Some((_, rest)) = strip_symbol(tokens, Symbol::Join) {
-        return Some((Op::Join, rest));
-    }
-    None
-}
-
-fn product<'t>(tokens: &'t [PositionedToken<'t>]) -> Option<(Op, &'t [PositionedToken<'t>])>
-    ensures { MatchOption result (NoOperator grammar.product (lexemes tokens.now))
-        (λ r. Operated grammar.product (lexemes tokens.now) r.0 (lexemes r.1.now)) }
-{
-    if let Some((_, rest)) = strip_symbol(tokens, Symbol::Star) {
-        return Some((Op::Mul, rest));
-    }
-    if let Some((_, rest)) = strip_keyword(tokens, Keyword::Quot) {
-        return Some((Op::Quot, rest));
-    }
-    if let Some((_, rest)) = strip_keyword(tokens, Keyword::Rem) {
-        return Some((Op::Rem, rest));
-    }
-    None
+    let (first, rest) = tokens.split_first()?;
+    let (level, op) = match first.lexeme {
+        Lexeme::Symbol(symbol) => match symbol {
+            Symbol::Or => (Level::Either, Op::Or),
+            Symbol::And => (Level::Both, Op::And),
+            Symbol::Plus => (Level::Sum, Op::Add),
+            Symbol::Minus => (Level::Sum, Op::Sub),
+            Symbol::Join => (Level::Sum, Op::Join),
+            Symbol::Star => (Level::Product, Op::Mul),
+            _ => return None,
+        },
+        Lexeme::Keyword(keyword) => match keyword {
+            Keyword::Quot => (Level::Product, Op::Quot),
+            Keyword::Rem => (Level::Product, Op::Rem),
+            _ => return None,
+        },
+        _ => return None,
+    };
+    Some((level, op, rest))
 }

@@ -1,5 +1,5 @@
 -- The productions of parameters and definitions.
-use Rattle.std.proofs.Common.{◌≡◌, ℕ, ◌+◌, ◌≤◌, max, true, false, List, [], ◌∷◌, ◌++◌, length, Err, refl, sym, ap, ◌∙◌, subst, arith, append_assoc}
+use Rattle.std.proofs.Common.{◌≡◌, ℕ, ◌+◌, ◌≤◌, max, List, [], ◌∷◌, ◌++◌, length, Err, refl, sym, ap, ◌∙◌, subst, arith, append_assoc}
 use Rattle.task_model.specs.Text.{Text}
 use Rattle.task_model.specs.declared.keyword.Keyword.{Keyword}
 use Rattle.task_model.specs.declared.keyword.Keyword.TheVariants as words
@@ -13,7 +13,7 @@ use Rattle.exact_reading.proofs.Symbols.{Sym, one, part, Values, Seq, Sequence, 
 use Rattle.task_model.specs.Lexemes.{Lexeme, keyword, symbol, name}
 use Rattle.task_model.specs.Grammar.{Form, definition, parameter, basic, task, expression, enclosed, parameters, Parse, function, task_named, value_named, reference_named, tokens, levels}
 use Rattle.program_grammar.specs.Languages.{Of, EndsForm}
-use Rattle.program_grammar.proofs.GrammarLemmas.{grammar, head, head_first, head_starts, starts, smallest, a_sign, a_name}
+use Rattle.program_grammar.proofs.GrammarLemmas.{grammar, head, head_first, starts_not, smallest, a_sign, a_name}
 use Rattle.program_grammar.proofs.RuleLemmas.{Rule, tokens_of, built, build_up}
 
 -- ---- definitions: the symbols behind `fun` and `task`, whose bodies are of this form
@@ -67,10 +67,6 @@ task_rule p = record {
 }
 
 -- ---- parameters
--- a type begins with none of these
-no_basic : (d : Parse basic) (t : Lexeme) → starts basic t ≡ false → head d ≡ t → ⊥
-no_basic d t none h = let yes' : starts basic t ≡ true = subst (λ u. starts basic u ≡ true) h (head_starts d) in cc
-
 pub record Named (t : Lexeme) : Type 0 where
   pub text : Text
   pub place : ℕ
@@ -190,7 +186,7 @@ module _ (x : Text) (p : ℕ) where
         y.0 a h.0 h.0 h.1
       where
         no_ref : (c : Parse basic) (r : ℕ) → head c ≡ keyword words.Ref r → ⊥
-        no_ref c r is = no_basic c (keyword words.Ref r) refl is
+        no_ref c r is = starts_not c (keyword words.Ref r) refl is
 
     pub by_reference : {room : ℕ} {r : ℕ} {ts s : List Lexeme} {z : Answer Lexeme (Parse parameter × ℕ)} → ts ≡ keyword words.Ref r ∷ s
         → 1 ≤ room → Right (Sequence grammar 0 kind_symbols (reference_build r) 0) (IsWithinLevels room) (EndsForm parameter) s z

@@ -1,44 +1,37 @@
 -- The productions of tasks that begin with a keyword or a parenthesis.
-use Rattle.std.proofs.Common.{◌≡◌, ℕ, ◌+◌, true, false, List, [], ◌∷◌, length, Err, refl, sym, ap, ◌∙◌, subst, arith, append_assoc}
+use Rattle.std.proofs.Common.{◌≡◌, ℕ, ◌+◌, List, [], ◌∷◌, length, Err, refl, sym, ap, ◌∙◌, arith}
 use Rattle.task_model.specs.Text.{Text}
 use Rattle.task_model.specs.declared.keyword.Keyword.TheVariants as words
 use Rattle.task_model.specs.declared.symbol.Symbol.TheVariants as signs
 use Rattle.exact_reading.specs.declared.stop.ParseStop.TheVariants.{Fault}
 use Rattle.exact_reading.specs.declared.stop.FaultKind.TheVariants.{Unexpected}
 use Rattle.exact_reading.specs.Reading.{IsWithinLevels, Right}
-use Rattle.exact_reading.proofs.Productions.{refused_first}
 use Rattle.exact_reading.proofs.Symbols.{Sym, one, part, Values}
 use Rattle.task_model.specs.Lexemes.{Lexeme, keyword, symbol, name}
 use Rattle.task_model.specs.Grammar.{basic, task, task_atom, expression, atom, series, enclosed, arguments, choice, Parse, task_let, task_if, task_case, task_new, task_plain, task_then, task_next, task_edit, task_enter, task_share, task_fail, task_call, task_group, tokens, levels}
 use Rattle.program_grammar.specs.Languages.{Of, EndsForm}
-use Rattle.program_grammar.proofs.GrammarLemmas.{grammar, head, begins_head, head_starts, starts, a_word, a_sign, a_name}
-use Rattle.program_grammar.proofs.RuleLemmas.{Rule, tokens_of, most_of}
+use Rattle.program_grammar.proofs.GrammarLemmas.{grammar, head, starts_not, a_sign, a_name}
+use Rattle.program_grammar.proofs.RuleLemmas.{Rule, tokens_of, most_of, no_parse}
+use Rattle.program_grammar.proofs.ExpressionRules.{binding_symbols, if_symbols, if_tokens, case_symbols, case_tokens}
 use Rattle.task_builder.specs.declared.binding.Binding.{Binding}
 use Rattle.task_builder.specs.declared.binding.Binding.TheVariants.{Let, New}
 use Rattle.task_builder.specs.TaskOperators.{binding_keyword}
 
--- a choice begins with none of the words of tasks
-pub no_choice : (d : Parse (series choice)) (t : Lexeme) → starts (series choice) t ≡ false → head d ≡ t → ⊥
-no_choice d t none h = let yes' : starts (series choice) t ≡ true = subst (λ u. starts (series choice) u ≡ true) h (head_starts d) in cc
-
 -- ---- let and new
-abbrev pub binding_symbols : List (Sym grammar)
-binding_symbols = one a_name ∷ one (a_sign signs.Define) ∷ part expression ∷ one (a_word words.In) ∷ part task ∷ []
-
 -- the parse of a binding
 abbrev pub binding_parse : Binding → ℕ → Text → ℕ → ℕ → Parse expression → ℕ → Parse task → Parse task
 binding_parse Let p x q r e s t = task_let p x q r e s t
 binding_parse New p x q r e s t = task_new p x q r e s t
 
-abbrev pub binding_build : Binding → ℕ → Values grammar binding_symbols → Parse task
+abbrev pub binding_build : Binding → ℕ → Values grammar (binding_symbols task) → Parse task
 binding_build b p vs = binding_parse b p vs.0.0 vs.0.1 vs.1.0 vs.1.1.0 vs.1.1.1.0 vs.1.1.1.1.0
 
 not_bound : (b : Binding) (p : ℕ) (d : Parse (series choice)) → head d ≡ keyword (binding_keyword b) p → ⊥
-not_bound Let p d h = no_choice d (keyword words.Let p) refl h
-not_bound New p d h = no_choice d (keyword words.New p) refl h
+not_bound Let p d h = starts_not d (keyword words.Let p) refl h
+not_bound New p d h = starts_not d (keyword words.New p) refl h
 
 pub binding_back : (b : Binding) (p : ℕ) (d : Parse task) → head d ≡ keyword (binding_keyword b) p
-    → (vs : Values grammar binding_symbols) × (binding_build b p vs ≡ d)
+    → (vs : Values grammar (binding_symbols task)) × (binding_build b p vs ≡ d)
 binding_back b p (task_plain t) h = absurd (not_bound b p t h)
 binding_back b p (task_then t q x r s u) h = absurd (not_bound b p t h)
 binding_back b p (task_next t q x r s u) h = absurd (not_bound b p t h)
@@ -49,20 +42,20 @@ binding_back New p (task_new q x r s e t d) h = let same : q ≡ p = cc in
 binding_back Let p d h = absurd cc
 binding_back New p d h = absurd cc
 
-pub binding_tokens : (b : Binding) (p : ℕ) (vs : Values grammar binding_symbols)
-    → tokens (binding_build b p vs) ≡ keyword (binding_keyword b) p ∷ tokens_of binding_symbols vs
+pub binding_tokens : (b : Binding) (p : ℕ) (vs : Values grammar (binding_symbols task))
+    → tokens (binding_build b p vs) ≡ keyword (binding_keyword b) p ∷ tokens_of (binding_symbols task) vs
 binding_tokens Let p vs = refl
 binding_tokens New p vs = refl
 
-pub binding_levels : (b : Binding) (p : ℕ) (vs : Values grammar binding_symbols)
-    → levels (binding_build b p vs) ≡ 1 + most_of binding_symbols vs 0
+pub binding_levels : (b : Binding) (p : ℕ) (vs : Values grammar (binding_symbols task))
+    → levels (binding_build b p vs) ≡ 1 + most_of (binding_symbols task) vs 0
 binding_levels Let p vs = omega arith
 binding_levels New p vs = omega arith
 
 abbrev pub binding_rule : (b : Binding) (p : ℕ) → Rule task 1 (keyword (binding_keyword b) p)
 binding_rule b p = record {
   some = tt;
-  symbols = binding_symbols;
+  symbols = binding_symbols task;
   build = binding_build b p;
   tokens_are = binding_tokens b p;
   levels_are = binding_levels b p;
@@ -70,66 +63,47 @@ binding_rule b p = record {
 }
 
 -- ---- if
-abbrev pub if_symbols : List (Sym grammar)
-if_symbols = part expression ∷ one (a_word words.Then) ∷ part task ∷ one (a_word words.Else) ∷ part task ∷ []
-
-abbrev pub if_build : ℕ → Values grammar if_symbols → Parse task
+abbrev pub if_build : ℕ → Values grammar (if_symbols task) → Parse task
 if_build p vs = task_if p vs.0 vs.1.0 vs.1.1.0 vs.1.1.1.0 vs.1.1.1.1.0
 
-pub if_back : (p : ℕ) (d : Parse task) → head d ≡ keyword words.If p → (vs : Values grammar if_symbols) × (if_build p vs ≡ d)
+pub if_back : (p : ℕ) (d : Parse task) → head d ≡ keyword words.If p → (vs : Values grammar (if_symbols task)) × (if_build p vs ≡ d)
 if_back p (task_if q e r a s b) h = let same : q ≡ p = cc in ((e, (r, (a, (s, (b, tt))))), ap (λ n. task_if n e r a s b) (sym same))
-if_back p (task_plain t) h = absurd (no_choice t (keyword words.If p) refl h)
-if_back p (task_then t q x r s u) h = absurd (no_choice t (keyword words.If p) refl h)
-if_back p (task_next t q x r s u) h = absurd (no_choice t (keyword words.If p) refl h)
+if_back p (task_plain t) h = absurd (starts_not t (keyword words.If p) refl h)
+if_back p (task_then t q x r s u) h = absurd (starts_not t (keyword words.If p) refl h)
+if_back p (task_next t q x r s u) h = absurd (starts_not t (keyword words.If p) refl h)
 if_back p d h = absurd cc
 
 abbrev pub if_rule : (p : ℕ) → Rule task 1 (keyword words.If p)
 if_rule p = record {
   some = tt;
-  symbols = if_symbols;
+  symbols = if_symbols task;
   build = if_build p;
-  tokens_are = λ vs. append_assoc (keyword words.If p ∷ tokens vs.0)
-      (keyword words.Then vs.1.0 ∷ tokens vs.1.1.0) (keyword words.Else vs.1.1.1.0 ∷ tokens vs.1.1.1.1.0);
+  tokens_are = if_tokens task p;
   levels_are = λ vs. omega arith;
   back = if_back p;
 }
 
 -- ---- case
-abbrev pub case_symbols : List (Sym grammar)
-case_symbols =
-    part expression ∷ one (a_word words.Of) ∷ one (a_sign signs.OpenBracket) ∷ one (a_sign signs.CloseBracket) ∷ one (a_sign signs.Arrow)
-    ∷ part task
-    ∷ one (a_sign signs.Bar) ∷ one a_name ∷ one (a_sign signs.Cons) ∷ one a_name ∷ one (a_sign signs.Arrow) ∷ part task ∷ []
-
-abbrev pub case_build : ℕ → Values grammar case_symbols → Parse task
+abbrev pub case_build : ℕ → Values grammar (case_symbols task) → Parse task
 case_build p vs =
     let after = vs.1.1.1.1.1.1 in
     task_case p vs.0 vs.1.0 vs.1.1.0 vs.1.1.1.0 vs.1.1.1.1.0 vs.1.1.1.1.1.0 after.0 after.1.0.0 after.1.0.1 after.1.1.0 after.1.1.1.0.0
     after.1.1.1.0.1 after.1.1.1.1.0 after.1.1.1.1.1.0
 
-pub case_back : (p : ℕ) (d : Parse task) → head d ≡ keyword words.Case p → (vs : Values grammar case_symbols) × (case_build p vs ≡ d)
+pub case_back : (p : ℕ) (d : Parse task) → head d ≡ keyword words.Case p → (vs : Values grammar (case_symbols task)) × (case_build p vs ≡ d)
 case_back p (task_case o e q r s a d b x i j y k c u) h = let same : o ≡ p = cc in
     ((e, (q, (r, (s, (a, (d, (b, ((x, i), (j, ((y, k), (c, (u, tt)))))))))))), ap (λ n. task_case n e q r s a d b x i j y k c u) (sym same))
-case_back p (task_plain t) h = absurd (no_choice t (keyword words.Case p) refl h)
-case_back p (task_then t q x r s u) h = absurd (no_choice t (keyword words.Case p) refl h)
-case_back p (task_next t q x r s u) h = absurd (no_choice t (keyword words.Case p) refl h)
+case_back p (task_plain t) h = absurd (starts_not t (keyword words.Case p) refl h)
+case_back p (task_then t q x r s u) h = absurd (starts_not t (keyword words.Case p) refl h)
+case_back p (task_next t q x r s u) h = absurd (starts_not t (keyword words.Case p) refl h)
 case_back p d h = absurd cc
-
-pub case_tokens : (p : ℕ) (vs : Values grammar case_symbols) → tokens (case_build p vs) ≡ keyword words.Case p ∷ tokens_of case_symbols vs
-case_tokens p vs =
-    let after = vs.1.1.1.1.1.1 in
-    append_assoc (keyword words.Case p ∷ tokens vs.0)
-    (keyword words.Of vs.1.0 ∷ symbol signs.OpenBracket vs.1.1.0 ∷ symbol signs.CloseBracket vs.1.1.1.0 ∷ symbol signs.Arrow vs.1.1.1.1.0
-    ∷ tokens vs.1.1.1.1.1.0)
-    (symbol signs.Bar after.0 ∷ name after.1.0.0 after.1.0.1 ∷ symbol signs.Cons after.1.1.0 ∷ name after.1.1.1.0.0 after.1.1.1.0.1
-    ∷ symbol signs.Arrow after.1.1.1.1.0 ∷ tokens after.1.1.1.1.1.0)
 
 abbrev pub case_rule : (p : ℕ) → Rule task 1 (keyword words.Case p)
 case_rule p = record {
   some = tt;
-  symbols = case_symbols;
+  symbols = case_symbols task;
   build = case_build p;
-  tokens_are = case_tokens p;
+  tokens_are = case_tokens task p;
   levels_are = λ vs. omega arith;
   back = case_back p;
 }
@@ -252,4 +226,4 @@ module _ (ts : List Lexeme) (no_edit : (p : ℕ) (s : List Lexeme) → ts ≡ ke
   none (task_group p t q) s h = no_open p s h
 
   pub no_task_atom : {room : ℕ} → Right (Of task_atom) (IsWithinLevels room) (EndsForm task_atom) ts (Err (Fault Unexpected (length ts)))
-  no_task_atom = refused_first (Of task_atom) ts (λ a y z h _ b. let (s, is) = begins_head y.0 tt a z ts h.0 b in none y.0 s is)
+  no_task_atom = no_parse tt ts none

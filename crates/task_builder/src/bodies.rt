@@ -4,7 +4,7 @@ ghost use Rattle.task_model.specs.Scope.{scope_names};
 ghost use Rattle.program_grammar.specs.Parts.{parts_term, over_two};
 ghost use Rattle.task_builder.specs.Numbers.{IsNumberedBelow, IsBodyNumberedBelow};
 ghost use Rattle.task_builder.specs.TaskOperators.{choice_term};
-ghost use Rattle.task_builder.specs.Tasks.{parsed_task, body_part, external_choice, chosen_task, followed_task};
+ghost use Rattle.task_builder.specs.Tasks.{parsed_task, body_part, chosen_task, followed_task};
 
 use crate::choice::Choice;
 use crate::numbers::{number_behind, renumbered_task};
@@ -52,50 +52,7 @@ pub fn and_task(
     parts.node(alloc, Task::And(left, right), start)
 }
 
-/// This task or another one, as `<|>` chooses.
-fn or_task(
-    alloc: Global,
-    left: Parsed<Task>,
-    right: Parsed<Task>,
-) -> Result<Parsed<Task>, ParseStop>
-    requires left { left.levels + 1 < 2 ^ 64 }
-    requires right { right.levels + 1 < 2 ^ 64 }
-    ensures shown { IfOk result (λ r. parsed_task r ≡ over_two tasks.or_task left.start (parsed_task left) (parsed_task right)) }
-    ensures memory { IfErr result (λ e. e ≡ ParseStop.Memory) }
-{
-    let start = left.start;
-    let (left, right, parts) = left.beside(right)?;
-    parts.node(alloc, Task::Or(left, right), start)
-}
-
-/// Two tasks of which the user takes one by `<?>`: both are bodies, the first of which has the number `next`.
-fn xor_task(
-    alloc: Global,
-    scope: &Scope,
-    next: u32,
-    left: Parsed<Task>,
-    right: Parsed<Task>,
-) -> Result<Parsed<Task>, ParseStop>
-    requires left { left.levels + 1 < 2 ^ 64 }
-    requires right { right.levels + 1 < 2 ^ 64 }
-    requires numbers { suc (next + length (parsed_task left).bodies) < 2 ^ 32 }
-    requires term { IsNumberedBelow 4294967295 (parsed_task left).term }
-    requires bodies { All (IsBodyNumberedBelow 4294967295) (parsed_task left).bodies }
-    ensures shown { IfOk result (λ r. parsed_task r ≡ external_choice (scope_names scope.now) next (parsed_task left) (parsed_task right)) }
-    ensures memory { IfErr result (λ e. e ≡ ParseStop.Memory) }
-{
-    let start = left.start;
-    let other = number_behind(next, &left) + 1;
-    let parts = body_of(scope, None, renumbered_task(left))?;
-    let others = body_of(scope, None, right)?;
-    let task = Task::Xor {
-        left: next,
-        right: other,
-    };
-    parts.and(others)?.node(alloc, task, start)
-}
-
-/// A choice between two tasks, of which the first body has the number `next`.
+/// A choice between two tasks, of which the first body has the number `next`: both sides are bodies where the user takes one.
 pub fn choice_task(
     alloc: Global,
     scope: &Scope,
@@ -113,9 +70,22 @@ pub fn choice_task(
         (parsed_task right)) }
     ensures memory { IfErr result (λ e. e ≡ ParseStop.Memory) }
 {
+    let start = left.start;
     match choice {
-        Choice::Internal => or_task(alloc, left, right),
-        Choice::External => xor_task(alloc, scope, next, left, right),
+        Choice::Internal => {
+            let (left, right, parts) = left.beside(right)?;
+            parts.node(alloc, Task::Or(left, right), start)
+        }
+        Choice::External => {
+            let other = number_behind(next, &left) + 1;
+            let parts = body_of(scope, None, renumbered_task(left))?;
+            let others = body_of(scope, None, right)?;
+            let task = Task::Xor {
+                left: next,
+                right: other,
+            };
+            parts.and(others)?.node(alloc, task, start)
+        }
     }
 }
 

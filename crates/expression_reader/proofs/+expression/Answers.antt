@@ -740,7 +740,7 @@ listings::arguments-returns t c =
 
 pub listings::enclosed-returns-in_default : goal.listings::enclosed-returns-in_default
 listings::enclosed-returns-in_default t c =
-    rw c.unexpected.ensures (record { by = counted _ (gathering.no_enclosed _ c.in_default.ensures) })
+    rw c.unexpected.ensures (record { by = counted _ (enclosing.no_enclosed _ c.in_default.ensures) })
 
 pub listings::enclosed-returns-in-Some-strip_symbol : goal.listings::enclosed-returns-in-Some-strip_symbol
 listings::enclosed-returns-in-Some-strip_symbol t c =

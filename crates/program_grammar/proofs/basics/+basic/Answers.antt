@@ -1,11 +1,9 @@
-use Rattle.std.proofs.Common.{◌≡◌, ◌+◌, ◌-◌, ◌≤◌, refl, sym, ap, arith}
+use Rattle.std.proofs.Common.{◌≡◌, ◌-◌, ◌≤◌, refl, sym, ap, arith}
 use Rattle.program_grammar.proofs.Exits.{handed_on, below}
 use Rattle.task_model.specs.Basic.{basic_term}
 use Rattle.task_model.specs.Grammar.{scalar_type}
-use Rattle.exact_reading.proofs.Symbols.{seq_one, seq_one_stop, seq_part, seq_part_stop, seq_done}
-use Rattle.program_grammar.proofs.GrammarLemmas.{grammar}
 use Rattle.program_grammar.proofs.CountLemmas.{counted}
-use Rattle.program_grammar.proofs.RuleLemmas.{by_rule, too_deep}
+use Rattle.program_grammar.proofs.RuleLemmas.{too_deep}
 use Rattle.program_grammar.proofs.PartlyRead.{begun, past_one, past_part, stop_one, stop_part, whole}
 use Rattle.program_grammar.proofs.TypeRules as types
 use Rattle.program_grammar.proofs.basics.+basic.Goals as goal

@@ -5,11 +5,10 @@ use Rattle.exact_reading.proofs.Symbols.{seq_one, seq_one_stop, seq_part, seq_pa
 use Rattle.program_grammar.proofs.GrammarLemmas.{grammar}
 use Rattle.program_grammar.proofs.EnclosedRules as enclosing
 use Rattle.expression_reader.proofs.ReadingLemmas.{counted_at, at_reading}
-use Rattle.program_reader.proofs.ParameterLemmas.{no_enclosed}
 use Rattle.program_reader.proofs.parameters.enclosed_parameters.Goals as goal
 
 pub returns-in_default : goal.returns-in_default
-returns-in_default c = rw c.unexpected.ensures (counted_at _ (record { by = no_enclosed _ c.in_default.ensures }))
+returns-in_default c = rw c.unexpected.ensures (counted_at _ (record { by = enclosing.no_enclosed _ c.in_default.ensures }))
 
 pub returns-in-Some-strip_symbol : goal.returns-in-Some-strip_symbol
 returns-in-Some-strip_symbol c = at_reading c.in-Some.ensures (record {
