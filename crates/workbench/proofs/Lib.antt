@@ -1,1 +1,1 @@
-pub mod FitLemmas
+pub mod OpeningLemmas

@@ -5,7 +5,7 @@ use Rattle.task_model.specs.Tree.{tree_term, at}
 use Rattle.task_model.specs.declared.tree.Tree.{Tree}
 use Rattle.task_model.specs.Checked.{checked_term}
 use Rattle.host_eval.specs.NamesTerm.{names_term}
-use Rattle.workbench.proofs.FitLemmas.{opening_may, opened_fits}
+use Rattle.workbench.proofs.OpeningLemmas.{opening_may, opened_fits}
 use Rattle.workbench.proofs.engines.evaluated.Goals as goal
 
 pub normalise-requires : goal.normalise-requires

@@ -1,7 +1,7 @@
 use Rattle.std.proofs.Common.{sym, ap, ◌∙◌}
 use Rattle.std.specs.Option.{option_map}
 use Rattle.task_model.specs.Value.{value_term}
-use Rattle.workbench.proofs.FitLemmas.{step_fits}
+use Rattle.task_engine.proofs.FittingLemmas.{step_fits}
 use Rattle.workbench.proofs.engines.steps_tested.Goals as goal
 
 pub test_next-requires : goal.test_next-requires

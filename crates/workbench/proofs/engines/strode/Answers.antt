@@ -1,5 +1,5 @@
-use Rattle.workbench.proofs.FitLemmas.{may_stride}
+use Rattle.typing_laws.proofs.CallLemmas.{fits_strides}
 use Rattle.workbench.proofs.engines.strode.Goals as goal
 
 pub stride-requires : goal.stride-requires
-stride-requires c = record { may = may_stride _ _ c.loop.invariant }
+stride-requires c = record { may = fits_strides c.loop.invariant }

@@ -1,5 +1,5 @@
 use Rattle.task_model.specs.Tree.{delay_term}
-use Rattle.workbench.proofs.FitLemmas.{left_fits}
+use Rattle.task_engine.proofs.FittingLemmas.{left_fits}
 use Rattle.workbench.proofs.engines.tested.Goals as goal
 
 pub steps_tested-requires : goal.steps_tested-requires

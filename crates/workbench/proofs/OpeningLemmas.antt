@@ -1,27 +1,23 @@
--- What fits where a program is opened, its tree strides and its tests are made.
-use Rattle.std.proofs.Common.{◌≡◌, List, [], Some, Result, Ok}
+-- What may be evaluated where a program is opened, and what it leads to.
+use Rattle.std.proofs.Common.{◌≡◌, List, [], Result, Ok}
 use Rattle.task_model.specs.Left.{Left}
 use Rattle.task_model.specs.Value.{ValueTerm}
 use Rattle.task_model.specs.Env.{EnvTerm, empty_env}
 use Rattle.task_model.specs.Task.{TaskTerm, call_task}
-use Rattle.task_model.specs.Tree.{LaterTerm, TreeTerm, next_tree, xor_tree, State, at}
+use Rattle.task_model.specs.Tree.{State}
 use Rattle.task_model.specs.Checked.{CheckedTerm}
-use Rattle.task_model.specs.Plan.{strides, normal}
+use Rattle.task_model.specs.Plan.{normal}
 use Rattle.task_model.specs.Judgements.{Normal}
 use Rattle.task_model.specs.Program.{main_name}
 use Rattle.task_model.specs.Accepted.{IsAccepted}
 use Rattle.task_model.specs.Fits.{Fits}
-use Rattle.task_model.specs.Rules.{value_of}
 use Rattle.task_model.specs.Spends.{Spends}
 use Rattle.task_model.specs.declared.purse.Stop.{Stop}
 use Rattle.typing_laws.specs.Supposed.{main_type}
 use Rattle.typing_laws.specs.Well.{MayAsk}
 use Rattle.typing_laws.proofs.HistoryLemmas.{main_fits}
 use Rattle.typing_laws.proofs.RuleLemmas.{derives_typed}
-use Rattle.typing_laws.proofs.TreeLemmas.{value_typed}
-use Rattle.task_engine.specs.Fitting.{ContFits, SideFits}
 
--- ---- the opening
 abbrev done : {X : Type 0} → X → Result X Stop
 done x = Ok x
 
@@ -40,21 +36,3 @@ module _ (c : CheckedTerm) (accepted : IsAccepted c) where
         let d = a.2 in
         let k = derives_typed c accepted d.0 m.typing (normal t env σ) m.supposed (view x) a.0 a.1 d.1 in
         (k.0, m.typing.type, k.2)
-
--- ---- what fits may go on
-pub may_stride : (c : CheckedTerm) (s : State) → Fits c s → MayAsk c (strides s)
-may_stride c s f = record { typing = record { places = f.0; type = f.1 }; supposed = f.2 }
-
-pub step_fits : (c : CheckedTerm) (σ : List ValueTerm) (t : TreeTerm) (k : LaterTerm) (v : ValueTerm) → Fits c (at (next_tree t k) σ)
-    → value_of t σ ≡ Some v → ContFits c k v σ
-step_fits c σ t k v f e = record {
-  places = f.0;
-  takes = f.2.tree.0;
-  gives = f.1;
-  cont = f.2.tree.2;
-  value = value_typed c f.0 (at t σ) f.2.tree.0 v (record { store = f.2.store; tree = f.2.tree.1 }) e;
-  store = f.2.store;
-}
-
-pub left_fits : (c : CheckedTerm) (σ : List ValueTerm) (j k : LaterTerm) → Fits c (at (xor_tree j k) σ) → SideFits c j σ
-left_fits c σ j k f = record { places = f.0; gives = f.1; side = f.2.tree.0; store = f.2.store }
