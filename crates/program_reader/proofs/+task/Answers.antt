@@ -460,19 +460,21 @@ series::choice-returns-then-left-room t c =
 pub series::choice-returns-in_err-right : goal.series::choice-returns-in_err-right
 series::choice-returns-in_err-right t c =
     let le : 1 + c.loop-choice.left.levels ≤ c.args.room = omega arith in
+    let up : 1 + (c.args.room - 1) ≡ c.args.room = omega (arith, le) in
     let show = shown_choice (scope_names c.args.scope.now) c.args.next in
     let enough = loops.enough choice show c.loop-choice.invariant (λ q. q.levels) (λ d. refl) le in
     rw (handed_on c.from_residual-in_err-right.result c.from_residual-in_err-right.ensures.1)
     (loops.next_stop choice show c.loop-choice.invariant (choice_term c.in-Some.choice) c.in-Some.field-0-1 c.in-Some.ensures
-    (below le) enough
+    up enough
     (shown_chain (scope_names c.args.scope.now) c.number_of_choice-number.result) c.in_err-right.ensures)
 
 pub series::choice-loop-choice-preserved : goal.series::choice-loop-choice-preserved
 series::choice-loop-choice-preserved t c =
     let le : 1 + c.loop-choice.left.levels ≤ c.args.room = omega arith in
+    let up : 1 + (c.args.room - 1) ≡ c.args.room = omega (arith, le) in
     let show = shown_choice (scope_names c.args.scope.now) c.args.next in
     let enough = loops.enough choice show c.loop-choice.invariant (λ q. q.levels) (λ d. refl) le in
-    loops.next choice show c.loop-choice.invariant (choice_term c.in-Some.choice) c.in-Some.field-0-1 c.in-Some.ensures (below le) enough
+    loops.next choice show c.loop-choice.invariant (choice_term c.in-Some.choice) c.in-Some.field-0-1 c.in-Some.ensures up enough
     (λ x y ex ey.
     shows.choice_shown (scope_names c.args.scope.now) c.args.next x (choice_term c.in-Some.choice) c.in-Some.field-0-1 y
     c.number_of_choice-number.ensures ex ey ∙ sym c.in_ok-left-2.ensures.shown)
@@ -510,18 +512,20 @@ series::chain-returns-then-left-room t c =
 pub series::chain-returns-in_err-right : goal.series::chain-returns-in_err-right
 series::chain-returns-in_err-right t c =
     let le : 1 + c.loop-after.left.levels ≤ c.args.room = omega arith in
+    let up : 1 + (c.args.room - 1) ≡ c.args.room = omega (arith, le) in
     let show = shown_chain (scope_names c.args.scope.now) c.args.next in
     let enough = loops.enough chain show c.loop-after.invariant (λ q. q.levels) (λ d. refl) le in
     rw (handed_on c.from_residual-in_err-right.result c.from_residual-in_err-right.ensures.1)
-    (loops.next_stop chain show c.loop-after.invariant together c.in-Some.field-0-0 c.in-Some.ensures (below le) enough
+    (loops.next_stop chain show c.loop-after.invariant together c.in-Some.field-0-0 c.in-Some.ensures up enough
     (shown_atom (scope_names c.args.scope.now) c.number_behind-number.result) c.in_err-right.ensures)
 
 pub series::chain-loop-after-preserved : goal.series::chain-loop-after-preserved
 series::chain-loop-after-preserved t c =
     let le : 1 + c.loop-after.left.levels ≤ c.args.room = omega arith in
+    let up : 1 + (c.args.room - 1) ≡ c.args.room = omega (arith, le) in
     let show = shown_chain (scope_names c.args.scope.now) c.args.next in
     let enough = loops.enough chain show c.loop-after.invariant (λ q. q.levels) (λ d. refl) le in
-    loops.next chain show c.loop-after.invariant together c.in-Some.field-0-0 c.in-Some.ensures (below le) enough
+    loops.next chain show c.loop-after.invariant together c.in-Some.field-0-0 c.in-Some.ensures up enough
     (λ x y ex ey.
     shows.chain_shown (scope_names c.args.scope.now) c.args.next x together c.in-Some.field-0-0 y c.number_behind-number.ensures ex ey
     ∙ sym c.in_ok-left-2.ensures.shown)
