@@ -150,7 +150,8 @@ decide_literal ts = let (front, back, e, free, at) = split_at_return ts in go fr
 
 decide_value : (ts : Text) → Ends EndLiteral ts
 decide_value ts = then_ends (λ e h. end_literal_stop h)
-    (λ v rest here. ends_as (λ _. v) (λ x h. end_literal_right here h) (λ e h. end_literal_after here h) (decide_end rest)) (decide_literal ts)
+    (λ v rest here. ends_as (λ _. v) (λ x h. end_literal_right here h) (λ e h. end_literal_after here h) (decide_end rest))
+    (decide_literal ts)
 
 -- ---- acts
 decide_set : (ts : Text) → NoToken 110 ts → NoToken 108 ts → NoToken 114 ts → Ends EndAct ts

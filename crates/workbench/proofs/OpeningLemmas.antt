@@ -25,7 +25,8 @@ module _ (c : CheckedTerm) (accepted : IsAccepted c) where
   main_may : MayAsk c (normal (call_task main_name []) empty_env [])
   main_may = record { typing = record { places = []; type = main_type c.program }; supposed = main_fits c accepted }
 
-  module _ (t : TaskTerm) (env : EnvTerm) (σ : List ValueTerm) (task : t ≡ call_task main_name []) (empty : env ≡ empty_env) (none : σ ≡ []) where
+  module _ (t : TaskTerm) (env : EnvTerm) (σ : List ValueTerm) (task : t ≡ call_task main_name []) (empty : env ≡ empty_env)
+      (none : σ ≡ []) where
     pub opening_may : MayAsk c (normal t env σ)
     opening_may = rw (task, empty, none) main_may
 
