@@ -10,11 +10,12 @@ use answering::{Answer, answered, done, is_test};
 use eval_tests::repeated;
 use showing::{layers_text, state_text};
 use std::alloc::Global;
+use std::process::Abort;
 use std::sync::ledger::Ledger;
 use std::test::Fail;
 use std::thread;
 use task_model::{OutOfMemory, Steps};
-use test_texts::{BlockTest, accepted, assert_right, is_right};
+use test_texts::{BlockTest, accepted, is_right, table_differences};
 
 mod answering;
 mod deep;
@@ -165,19 +166,25 @@ impl BlockTest for Programs {
     }
 }
 
+fn assert_right(rt: &(impl Abort + AllocGlobal), table: &str) -> Result<(), OutOfMemory> {
+    let found = table_differences(rt.alloc(), table, &Programs)?;
+    assert!(rt; found.is_empty(), "{}", found.as_str());
+    Ok(())
+}
+
 #[test]
 fn worked_programs(rt: HostRuntime) -> Result<(), Fail> {
-    Ok(assert_right(&rt, worked::WORKED, &Programs)?)
+    Ok(assert_right(&rt, worked::WORKED)?)
 }
 
 #[test]
 fn single_rules(rt: HostRuntime) -> Result<(), Fail> {
-    Ok(assert_right(&rt, rules::RULES, &Programs)?)
+    Ok(assert_right(&rt, rules::RULES)?)
 }
 
 #[test]
 fn deep_programs(rt: HostRuntime) -> Result<(), Fail> {
-    Ok(assert_right(&rt, deep::DEEP, &Programs)?)
+    Ok(assert_right(&rt, deep::DEEP)?)
 }
 
 #[test]

@@ -3,9 +3,11 @@ mod random;
 
 use random::Histories;
 use std::test::Fail;
-use test_texts::assert_right;
+use test_texts::table_differences;
 
 #[test]
 fn random_histories(rt: HostRuntime) -> Result<(), Fail> {
-    Ok(assert_right(&rt, random::PROGRAMS, &Histories)?)
+    let found = table_differences(rt.alloc(), random::PROGRAMS, &Histories)?;
+    assert!(rt; found.is_empty(), "{}", found.as_str());
+    Ok(())
 }

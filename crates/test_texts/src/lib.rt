@@ -6,5 +6,5 @@ mod tables;
 mod trees;
 
 pub use sources::accepted;
-pub use tables::{BlockTest, assert_right, is_right, table_differences};
+pub use tables::{BlockTest, is_right, table_differences};
 pub use trees::tree_text;

@@ -3,7 +3,6 @@ ghost use Rattle.std.specs.Prelude.{◌≡◌, ◌<◌};
 
 use std::alloc::Global;
 use std::marker::Brand;
-use std::process::Abort;
 use std::sync::ledger::{Blank, Ledger};
 use task_model::{OutOfMemory, Steps};
 
@@ -62,15 +61,4 @@ pub fn is_right<T: BlockTest>(alloc: Global, table: &str, test: &T) -> bool {
         Ok(found) => found.is_empty(),
         Err(_) => false,
     }
-}
-
-/// Asserts that nothing differs from a table.
-pub fn assert_right<T: BlockTest>(
-    rt: &(impl Abort + AllocGlobal),
-    table: &str,
-    test: &T,
-) -> Result<(), OutOfMemory> {
-    let found = table_differences(rt.alloc(), table, test)?;
-    assert!(rt; found.is_empty(), "{}", found.as_str());
-    Ok(())
 }

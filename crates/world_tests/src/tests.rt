@@ -8,11 +8,12 @@ mod setting;
 mod wants;
 
 use std::alloc::Global;
+use std::process::Abort;
 use std::sync::ledger::Ledger;
 use std::test::Fail;
 use std::thread;
 use task_model::{OutOfMemory, Steps};
-use test_texts::{BlockTest, assert_right, is_right, table_differences};
+use test_texts::{BlockTest, is_right, table_differences};
 
 /// What the rows of a block of a table are compared with.
 #[derive(Clone, Copy)]
@@ -41,34 +42,44 @@ impl BlockTest for Kind {
     }
 }
 
+fn assert_right(
+    rt: &(impl Abort + AllocGlobal),
+    table: &str,
+    kind: Kind,
+) -> Result<(), OutOfMemory> {
+    let found = table_differences(rt.alloc(), table, &kind)?;
+    assert!(rt; found.is_empty(), "{}", found.as_str());
+    Ok(())
+}
+
 #[test]
 fn worked_runs(rt: HostRuntime) -> Result<(), Fail> {
-    Ok(assert_right(&rt, run_tables::RUNS, &Kind::Runs)?)
+    Ok(assert_right(&rt, run_tables::RUNS, Kind::Runs)?)
 }
 
 #[test]
 fn acts_at_each_node(rt: HostRuntime) -> Result<(), Fail> {
-    Ok(assert_right(&rt, event_tables::ACTS, &Kind::Events)?)
+    Ok(assert_right(&rt, event_tables::ACTS, Kind::Events)?)
 }
 
 #[test]
 fn exact_units(rt: HostRuntime) -> Result<(), Fail> {
-    Ok(assert_right(&rt, event_tables::UNITS, &Kind::Events)?)
+    Ok(assert_right(&rt, event_tables::UNITS, Kind::Events)?)
 }
 
 #[test]
 fn a_million_units(rt: HostRuntime) -> Result<(), Fail> {
-    Ok(assert_right(&rt, event_tables::MILLION, &Kind::Events)?)
+    Ok(assert_right(&rt, event_tables::MILLION, Kind::Events)?)
 }
 
 #[test]
 fn worked_offers(rt: HostRuntime) -> Result<(), Fail> {
-    Ok(assert_right(&rt, offer_tables::OFFERS, &Kind::Offers)?)
+    Ok(assert_right(&rt, offer_tables::OFFERS, Kind::Offers)?)
 }
 
 #[test]
 fn values_of_each_type(rt: HostRuntime) -> Result<(), Fail> {
-    Ok(assert_right(&rt, setting::SETS, &Kind::Sets)?)
+    Ok(assert_right(&rt, setting::SETS, Kind::Sets)?)
 }
 
 #[test]
