@@ -18,16 +18,11 @@ struct Block<'a> {
     transcript: &'a str,
 }
 
-fn block_of<'a>(text: &'a str, above: &'a str) -> Option<Block<'a>> {
+fn block_of(text: &str) -> Option<Block<'_>> {
     let (head, rest) = text.split_once("\n= ")?;
     let (words, program) = match head.strip_prefix("$ ") {
         Some(behind) => behind.split_once('\n').unwrap_or((behind, "")),
         None => ("run p.th", head),
-    };
-    let program = if program == "same program" {
-        above
-    } else {
-        program
     };
     let (end, transcript) = rest.split_once('\n').unwrap_or((rest, ""));
     let (status, error) = end.split_once(' ').unwrap_or((end, ""));
@@ -63,17 +58,19 @@ fn push_line(text: &mut String, line: &str) -> Result<(), OutOfMemory> {
     Ok(())
 }
 
-// Asserts a block below one of this program: its program.
-fn assert_block<'a>(
+// Asserts a block below one of this program, which becomes the block's.
+fn assert_block(
     rt: &(impl Abort + AllocGlobal),
-    text: &'a str,
-    above: &'a str,
-) -> Result<&'a str, OutOfMemory> {
-    let Some(block) = block_of(text, above) else {
+    text: &str,
+    program: &mut String,
+) -> Result<(), OutOfMemory> {
+    let Some(block) = block_of(text) else {
         assert!(rt; false, "{text}");
-        return Ok(above);
+        return Ok(());
     };
-    let program = repeated(rt.alloc(), block.program)?;
+    if block.program != "same program" {
+        *program = repeated(rt.alloc(), block.program)?;
+    }
     let (script, output) = script_and_output(rt.alloc(), block.transcript)?;
     let mut error = String::new(rt.alloc());
     push_line(&mut error, block.error)?;
@@ -87,7 +84,7 @@ fn assert_block<'a>(
     assert_eq!(rt; status, block.status, "{text}");
     assert_eq!(rt; out.taken(), output.as_str().as_bytes(), "{text}");
     assert_eq!(rt; err.taken(), error.as_str().as_bytes(), "{text}");
-    Ok(block.program)
+    Ok(())
 }
 
 // The blocks of a table, with an empty line between each two.
@@ -95,9 +92,9 @@ pub(crate) fn assert_blocks(
     rt: &(impl Abort + AllocGlobal),
     table: &str,
 ) -> Result<(), OutOfMemory> {
-    let mut program = "";
+    let mut program = String::new(rt.alloc());
     for block in table.trim_end().split("\n\n") {
-        program = assert_block(rt, block, program)?;
+        assert_block(rt, block, &mut program)?;
     }
     Ok(())
 }
