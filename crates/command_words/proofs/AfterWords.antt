@@ -9,7 +9,7 @@ use Rattle.clap.specs.Facts.{explicit_source}
 use Rattle.clap.specs.Walk.{Row, Rule, has_row, with_default}
 use Rattle.clap.specs.Takes.{is_given}
 use Rattle.clap.specs.Faults.{default_fault, defaults_fault, given_default_fault}
-use Rattle.task_model.specs.Text.{Text}
+use Rattle.task_model.specs.Terms.Text.{Text}
 use Rattle.command_words.specs.WordReading.{Use, has}
 use Rattle.command_words.proofs.Rules.{AreOurs, IsOurs, built_options, built_rules, next_index}
 use Rattle.command_words.proofs.Turns.{row_for, rows_for, with_none}

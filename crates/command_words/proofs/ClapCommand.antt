@@ -7,7 +7,7 @@ use Rattle.clap.specs.Simple.{filled_from, is_simple, matches_of}
 use Rattle.clap.specs.Faults.{fault_of, is_simple_and_free}
 use Rattle.clap.proofs.FaultLemmas.{leaf_fault}
 use Rattle.command_words.specs.CommandTables.{app_with, option_rule, rules_for}
-use Rattle.task_model.specs.Text.{Text}
+use Rattle.task_model.specs.Terms.Text.{Text}
 use Rattle.command_words.specs.WordReading.{has, is_distinct}
 use Rattle.command_words.specs.ClapReading.{clap_read}
 use Rattle.command_words.proofs.Rules.{built_rules, filled-rules, next_index, places_at}

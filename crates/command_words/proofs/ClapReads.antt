@@ -12,7 +12,7 @@ use Rattle.clap.specs.Walk.Step.{value}
 use Rattle.clap.specs.Simple.{Shape}
 use Rattle.clap.specs.Faults.{check_fault, repeat_fault, settle_fault, step_fault, turn_fault, use_fault}
 use Rattle.clap.specs.declared.error.kind.ErrorKind.TheVariants as kind
-use Rattle.task_model.specs.Text.{Text}
+use Rattle.task_model.specs.Terms.Text.{Text}
 use Rattle.command_words.specs.WordReading.{Use, WordKind, filled, has, read_word, with_use, without, kind_of_word}
 use Rattle.command_words.specs.ClapReading.{clap_read, clap_value}
 use Rattle.command_words.specs.WordReading.WordKind.{joined, named, plain, refused, stop}

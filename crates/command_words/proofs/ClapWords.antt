@@ -7,7 +7,7 @@ use Rattle.std.specs.List.{after_first, before_first, list_any}
 use Rattle.std.proofs.lemmas.Bool.{eqb-true, or_parts}
 use Rattle.std.proofs.lemmas.Str.{IsUtf8-past_char, encodes-chars}
 use Rattle.clap.specs.Lexer.{long_of, long_of_rest, short_of, short_of_rest, strip_byte}
-use Rattle.task_model.specs.Text.{Text}
+use Rattle.task_model.specs.Terms.Text.{Text}
 use Rattle.command_words.specs.WordReading.{WordKind, is_equals, word_after_dash, word_after_two, kind_of_word}
 use Rattle.command_words.specs.WordReading.WordKind.{joined, named, plain, refused, stop}
 

@@ -13,7 +13,7 @@ use Rattle.clap.specs.Simple.{App, matches_of}
 use Rattle.clap.specs.Faults.{fault_of}
 use Rattle.clap.specs.declared.parser.matches.ArgMatches.{ArgMatches}
 use Rattle.clap.proofs.WalkLemmas.{first_value-rows}
-use Rattle.task_model.specs.Text.{Text}
+use Rattle.task_model.specs.Terms.Text.{Text}
 use Rattle.command_words.specs.WordReading.{Use, has, is_distinct, value_given}
 use Rattle.command_words.specs.ClapReading.{clap_read}
 use Rattle.command_words.specs.CommandTables.{HasUses, app_with, is_table, rules_for}

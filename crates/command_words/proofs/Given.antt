@@ -7,7 +7,7 @@ use Rattle.std.specs.Str.{bytes_eq}
 use Rattle.std.proofs.lemmas.Slice.Eq.{bytes_eq-Decides}
 use Rattle.clap.specs.Matches.{first_value, found_of}
 use Rattle.clap.specs.declared.parser.matches.ArgMatches.{ArgMatches}
-use Rattle.task_model.specs.Text.{Text}
+use Rattle.task_model.specs.Terms.Text.{Text}
 use Rattle.command_words.specs.WordReading.{Use, has, is_distinct, read, value_given}
 use Rattle.command_words.specs.ClapReading.{clap_read}
 use Rattle.command_words.specs.Commands.{CommandTerm, IsAsked, Values, looked_up, run_in, run_options, run_with, usual_budget}

@@ -8,7 +8,7 @@ use Rattle.std.proofs.lemmas.Slice.Eq.{bytes_eq-Decides}
 use Rattle.command_words.specs.WordGrammar.{Fills, Follows, is_option_name}
 use Rattle.command_words.specs.WordGrammar.Fills.{none, one}
 use Rattle.command_words.specs.WordGrammar.Follows.{apart, ended, placed, placed_dash, stopped, together}
-use Rattle.task_model.specs.Text.{Text}
+use Rattle.task_model.specs.Terms.Text.{Text}
 use Rattle.command_words.specs.WordReading.{Use, WordKind, begins_with_dash, filled, has, is_equals, read, read_word, with_use, without, word_after_dash, word_after_two, kind_of_word}
 use Rattle.command_words.specs.WordReading.WordKind.{joined, named, plain, refused, stop}
 use Rattle.command_words.proofs.Names.{has-without-other, has-without-same}

@@ -9,7 +9,7 @@ use Rattle.std.specs.Str.Parse.{ParsesUnsigned, digits_value}
 use Rattle.std.proofs.lemmas.Bool.{cases_lt, le-leb, lt-leb, lt-ltb, le-ltb}
 use Rattle.std.proofs.lemmas.Str.Parse.{numerals_by_value, parse_digits, tells_all_ascii_digits}
 use Rattle.command_words.specs.WordNumbers.{is_number, number_in}
-use Rattle.task_model.specs.Text.{Text}
+use Rattle.task_model.specs.Terms.Text.{Text}
 
 all_digits : (t : Text) → list_all is_ascii_digit t ≡ true → all_ascii_digits t ≡ true
 all_digits [] e = refl

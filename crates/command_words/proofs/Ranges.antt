@@ -5,7 +5,7 @@ use Rattle.std.specs.Str.{bytes_eq}
 use Rattle.std.specs.Str.Parse.{digits_value}
 use Rattle.std.proofs.lemmas.Bool.{and_parts}
 use Rattle.std.proofs.lemmas.Bool.Decides.{nat_tests}
-use Rattle.task_model.specs.Text.{Text}
+use Rattle.task_model.specs.Terms.Text.{Text}
 use Rattle.command_words.specs.WordReading.{Use, read}
 use Rattle.command_words.specs.WordNumbers.{is_number, number_at, number_in, number_or}
 use Rattle.command_words.specs.Commands.{CommandTerm, IsAsked, IsInRange, Values, budget_in, check_in, check_with, command_of, command_term, file_place, looked_up, run_in, run_options, run_with, soak_in, soak_places, soak_with, usual_budget}

@@ -12,7 +12,7 @@ use Rattle.clap.specs.Simple.{filled_from}
 use Rattle.clap.specs.declared.builder.action.ArgAction.TheVariants.{Set}
 use Rattle.clap.specs.declared.builder.value_parser.ValueParser.TheVariants as vp
 use Rattle.command_words.specs.CommandTables.{option_rule, rules_for}
-use Rattle.task_model.specs.Text.{Text}
+use Rattle.task_model.specs.Terms.Text.{Text}
 use Rattle.command_words.specs.WordReading.{has}
 
 -- a rule that takes one value

@@ -5,7 +5,7 @@ use Rattle.std.specs.List.{after_first, before_first, list_any}
 use Rattle.std.specs.Str.{bytes_eq}
 use Rattle.std.proofs.lemmas.Bool.{eqb-true, or_left, or_right}
 use Rattle.std.proofs.lemmas.Slice.Eq.{bytes_eq-Decides}
-use Rattle.task_model.specs.Text.{Text}
+use Rattle.task_model.specs.Terms.Text.{Text}
 use Rattle.command_words.specs.WordReading.{Use, WordKind, begins_with_dash, has, is_equals, read, read_word, value_given, with_use, without, word_after_dash, word_after_two, kind_of_word}
 use Rattle.command_words.specs.ClapReading.{clap_read, clap_value}
 use Rattle.command_words.specs.WordReading.WordKind.{joined, named, plain, refused, stop}

@@ -15,7 +15,7 @@ use Rattle.clap.specs.Faults.{bundle_fault, check_fault, defaults_fault, flags_f
 use Rattle.clap.specs.declared.builder.value_parser.Reading.TheVariants.{AsWritten}
 use Rattle.clap.specs.declared.parser.matches.ValueSource.TheVariants.{CommandLine}
 use Rattle.clap.specs.declared.error.kind.ErrorKind.TheVariants as kind
-use Rattle.task_model.specs.Text.{Text}
+use Rattle.task_model.specs.Terms.Text.{Text}
 use Rattle.command_words.specs.WordReading.{Use}
 use Rattle.command_words.proofs.ClapWords.{dashes, has_character}
 use Rattle.command_words.proofs.Rules.{IsOurs, IsRuleOf, next_index, rule_with}

@@ -1,6 +1,6 @@
 -- The same words as `clap` reads them: the word `-` is a value of an option too.
 use Rattle.std.specs.Prelude.{List, [], ◌∷◌, Option, Some, None}
-use Rattle.task_model.specs.Text.{Text}
+use Rattle.task_model.specs.Terms.Text.{Text}
 use Rattle.command_words.specs.WordReading.{Use, WordKind, read_word, with_use, kind_of_word}
 use Rattle.command_words.specs.WordReading.WordKind.{plain}
 

@@ -1,8 +1,8 @@
 -- Which command the words of a command line ask for, and with which values (docs/FORMATS.md, "Words").
 use Rattle.std.specs.Prelude.{◌≡◌, ℕ, ◌≤◌, List, [], ◌∷◌, Option, Some, None, Result, Ok, Err, codes, if◌then◌else◌}
 use Rattle.std.specs.Str.{bytes_eq}
-use Rattle.task_model.specs.Text.{Text}
-use Rattle.task_model.specs.State.{IsBudget}
+use Rattle.task_model.specs.Terms.Text.{Text}
+use Rattle.task_model.specs.Running.State.{IsBudget}
 use Rattle.command_words.specs.WordReading.{Use, read, value_given}
 use Rattle.command_words.specs.WordNumbers.{number_at, number_or}
 use Rattle.command_words.specs.declared.command.Command.{Command}

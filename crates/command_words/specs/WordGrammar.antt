@@ -1,7 +1,7 @@
 -- The words after a command's name once more, as a grammar with a rule for each thing that they may do.
 use Rattle.std.specs.Prelude.{◌≡◌, ◌++◌, ◌&&◌, nat_lt, not, Bool, true, false, List, ◌∷◌, length, []}
 use Rattle.std.specs.List.{list_any}
-use Rattle.task_model.specs.Text.{Text}
+use Rattle.task_model.specs.Terms.Text.{Text}
 use Rattle.command_words.specs.WordReading.{Use, begins_with_dash, has, is_equals, without}
 
 -- a character or more, and no `=`

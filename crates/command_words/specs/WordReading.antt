@@ -4,7 +4,7 @@ use Rattle.std.specs.Prelude.{◌==◌, ◌&&◌, ℕ, Bool, true, false, not, L
 use Rattle.std.specs.Prelude.{if◌then◌else◌, option_map}
 use Rattle.std.specs.List.{after_first, before_first, filter, find, list_any}
 use Rattle.std.specs.Str.{bytes_eq}
-use Rattle.task_model.specs.Text.{Text}
+use Rattle.task_model.specs.Terms.Text.{Text}
 
 -- the text is among the texts
 abbrev pub has : Text → List Text → Bool

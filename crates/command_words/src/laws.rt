@@ -1,6 +1,6 @@
 ghost use Rattle.std.specs.Prelude.{◌≡◌, ◌↔◌, List, None, Some, true};
 ghost use Rattle.std.specs.List.{list_all};
-ghost use Rattle.task_model.specs.Text.{Text};
+ghost use Rattle.task_model.specs.Terms.Text.{Text};
 ghost use Rattle.command_words.specs.WordGrammar.{Follows, is_option_name};
 ghost use Rattle.command_words.specs.WordReading.{Use, read};
 

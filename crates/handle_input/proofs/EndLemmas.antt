@@ -2,16 +2,16 @@
 use Rattle.std.proofs.Common.{◌≡◌, ◌≤◌, ◌+◌, ℕ, List, map, Option, Some, None, Result, Ok, Err, sym, subst, arith}
 use Rattle.std.specs.Option.{option_map}
 use Rattle.std.specs.Prelude.{OnOk, IfOk, IfSome}
-use Rattle.task_model.specs.Left.{Left}
-use Rattle.task_model.specs.Value.{value_term}
-use Rattle.task_model.specs.Tree.{tree_term, State, at}
-use Rattle.task_model.specs.Input.{InputTerm}
-use Rattle.task_model.specs.Checked.{CheckedTerm}
-use Rattle.task_model.specs.Plan.{Plan}
-use Rattle.task_model.specs.Spends.{Spends}
-use Rattle.task_model.specs.Calls.{RunsPlan}
-use Rattle.task_model.specs.Judgements.{IsWithinBudget}
-use Rattle.task_model.specs.Handling.{interacts, Interacts}
+use Rattle.task_model.specs.Terms.Left.{Left}
+use Rattle.task_model.specs.Terms.Value.{value_term}
+use Rattle.task_model.specs.Terms.Tree.{tree_term, State, at}
+use Rattle.task_model.specs.Terms.Input.{InputTerm}
+use Rattle.task_model.specs.Running.Checked.{CheckedTerm}
+use Rattle.task_model.specs.Running.Plan.{Plan}
+use Rattle.task_model.specs.Running.Spends.{Spends}
+use Rattle.task_model.specs.Syntax.Calls.{RunsPlan}
+use Rattle.task_model.specs.Running.Judgements.{IsWithinBudget}
+use Rattle.task_model.specs.Running.Handling.{interacts, Interacts}
 use Rattle.task_model.specs.declared.purse.Stop.{Stop}
 use Rattle.task_model.specs.declared.stops.ActStop.{ActStop}
 use Rattle.task_model.specs.declared.stops.ActStop.TheVariants as acts

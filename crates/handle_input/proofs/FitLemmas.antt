@@ -2,19 +2,19 @@
 use Rattle.std.proofs.Common.{◌≡◌, ℕ, suc, ◌<◌, List, [], ◌∷◌, ◌++◌, length, map, Option, Ok, refl, ap, subst, arith}
 use Rattle.std.proofs.lemmas.List.{length-map}
 use Rattle.std.proofs.lemmas.Option.{slice_get_within}
-use Rattle.task_model.specs.Left.{Left}
-use Rattle.task_model.specs.Basic.{BasicTerm}
-use Rattle.task_model.specs.Value.{ValueTerm, value_term}
-use Rattle.task_model.specs.Env.{plain_slot}
-use Rattle.task_model.specs.Tree.{LaterTerm, TreeTerm, share_tree, State, at}
-use Rattle.task_model.specs.Input.{InputTerm}
-use Rattle.task_model.specs.Checked.{CheckedTerm}
-use Rattle.task_model.specs.Handling.{unless_failing, handles, settled, interacts}
-use Rattle.task_model.specs.Calls.{RunsPlan}
-use Rattle.task_model.specs.Accepted.{IsAccepted}
-use Rattle.task_model.specs.Fits.{StoreHas, Fits}
+use Rattle.task_model.specs.Terms.Left.{Left}
+use Rattle.task_model.specs.Terms.Basic.{BasicTerm}
+use Rattle.task_model.specs.Terms.Value.{ValueTerm, value_term}
+use Rattle.task_model.specs.Terms.Env.{plain_slot}
+use Rattle.task_model.specs.Terms.Tree.{LaterTerm, TreeTerm, share_tree, State, at}
+use Rattle.task_model.specs.Terms.Input.{InputTerm}
+use Rattle.task_model.specs.Running.Checked.{CheckedTerm}
+use Rattle.task_model.specs.Running.Handling.{unless_failing, handles, settled, interacts}
+use Rattle.task_model.specs.Syntax.Calls.{RunsPlan}
+use Rattle.task_model.specs.Checking.Accepted.{IsAccepted}
+use Rattle.task_model.specs.Checking.Fits.{StoreHas, Fits}
 use Rattle.task_model.specs.declared.value.Value.{Value}
-use Rattle.typing_laws.specs.Supposed.{Supposed, Assured}
+use Rattle.typing_laws.specs.Assumed.{Assumed, Guaranteed}
 use Rattle.typing_laws.specs.Well.{Well}
 use Rattle.typing_laws.proofs.GoodLemmas.{good_any}
 use Rattle.typing_laws.proofs.ValueLemmas.{good_branch}
@@ -75,4 +75,4 @@ pub settling_well : {c : CheckedTerm} {s : State} (i : InputTerm) {X : Type 0} {
     → IsAccepted c → Fits c s → RunsPlan c (handles c s i) view old new (Ok x) → Well c (settled (view x))
 settling_well {c = c} {s = s} i accepted f a =
     well_after (handles c s i) settled accepted
-    (record { good = good_any (Supposed c) (Assured c) (interacts c s i) _ (interacts_good c (facts_of c accepted) f.0 f.1 s i f.2) }) a
+    (record { good = good_any (Assumed c) (Guaranteed c) (interacts c s i) _ (interacts_good c (facts_of c accepted) f.0 f.1 s i f.2) }) a

@@ -2,17 +2,17 @@
 use Rattle.std.proofs.Common.{◌≡◌, ◌≤◌, ◌-◌, ℕ, Bool, true, false, List, [], ◌∷◌, length, take, drop, Option, Some, None, Result, Ok, Err, cond, refl, sym, ap, ◌∙◌, arith}
 use Rattle.std.specs.Option.{option_map}
 use Rattle.std.specs.Prelude.{slice_set, get_or, IfSome}
-use Rattle.task_model.specs.Left.{Left}
-use Rattle.task_model.specs.Basic.{BasicTerm}
-use Rattle.task_model.specs.Value.{ValueTerm, value_has}
-use Rattle.task_model.specs.Tree.{TreeTerm, edit_tree, share_tree, and_tree, or_tree, tree_term, at}
-use Rattle.task_model.specs.Input.{ActTerm, set_act, next_act}
-use Rattle.task_model.specs.Handling.{if_typed, at_editor, rebuilt, rebuilds, stopped, handled}
-use Rattle.task_model.specs.Checked.{CheckedTerm}
-use Rattle.task_model.specs.Plan.{Judgement, Derived, give, Derives}
-use Rattle.task_model.specs.Rules.{rule_of}
-use Rattle.task_model.specs.Spends.{Spends}
-use Rattle.task_model.specs.Calls.{RunsJudgement, RunsPlan}
+use Rattle.task_model.specs.Terms.Left.{Left}
+use Rattle.task_model.specs.Terms.Basic.{BasicTerm}
+use Rattle.task_model.specs.Terms.Value.{ValueTerm, value_has}
+use Rattle.task_model.specs.Terms.Tree.{TreeTerm, edit_tree, share_tree, and_tree, or_tree, tree_term, at}
+use Rattle.task_model.specs.Terms.Input.{ActTerm, set_act, next_act}
+use Rattle.task_model.specs.Running.Handling.{if_typed, at_editor, rebuilt, rebuilds, stopped, handled}
+use Rattle.task_model.specs.Running.Checked.{CheckedTerm}
+use Rattle.task_model.specs.Running.Plan.{Judgement, Derived, give, Derives}
+use Rattle.task_model.specs.Running.Rules.{rule_of}
+use Rattle.task_model.specs.Running.Spends.{Spends}
+use Rattle.task_model.specs.Syntax.Calls.{RunsJudgement, RunsPlan}
 use Rattle.task_model.specs.declared.purse.Stop.{Stop}
 use Rattle.task_model.specs.declared.purse.Stop.TheVariants.{Over, Memory}
 use Rattle.task_model.specs.declared.tree.Tree as tree

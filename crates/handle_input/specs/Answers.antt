@@ -1,10 +1,10 @@
 -- What calls that take an input answer.
 use Rattle.std.specs.Prelude.{ℕ, List, Option, None, Some, Result, Ok, Err}
-use Rattle.task_model.specs.Value.{ValueTerm}
-use Rattle.task_model.specs.Tree.{tree_term, State, at}
-use Rattle.task_model.specs.Input.{InputTerm}
-use Rattle.task_model.specs.Checked.{CheckedTerm}
-use Rattle.task_model.specs.Outcome.{IsOutcome, taken, not_offered, over_budget}
+use Rattle.task_model.specs.Terms.Value.{ValueTerm}
+use Rattle.task_model.specs.Terms.Tree.{tree_term, State, at}
+use Rattle.task_model.specs.Terms.Input.{InputTerm}
+use Rattle.task_model.specs.Running.Checked.{CheckedTerm}
+use Rattle.task_model.specs.Running.Outcome.{IsOutcome, taken, not_offered, over_budget}
 use Rattle.task_model.specs.declared.purse.Stop.{Stop}
 use Rattle.task_model.specs.declared.purse.Stop.TheVariants as stops
 use Rattle.task_model.specs.declared.stops.ActStop.{ActStop}

@@ -1,12 +1,12 @@
 -- What an input does at an editor, and which side of a choice it picks (docs/RULES.md, "Inputs").
 use Rattle.std.specs.Prelude.{ℕ, List, [], Option, None, Some, slice_set, if◌then◌else◌}
-use Rattle.task_model.specs.Basic.{BasicTerm}
-use Rattle.task_model.specs.Value.{ValueTerm, value_has}
-use Rattle.task_model.specs.Tree.{LaterTerm, TreeTerm, edit_tree, share_tree, State, at}
-use Rattle.task_model.specs.Input.{ActTerm, set_act}
-use Rattle.task_model.specs.Checked.{CheckedTerm}
-use Rattle.task_model.specs.Plan.{Plan, give}
-use Rattle.task_model.specs.Handling.{unless_failing}
+use Rattle.task_model.specs.Terms.Basic.{BasicTerm}
+use Rattle.task_model.specs.Terms.Value.{ValueTerm, value_has}
+use Rattle.task_model.specs.Terms.Tree.{LaterTerm, TreeTerm, edit_tree, share_tree, State, at}
+use Rattle.task_model.specs.Terms.Input.{ActTerm, set_act}
+use Rattle.task_model.specs.Running.Checked.{CheckedTerm}
+use Rattle.task_model.specs.Running.Plan.{Plan, give}
+use Rattle.task_model.specs.Running.Handling.{unless_failing}
 use Rattle.task_model.specs.declared.input.Turn.{Turn}
 
 -- a value, if it has the type

@@ -1,10 +1,10 @@
 ghost use Rattle.std.specs.Prelude.{◌≡◌, ◌<◌, length, map, IfOk, IfSome};
 ghost use Rattle.std.specs.Option.{option_map};
-ghost use Rattle.task_model.specs.Basic.{basic_term};
-ghost use Rattle.task_model.specs.Value.{value_term};
-ghost use Rattle.task_model.specs.Tree.{tree_term, at};
-ghost use Rattle.task_model.specs.Input.{act_term};
-ghost use Rattle.task_model.specs.Held.{IsHeld, IsHeldAct};
+ghost use Rattle.task_model.specs.Terms.Basic.{basic_term};
+ghost use Rattle.task_model.specs.Terms.Value.{value_term};
+ghost use Rattle.task_model.specs.Terms.Tree.{tree_term, at};
+ghost use Rattle.task_model.specs.Terms.Input.{act_term};
+ghost use Rattle.task_model.specs.Terms.Held.{IsHeld, IsHeldAct};
 ghost use Rattle.handle_input.specs.Editing as words;
 
 use shared_store::Store;

@@ -1,15 +1,15 @@
 ghost use Rattle.std.specs.Prelude.{◌≡◌, map, IfOk, IfSome, OnErr, OnOk, Some};
 ghost use Rattle.std.specs.Option.{option_map};
-ghost use Rattle.task_model.specs.Value.{value_term};
-ghost use Rattle.task_model.specs.Tree.{tree_term, at};
-ghost use Rattle.task_model.specs.Input.{input_term};
-ghost use Rattle.task_model.specs.Handling as model;
-ghost use Rattle.task_model.specs.Held.{IsHeldAct};
-ghost use Rattle.task_model.specs.Accepted.{IsAccepted};
-ghost use Rattle.task_model.specs.Checked.{checked_term};
-ghost use Rattle.task_model.specs.Fits.{Fits};
-ghost use Rattle.task_model.specs.Spends.{Spends};
-ghost use Rattle.task_model.specs.Calls.{RunsPlan};
+ghost use Rattle.task_model.specs.Terms.Value.{value_term};
+ghost use Rattle.task_model.specs.Terms.Tree.{tree_term, at};
+ghost use Rattle.task_model.specs.Terms.Input.{input_term};
+ghost use Rattle.task_model.specs.Running.Handling as model;
+ghost use Rattle.task_model.specs.Terms.Held.{IsHeldAct};
+ghost use Rattle.task_model.specs.Checking.Accepted.{IsAccepted};
+ghost use Rattle.task_model.specs.Running.Checked.{checked_term};
+ghost use Rattle.task_model.specs.Checking.Fits.{Fits};
+ghost use Rattle.task_model.specs.Running.Spends.{Spends};
+ghost use Rattle.task_model.specs.Syntax.Calls.{RunsPlan};
 ghost use Rattle.typing_laws.specs.Well.{Well};
 ghost use Rattle.handle_input.specs.Answers.{plan_answer, TellsOutcome};
 

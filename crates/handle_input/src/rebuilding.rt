@@ -1,7 +1,7 @@
 ghost use Rattle.std.specs.Prelude.{◌≡◌, IfOk};
 ghost use Rattle.std.specs.Option.{option_map};
 ghost use Rattle.std.specs.Arc.{arc_value};
-ghost use Rattle.task_model.specs.Tree.{cont_term, tree_term};
+ghost use Rattle.task_model.specs.Terms.Tree.{cont_term, tree_term};
 ghost use Rattle.task_engine.specs.Kinds as kinds;
 
 use std::alloc::Global;

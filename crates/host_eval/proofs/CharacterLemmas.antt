@@ -4,8 +4,8 @@ use Rattle.std.proofs.lemmas.List.{append_assoc, drop-drop, length-take-le}
 use Rattle.std.proofs.Math.Seq.{take-add}
 use Rattle.std.specs.Prelude.{nat_le, nat_lt, slice_index}
 use Rattle.std.proofs.lemmas.Bool.Decides.{nat_tests}
-use Rattle.task_model.specs.Text.{Text}
-use Rattle.task_model.specs.Characters.{continues, joined, characters_of, fitting, cut_text}
+use Rattle.task_model.specs.Terms.Text.{Text}
+use Rattle.task_model.specs.Syntax.Characters.{continues, joined, characters_of, fitting, cut_text}
 use Rattle.host_eval.proofs.ListLemmas.{slice_is}
 use Rattle.host_eval.specs.ValueWords.{starts}
 

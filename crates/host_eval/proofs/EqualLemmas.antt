@@ -3,8 +3,8 @@ use Rattle.std.proofs.Common.{◌≡◌, Bool, true, false, cond, IsTrue, refl, 
 use Rattle.std.proofs.lemmas.Bool.Decides.{Decides-int_eq}
 use Rattle.std.proofs.lemmas.Cmp.{int_eq_equiv, nat_list_eq_equiv}
 use Rattle.std.specs.Cmp.Lexicographic as texts
-use Rattle.task_model.specs.Value.{ValueTerm, unit_value, bool_value, int_value, text_value, pair_value, list_value, ValueTerms, no_values, more_values}
-use Rattle.task_model.specs.Operators.{same_bool, same_value, same_values}
+use Rattle.task_model.specs.Terms.Value.{ValueTerm, unit_value, bool_value, int_value, text_value, pair_value, list_value, ValueTerms, no_values, more_values}
+use Rattle.task_model.specs.Running.Operators.{same_bool, same_value, same_values}
 
 abbrev both : Bool → Bool → Bool
 both a b = cond a b false

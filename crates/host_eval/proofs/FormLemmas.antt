@@ -1,15 +1,15 @@
--- How the calls inside an expression's forms are answered: what each may suppose, and what its answer comes to.
+-- How the calls inside an expression's forms are answered: what each may assume, and what its answer comes to.
 use Rattle.std.proofs.Common.{◌≡◌, Bool, Option, Some, List, Result, ap}
 use Rattle.std.specs.Prelude.{IsSome}
-use Rattle.task_model.specs.Left.{Left}
-use Rattle.task_model.specs.Value.{ValueTerm}
-use Rattle.task_model.specs.Env.{EnvTerm}
-use Rattle.task_model.specs.Host.{HostTerm}
-use Rattle.task_model.specs.Checked.{CheckedTerm}
-use Rattle.task_model.specs.Accepted.{IsAccepted}
-use Rattle.task_model.specs.Plan.{gives_value, Plan}
-use Rattle.task_model.specs.Rules.{branch, chosen, matched, value_rule}
-use Rattle.task_model.specs.Calls.{RunsPlan}
+use Rattle.task_model.specs.Terms.Left.{Left}
+use Rattle.task_model.specs.Terms.Value.{ValueTerm}
+use Rattle.task_model.specs.Terms.Env.{EnvTerm}
+use Rattle.task_model.specs.Terms.Host.{HostTerm}
+use Rattle.task_model.specs.Running.Checked.{CheckedTerm}
+use Rattle.task_model.specs.Checking.Accepted.{IsAccepted}
+use Rattle.task_model.specs.Running.Plan.{gives_value, Plan}
+use Rattle.task_model.specs.Running.Rules.{branch, chosen, matched, value_rule}
+use Rattle.task_model.specs.Syntax.Calls.{RunsPlan}
 use Rattle.task_model.specs.declared.purse.Stop.{Stop}
 use Rattle.typing_laws.specs.Well.{MayAsk, Well}
 use Rattle.typing_laws.proofs.CallLemmas.{well_known}
@@ -22,7 +22,7 @@ pub inside : {K : Type 0} {Outlives Falls Lasts : K → Type 0} {P : Type 0} →
     → (κs : K) → Outlives κs → Falls κs × (Lasts κs × P)
 inside within clauses κs lives = ((within κs lives).0, ((within κs lives).1, clauses))
 
--- what a form may suppose
+-- what a form may assume
 pub arm : {c : CheckedTerm} {env : EnvTerm} {σ : List ValueTerm} {e f : HostTerm} → IsAccepted c → MayAsk c (gives_value e env σ) → e ≡ f
     → IsAccepted c × Well c (value_rule c f env σ)
 arm accepted may is = (accepted, well_arm is accepted may)

@@ -1,10 +1,10 @@
 -- Names that are looked for from the innermost one.
 use Rattle.std.proofs.Common.{◌≡◌, ℕ, zero, suc, ◌+◌, ◌-◌, ◌<◌, ◌≤◌, Bool, true, false, cond, Option, None, Some, List, [], ◌∷◌, ◌++◌, length, take, get_or, map, refl, sym, ap, ◌∙◌, arith}
 use Rattle.std.specs.Option.{option_or}
-use Rattle.task_model.specs.Text.{Text, same_text}
-use Rattle.task_model.specs.Env.{SlotTerm, slot_term}
-use Rattle.task_model.specs.Program.{param_term}
-use Rattle.task_model.specs.Checked.{found, param_names}
+use Rattle.task_model.specs.Terms.Text.{Text, same_text}
+use Rattle.task_model.specs.Terms.Env.{SlotTerm, slot_term}
+use Rattle.task_model.specs.Terms.Program.{param_term}
+use Rattle.task_model.specs.Running.Checked.{found, param_names}
 use Rattle.task_model.specs.declared.env.Slot.{Slot}
 use Rattle.task_model.specs.declared.program.Param.{Param}
 use Rattle.std.proofs.lemmas.List.{get_or-map, length-map, length-append, length-take-le}

@@ -1,16 +1,16 @@
 -- How plans come together that look for something first.
 use Rattle.std.proofs.Common.{◌≡◌, ◌<◌, ◌≤◌, ◌+◌, ◌-◌, length, take, drop, get_or, cond, arith, ℕ, Bool, true, false, List, [], ◌∷◌, ◌++◌, Option, Some, None, Result, map, refl, sym, ap, ◌∙◌, subst}
-use Rattle.task_model.specs.Left.{Left}
-use Rattle.task_model.specs.Text.{Text, same_text}
-use Rattle.task_model.specs.Value.{ValueTerm, bool_value, list_value, no_values, more_values, value_term}
-use Rattle.task_model.specs.Operators.{operated}
-use Rattle.task_model.specs.Env.{SlotTerm, plain_slot, place_slot, slot_term, EnvTerm}
-use Rattle.task_model.specs.Host.{HostTerm, HostTerms, as_exprs, call_expr, host_term}
-use Rattle.task_model.specs.Program.{KindTerm, plain_kind, ref_kind, kind_term, ParamTerm, param_term, DefTerm, ProgramTerm}
-use Rattle.task_model.specs.Checked.{CheckedTerm, Function, slot_of, what_nodes, def_in, function_of}
-use Rattle.task_model.specs.Plan.{gives_value, Plan, give, stuck, ask, after, known}
-use Rattle.task_model.specs.Rules.{as_value, as_place, branch, chosen, matched, bare_name, exprs_of, value_rule, slot_for, slots_for, values_for, op_rule}
-use Rattle.task_model.specs.Calls.{RunsPlan}
+use Rattle.task_model.specs.Terms.Left.{Left}
+use Rattle.task_model.specs.Terms.Text.{Text, same_text}
+use Rattle.task_model.specs.Terms.Value.{ValueTerm, bool_value, list_value, no_values, more_values, value_term}
+use Rattle.task_model.specs.Running.Operators.{operated}
+use Rattle.task_model.specs.Terms.Env.{SlotTerm, plain_slot, place_slot, slot_term, EnvTerm}
+use Rattle.task_model.specs.Terms.Host.{HostTerm, HostTerms, as_exprs, call_expr, host_term}
+use Rattle.task_model.specs.Terms.Program.{KindTerm, plain_kind, ref_kind, kind_term, ParamTerm, param_term, DefTerm, ProgramTerm}
+use Rattle.task_model.specs.Running.Checked.{CheckedTerm, Function, slot_of, what_nodes, def_in, function_of}
+use Rattle.task_model.specs.Running.Plan.{gives_value, Plan, give, stuck, ask, after, known}
+use Rattle.task_model.specs.Running.Rules.{as_value, as_place, branch, chosen, matched, bare_name, exprs_of, value_rule, slot_for, slots_for, values_for, op_rule}
+use Rattle.task_model.specs.Syntax.Calls.{RunsPlan}
 use Rattle.task_model.specs.declared.host.Op.{Op}
 use Rattle.task_model.specs.declared.host.Op.TheVariants as ops
 use Rattle.task_model.specs.declared.purse.Stop.{Stop}
@@ -118,13 +118,13 @@ argument_is env e = (λ i. known (bare_name e) (λ x. placed_is env x (λ n. giv
 
 -- ---- operators
 or_is : (v : ValueTerm) (b : Plan ValueTerm) → chosen v (give (bool_value true)) b
-    ≡ known (truth_of v) (λ t. branch (Rattle.task_model.specs.Operators.same_bool t true) (give (bool_value true)) b)
+    ≡ known (truth_of v) (λ t. branch (Rattle.task_model.specs.Running.Operators.same_bool t true) (give (bool_value true)) b)
 or_is (bool_value true) b = refl
 or_is (bool_value false) b = refl
 or_is v b = refl
 
 and_is : (v : ValueTerm) (b : Plan ValueTerm) → chosen v b (give (bool_value false))
-    ≡ known (truth_of v) (λ t. branch (Rattle.task_model.specs.Operators.same_bool t false) (give (bool_value false)) b)
+    ≡ known (truth_of v) (λ t. branch (Rattle.task_model.specs.Running.Operators.same_bool t false) (give (bool_value false)) b)
 and_is (bool_value true) b = refl
 and_is (bool_value false) b = refl
 and_is v b = refl

@@ -1,6 +1,6 @@
 -- Equal terms.
 use Rattle.std.proofs.Common.{◌≡◌, ℕ, zero, suc, ◌<◌, length, get_or, arith, List, [], ◌∷◌, map, refl, sym, ap, ◌∙◌}
-use Rattle.task_model.specs.Value.{ValueTerm, list_value, as_values}
+use Rattle.task_model.specs.Terms.Value.{ValueTerm, list_value, as_values}
 
 as_values-same : (us ws : List ValueTerm) → as_values us ≡ as_values ws → us ≡ ws
 as_values-same [] [] e = refl

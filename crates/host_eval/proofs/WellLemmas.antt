@@ -3,24 +3,24 @@ use Rattle.std.proofs.Common.{◌≡◌, ℕ, suc, ◌<◌, Option, None, Some, 
 use Rattle.std.specs.Prelude.{IsSome, slice_get}
 use Rattle.std.proofs.lemmas.List.{length-map}
 use Rattle.std.proofs.lemmas.Option.{slice_get_within}
-use Rattle.task_model.specs.Left.{Left}
-use Rattle.task_model.specs.Value.{ValueTerm, value_term, value_has}
-use Rattle.task_model.specs.Accepted.{IsAccepted}
-use Rattle.task_model.specs.Calls.{RunsJudgement}
+use Rattle.task_model.specs.Terms.Left.{Left}
+use Rattle.task_model.specs.Terms.Value.{ValueTerm, value_term, value_has}
+use Rattle.task_model.specs.Checking.Accepted.{IsAccepted}
+use Rattle.task_model.specs.Syntax.Calls.{RunsJudgement}
 use Rattle.task_model.specs.declared.purse.Stop.{Stop}
 use Rattle.task_model.specs.declared.value.Value.{Value}
-use Rattle.typing_laws.specs.Supposed.{Typing, ExpressionFits}
-use Rattle.task_model.specs.Basic.{BasicTerm}
-use Rattle.task_model.specs.Env.{SlotTerm, EnvTerm}
-use Rattle.task_model.specs.Text.{Text}
-use Rattle.task_model.specs.Host.{HostTerm, as_exprs, call_expr, host_term}
-use Rattle.task_model.specs.Program.{ParamTerm, param_term}
-use Rattle.task_model.specs.Checked.{CheckedTerm, Function, fun_named}
-use Rattle.task_model.specs.Rules.{value_rule, slots_for}
+use Rattle.typing_laws.specs.Assumed.{Typing, ExpressionFits}
+use Rattle.task_model.specs.Terms.Basic.{BasicTerm}
+use Rattle.task_model.specs.Terms.Env.{SlotTerm, EnvTerm}
+use Rattle.task_model.specs.Terms.Text.{Text}
+use Rattle.task_model.specs.Terms.Host.{HostTerm, as_exprs, call_expr, host_term}
+use Rattle.task_model.specs.Terms.Program.{ParamTerm, param_term}
+use Rattle.task_model.specs.Running.Checked.{CheckedTerm, Function, fun_named}
+use Rattle.task_model.specs.Running.Rules.{value_rule, slots_for}
 use Rattle.task_model.specs.declared.host.Host.{Host}
 use Rattle.task_model.specs.declared.program.Param.{Param}
-use Rattle.task_model.specs.Fits.{SlotsHave}
-use Rattle.task_model.specs.Plan.{gives_value, Plan, stuck, known}
+use Rattle.task_model.specs.Checking.Fits.{SlotsHave}
+use Rattle.task_model.specs.Running.Plan.{gives_value, Plan, stuck, known}
 use Rattle.typing_laws.specs.Well.{MayAsk, Well}
 use Rattle.typing_laws.proofs.CallLemmas.{well_rule, well_some, well_known}
 use Rattle.typing_laws.proofs.RuleLemmas.{derives_typed}
@@ -91,7 +91,7 @@ slots_paired Σ (s ∷ ss) [] h = absurd h
 -- there are as many slots as names
 pub may_paired : {c : CheckedTerm} {e : HostTerm} {env : EnvTerm} {σ : List ValueTerm} → MayAsk c (gives_value e env σ) → IsPaired env
 may_paired {env = env} m =
-    let fits = m.supposed in
+    let fits = m.assumed in
     ap length fits.names.names ∙ length-map fits.scope (λ q. q.name)
     ∙ slots_paired m.typing.places env.slots fits.scope fits.names.slots
 

@@ -1,5 +1,5 @@
 -- The parts of a list as terms.
-use Rattle.task_model.specs.Value.{ValueTerm, value_term}
+use Rattle.task_model.specs.Terms.Value.{ValueTerm, value_term}
 use Rattle.host_eval.specs.declared.head_and_tail.HeadAndTail.{HeadAndTail}
 
 abbrev pub head_and_tail : HeadAndTail → ValueTerm × ValueTerm

@@ -1,8 +1,8 @@
 -- Environments that are borrowed, as plain terms.
 use Rattle.std.specs.Prelude.{◌≡◌, List, [], ◌∷◌, ◌++◌, map, length}
-use Rattle.task_model.specs.Text.{Text}
-use Rattle.task_model.specs.Env.{SlotTerm, slot_term, EnvTerm}
-use Rattle.task_model.specs.Scope.{scope_names}
+use Rattle.task_model.specs.Terms.Text.{Text}
+use Rattle.task_model.specs.Terms.Env.{SlotTerm, slot_term, EnvTerm}
+use Rattle.task_model.specs.Terms.Scope.{scope_names}
 use Rattle.host_eval.specs.declared.names.Links as links
 use Rattle.host_eval.specs.declared.names.Names.{Names}
 

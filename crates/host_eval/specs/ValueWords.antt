@@ -1,16 +1,16 @@
 -- Words for what the rules take apart.
 use Rattle.std.specs.Prelude.{ℕ, Bool, true, false, List, [], ◌∷◌, not, if◌then◌else◌, Option, Some, None, slice_get}
 use Rattle.std.specs.Option.{option_map}
-use Rattle.task_model.specs.Text.{Text, same_text}
-use Rattle.task_model.specs.Characters.{continues}
-use Rattle.task_model.specs.Value.{ValueTerm, bool_value, list_value, no_values, more_values}
-use Rattle.task_model.specs.Operators.{same_bool, operated, negated, opposite, first_of, second_of, length_of}
-use Rattle.task_model.specs.Env.{SlotTerm, plain_slot, place_slot, EnvTerm}
-use Rattle.task_model.specs.Host.{HostTerm}
-use Rattle.task_model.specs.Program.{ParamTerm, DefTerm}
-use Rattle.task_model.specs.Checked.{slot_of, param_names, Function, function_of}
-use Rattle.task_model.specs.Plan.{gives_value, Plan, give, ask, unit, after, known}
-use Rattle.task_model.specs.Rules.{branch, bare_name, slots_for}
+use Rattle.task_model.specs.Terms.Text.{Text, same_text}
+use Rattle.task_model.specs.Syntax.Characters.{continues}
+use Rattle.task_model.specs.Terms.Value.{ValueTerm, bool_value, list_value, no_values, more_values}
+use Rattle.task_model.specs.Running.Operators.{same_bool, operated, negated, opposite, first_of, second_of, length_of}
+use Rattle.task_model.specs.Terms.Env.{SlotTerm, plain_slot, place_slot, EnvTerm}
+use Rattle.task_model.specs.Terms.Host.{HostTerm}
+use Rattle.task_model.specs.Terms.Program.{ParamTerm, DefTerm}
+use Rattle.task_model.specs.Running.Checked.{slot_of, param_names, Function, function_of}
+use Rattle.task_model.specs.Running.Plan.{gives_value, Plan, give, ask, unit, after, known}
+use Rattle.task_model.specs.Running.Rules.{branch, bare_name, slots_for}
 use Rattle.task_model.specs.declared.host.Op.{Op}
 use Rattle.task_model.specs.declared.host.Op.TheVariants as ops
 use Rattle.host_eval.specs.declared.unary.Unary.{Unary}

@@ -1,6 +1,6 @@
 ghost use Rattle.std.specs.Prelude.{◌≡◌, ◌<◌, ◌≤◌, ◌^◌, true, ◌∷◌, ◌++◌, length, take, drop, IfOk, string_bytes};
-ghost use Rattle.task_model.specs.Characters.{continues, characters_of, cut_text};
-ghost use Rattle.task_model.specs.Characters as rules;
+ghost use Rattle.task_model.specs.Syntax.Characters.{continues, characters_of, cut_text};
+ghost use Rattle.task_model.specs.Syntax.Characters as rules;
 ghost use Rattle.host_eval.specs.ValueWords as words;
 
 use std::alloc::{AllocError, Global};

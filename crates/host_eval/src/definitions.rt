@@ -1,7 +1,7 @@
 ghost use Rattle.std.specs.Prelude.{◌≡◌, map};
 ghost use Rattle.std.specs.Option.{option_map};
-ghost use Rattle.task_model.specs.Host.{host_term};
-ghost use Rattle.task_model.specs.Program.{param_term, def_term};
+ghost use Rattle.task_model.specs.Terms.Host.{host_term};
+ghost use Rattle.task_model.specs.Terms.Program.{param_term, def_term};
 ghost use Rattle.host_eval.specs.ValueWords.{function_in, function_term};
 
 use task_model::{DefBody, Host, Param, Program, TaskText};

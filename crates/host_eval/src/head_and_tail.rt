@@ -1,6 +1,6 @@
 ghost use Rattle.std.specs.Prelude.{◌≡◌, map, IfOk, IsSome, Some};
 ghost use Rattle.std.specs.Option.{option_map};
-ghost use Rattle.task_model.specs.Value.{list_value, as_values, value_term};
+ghost use Rattle.task_model.specs.Terms.Value.{list_value, as_values, value_term};
 ghost use Rattle.host_eval.specs.ValueWords as words;
 ghost use Rattle.host_eval.specs.HeadAndTail.{head_and_tail};
 

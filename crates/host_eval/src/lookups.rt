@@ -1,9 +1,9 @@
 ghost use Rattle.std.specs.Prelude.{◌≡◌, ◌<◌, map, length, IfOk, IsSome, Some, slice_get};
-ghost use Rattle.task_model.specs.Value.{value_term};
-ghost use Rattle.task_model.specs.Env.{slot_term};
-ghost use Rattle.task_model.specs.Host.{host_term};
-ghost use Rattle.task_model.specs.Program.{param_term, def_term};
-ghost use Rattle.task_model.specs.Checked.{slot_of};
+ghost use Rattle.task_model.specs.Terms.Value.{value_term};
+ghost use Rattle.task_model.specs.Terms.Env.{slot_term};
+ghost use Rattle.task_model.specs.Terms.Host.{host_term};
+ghost use Rattle.task_model.specs.Terms.Program.{param_term, def_term};
+ghost use Rattle.task_model.specs.Running.Checked.{slot_of};
 ghost use Rattle.host_eval.specs.NamesTerm.{IsPaired, names_term};
 ghost use Rattle.host_eval.specs.ValueWords as words;
 

@@ -1,5 +1,5 @@
 ghost use Rattle.std.specs.Prelude.{◌≡◌};
-ghost use Rattle.task_model.specs.Text.{Text, same_text};
+ghost use Rattle.task_model.specs.Terms.Text.{Text, same_text};
 
 use task_model::{Param, TaskText};
 

@@ -1,10 +1,10 @@
 ghost use Rattle.std.specs.Prelude.{◌≡◌, length, map};
 ghost use Rattle.std.specs.Option.{option_map};
-ghost use Rattle.task_model.specs.Env.{slot_term};
-ghost use Rattle.task_model.specs.Program.{param_term};
-ghost use Rattle.task_model.specs.Checked.{found, param_names, slot_of};
-ghost use Rattle.task_model.specs.Scope.{scope_names};
-ghost use Rattle.task_model.specs.Rules as rules;
+ghost use Rattle.task_model.specs.Terms.Env.{slot_term};
+ghost use Rattle.task_model.specs.Terms.Program.{param_term};
+ghost use Rattle.task_model.specs.Running.Checked.{found, param_names, slot_of};
+ghost use Rattle.task_model.specs.Terms.Scope.{scope_names};
+ghost use Rattle.task_model.specs.Running.Rules as rules;
 ghost use Rattle.host_eval.specs.NamesTerm.{names_in, slots_in, names_term, IsPaired};
 
 use crate::named::Named;

@@ -1,7 +1,7 @@
 ghost use Rattle.std.specs.Prelude.{◌≡◌, ◌∷◌, ◌++◌, map, IfOk, IsSome, Some};
-ghost use Rattle.task_model.specs.Characters.{cut_text};
-ghost use Rattle.task_model.specs.Value.{text_value, value_term};
-ghost use Rattle.task_model.specs.Operators as rules;
+ghost use Rattle.task_model.specs.Syntax.Characters.{cut_text};
+ghost use Rattle.task_model.specs.Terms.Value.{text_value, value_term};
+ghost use Rattle.task_model.specs.Running.Operators as rules;
 ghost use Rattle.host_eval.specs.ValueWords as words;
 
 use crate::characters::{characters, cut_join};

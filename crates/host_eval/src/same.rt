@@ -1,5 +1,5 @@
 ghost use Rattle.std.specs.Prelude.{◌≡◌, ◌↔◌, IsTrue, map};
-ghost use Rattle.task_model.specs.Value.{value_term};
+ghost use Rattle.task_model.specs.Terms.Value.{value_term};
 
 use task_model::Value;
 

@@ -1,16 +1,16 @@
 -- A form that binds a name, whether to a value or to a place.
 use Rattle.std.specs.Prelude.{ℕ, suc, ◌+◌, List, [], ◌∷◌, ◌++◌, Result, MatchResult}
-use Rattle.task_model.specs.Text.{Text}
-use Rattle.task_model.specs.Basic.{BasicTerm}
-use Rattle.task_model.specs.Host.{HostTerm}
-use Rattle.task_model.specs.Program.{ParamTerm}
-use Rattle.task_model.specs.Names.{CallsTerm, all_open}
-use Rattle.task_model.specs.TypeFault.{◌⨾◌, whole}
-use Rattle.task_model.specs.FullTask.{FullTask}
-use Rattle.task_model.specs.NodeCounts.{nodes, task_nodes}
-use Rattle.task_model.specs.TypeOf.{type_of, task_type, listed_types}
-use Rattle.task_model.specs.Demands.{has_place, all_demands}
-use Rattle.task_model.specs.TaskDemands.{task_demands}
+use Rattle.task_model.specs.Terms.Text.{Text}
+use Rattle.task_model.specs.Terms.Basic.{BasicTerm}
+use Rattle.task_model.specs.Terms.Host.{HostTerm}
+use Rattle.task_model.specs.Terms.Program.{ParamTerm}
+use Rattle.task_model.specs.Checking.Names.{CallsTerm, all_open}
+use Rattle.task_model.specs.Checking.TypeFault.{◌⨾◌, whole}
+use Rattle.task_model.specs.Checking.FullTask.{FullTask}
+use Rattle.task_model.specs.Checking.NodeCounts.{nodes, task_nodes}
+use Rattle.task_model.specs.Checking.TypeOf.{type_of, task_type, listed_types}
+use Rattle.task_model.specs.Checking.Demands.{has_place, all_demands}
+use Rattle.task_model.specs.Checking.TaskDemands.{task_demands}
 use Rattle.host_types.specs.Answer.{IsTask, IsStop, ChecksTaskForm}
 use Rattle.host_types.specs.Bound.{bound_kind, bound_form}
 use Rattle.host_types.specs.declared.bound_to.BoundTo.{BoundTo}

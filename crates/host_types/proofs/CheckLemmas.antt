@@ -1,20 +1,20 @@
 -- The program that a check has seen.
 use Rattle.std.proofs.Common.{◌≡◌, List, [], ◌++◌, map, None, Result, Ok, Err, refl, sym, ap, ◌∙◌, subst}
 use Rattle.std.specs.Prelude.{IsErrAnd}
-use Rattle.task_model.specs.Basic.{BasicTerm}
-use Rattle.task_model.specs.Task.{body_term}
-use Rattle.task_model.specs.Program.{ProgramTerm, def_term, program_term}
+use Rattle.task_model.specs.Terms.Basic.{BasicTerm}
+use Rattle.task_model.specs.Terms.Task.{body_term}
+use Rattle.task_model.specs.Terms.Program.{ProgramTerm, def_term, program_term}
 use Rattle.task_model.specs.declared.task.Body.{Body}
 use Rattle.task_model.specs.declared.program.Program.{Program}
 use Rattle.host_types.specs.declared.definitions.Definitions.{Definitions}
 use Rattle.host_types.specs.declared.fault.CheckStop.{CheckStop}
-use Rattle.task_model.specs.TypeFault.{first_fault}
-use Rattle.task_model.specs.TaskDemands.{demands_of, types_of, fault_of}
+use Rattle.task_model.specs.Checking.TypeFault.{first_fault}
+use Rattle.task_model.specs.Checking.TaskDemands.{demands_of, types_of, fault_of}
 use Rattle.host_types.specs.Answer.{StopsBy, IsStop}
-use Rattle.task_model.specs.Accepted.{IsAccepted}
+use Rattle.task_model.specs.Checking.Accepted.{IsAccepted}
 use Rattle.host_types.specs.declared.fault.CheckStop.TheVariants.{Fault, Memory}
 use Rattle.host_types.specs.CheckWords.{seen_program, IsChecked, IsFirstTypeFault}
-use Rattle.task_model.specs.Written.{IsWritten}
+use Rattle.task_model.specs.Syntax.Written.{IsWritten}
 use Rattle.task_model.proofs.DemandLemmas.{first_unmet-listed}
 
 same_program : (d : Definitions) (bodies : List Body) (p : Program) → d.defs.now ≡ p.defs.list → bodies ≡ p.bodies.list

@@ -1,12 +1,12 @@
 -- A type is listed for each `edit` and `share` node.
 use Rattle.std.proofs.Common.{◌≡◌, ℕ, ◌+◌, List, ◌++◌, length, length-append, refl, ap, ◌∙◌}
-use Rattle.task_model.specs.Basic.{BasicTerm}
-use Rattle.task_model.specs.Program.{ParamTerm, DefTerm}
-use Rattle.task_model.specs.TypeParts.{item_part}
-use Rattle.task_model.specs.Names.{bind_value, bind_place}
-use Rattle.task_model.specs.FullTask.{FullTask, full_edit, full_enter, full_share, full_fail, full_call, full_step, full_and, full_or, full_xor, full_let, full_if, full_case, full_new, full_put, full_absent}
-use Rattle.task_model.specs.TypeOf.{type_of, task_type, listed_types}
-use Rattle.task_model.specs.Placed.{edit_nodes}
+use Rattle.task_model.specs.Terms.Basic.{BasicTerm}
+use Rattle.task_model.specs.Terms.Program.{ParamTerm, DefTerm}
+use Rattle.task_model.specs.Checking.TypeParts.{item_part}
+use Rattle.task_model.specs.Checking.Names.{bind_value, bind_place}
+use Rattle.task_model.specs.Checking.FullTask.{FullTask, full_edit, full_enter, full_share, full_fail, full_call, full_step, full_and, full_or, full_xor, full_let, full_if, full_case, full_new, full_put, full_absent}
+use Rattle.task_model.specs.Checking.TypeOf.{type_of, task_type, listed_types}
+use Rattle.task_model.specs.Checking.Placed.{edit_nodes}
 
 joined : (bs cs : List BasicTerm) (m n : ℕ) → length bs ≡ m → length cs ≡ n → length (bs ++ cs) ≡ m + n
 joined bs cs m n e f = length-append bs cs ∙ ap (λ k. k + length cs) e ∙ ap (λ k. m + k) f

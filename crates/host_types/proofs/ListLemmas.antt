@@ -1,11 +1,11 @@
 -- Lists of expressions, taken apart.
 use Rattle.std.proofs.Common.{◌≡◌, ℕ, suc, ◌-◌, ◌≤◌, List, [], ◌∷◌, length, get_or, take, drop, map, Result, refl, sym, ap, ◌∙◌, subst, arith}
 use Rattle.std.proofs.Math.Seq.{take-length}
-use Rattle.task_model.specs.Host.{host_term, as_exprs, list_expr, more_exprs}
-use Rattle.task_model.specs.Program.{ParamTerm}
+use Rattle.task_model.specs.Terms.Host.{host_term, as_exprs, list_expr, more_exprs}
+use Rattle.task_model.specs.Terms.Program.{ParamTerm}
 use Rattle.task_model.specs.declared.host.Host.{Host}
-use Rattle.task_model.specs.Names.{CallsTerm}
-use Rattle.task_model.specs.NodeCounts.{count_all}
+use Rattle.task_model.specs.Checking.Names.{CallsTerm}
+use Rattle.task_model.specs.Checking.NodeCounts.{count_all}
 use Rattle.host_types.specs.Answer.{ChecksForm}
 use Rattle.host_types.specs.declared.fault.CheckStop.{CheckStop}
 use Rattle.host_types.specs.declared.expressions.Typed.{Typed}

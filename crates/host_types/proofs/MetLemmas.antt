@@ -3,22 +3,22 @@ use Rattle.std.proofs.Common.{◌≡◌, ℕ, suc, ◌+◌, ◌-◌, ◌≤◌, 
 use Rattle.std.specs.Option.{option_or}
 use Rattle.std.specs.Prelude.{◌==◌, nat_le, not}
 use Rattle.std.proofs.lemmas.Bool.Decides.{nat_tests}
-use Rattle.task_model.specs.Text.{Text, same_text}
-use Rattle.task_model.specs.Basic.{BasicTerm, unit_type, bool_type, int_type, text_type, pair_type, list_type}
-use Rattle.task_model.specs.Host.{HostTerm, HostTerms, unit_expr, bool_expr, int_expr, text_expr, name_expr, read_expr, call_expr, pair_expr, list_expr, nil_expr, neg_expr, not_expr, fst_expr, snd_expr, len_expr, op_expr, let_expr, if_expr, case_expr, no_exprs, more_exprs}
-use Rattle.task_model.specs.Program.{KindTerm, plain_kind, ref_kind, ParamTerm, DefBodyTerm, fun_body, task_body}
+use Rattle.task_model.specs.Terms.Text.{Text, same_text}
+use Rattle.task_model.specs.Terms.Basic.{BasicTerm, unit_type, bool_type, int_type, text_type, pair_type, list_type}
+use Rattle.task_model.specs.Terms.Host.{HostTerm, HostTerms, unit_expr, bool_expr, int_expr, text_expr, name_expr, read_expr, call_expr, pair_expr, list_expr, nil_expr, neg_expr, not_expr, fst_expr, snd_expr, len_expr, op_expr, let_expr, if_expr, case_expr, no_exprs, more_exprs}
+use Rattle.task_model.specs.Terms.Program.{KindTerm, plain_kind, ref_kind, ParamTerm, DefBodyTerm, fun_body, task_body}
 use Rattle.task_model.specs.declared.host.Op.{Op}
 use Rattle.task_model.specs.declared.host.Op.TheVariants as ops
-use Rattle.task_model.specs.Names.{kind_in, bind_value, named_type, Numbered, CallsTerm, is_open, called_definition, params_of, result_of}
-use Rattle.task_model.specs.TypeParts.{same_type, first_part, second_part, item_part, symbols_of}
-use Rattle.task_model.specs.TypeFault.{TypeKindTerm, Demands, met, ◌⨾◌, IsMet, first_fault, demanded, compared, is_pair, is_list, has_length, value_name, ref_name, whole, wanted, sized, mismatch, later_call, arity, big_type, too_many_names, duplicate}
-use Rattle.task_model.specs.NodeCounts.{nodes, count_all}
-use Rattle.task_model.specs.TypeOf.{type_of, operator_type}
-use Rattle.task_model.specs.Demands.{demands, elements, arguments, function_call, function_kind, argument, reference, left_operand, right_operand, has_place, two_names}
-use Rattle.task_model.specs.Rules.{bare_name}
-use Rattle.task_model.specs.Typing.{HasType, AllHave, HaveTypes, OfKind, Operates, HasLength, IsReference, CallsFunction}
+use Rattle.task_model.specs.Checking.Names.{kind_in, bind_value, named_type, Numbered, CallsTerm, is_open, called_definition, params_of, result_of}
+use Rattle.task_model.specs.Checking.TypeParts.{same_type, first_part, second_part, item_part, symbols_of}
+use Rattle.task_model.specs.Checking.TypeFault.{TypeKindTerm, Demands, met, ◌⨾◌, IsMet, first_fault, demanded, compared, is_pair, is_list, has_length, value_name, ref_name, whole, wanted, sized, mismatch, later_call, arity, big_type, too_many_names, duplicate}
+use Rattle.task_model.specs.Checking.NodeCounts.{nodes, count_all}
+use Rattle.task_model.specs.Checking.TypeOf.{type_of, operator_type}
+use Rattle.task_model.specs.Checking.Demands.{demands, elements, arguments, function_call, function_kind, argument, reference, left_operand, right_operand, has_place, two_names}
+use Rattle.task_model.specs.Running.Rules.{bare_name}
+use Rattle.task_model.specs.Checking.Typing.{HasType, AllHave, HaveTypes, OfKind, Operates, HasLength, IsReference, CallsFunction}
 use Rattle.task_model.proofs.DemandLemmas.{both, nothing, when_true, compared_met, sized_met, whole_met, wanted_met}
-use Rattle.task_model.specs.Limits.{IsSmall, WithinKind, IsWithin, AreWithin, AreWithinKinds}
+use Rattle.task_model.specs.Checking.Limits.{IsSmall, WithinKind, IsWithin, AreWithin, AreWithinKinds}
 
 -- ---- names
 value_met : (n : ℕ) (o : Option KindTerm) (b : BasicTerm) → o ≡ Some (plain_kind b) → IsMet (value_name n o) × (b ≡ named_type o)

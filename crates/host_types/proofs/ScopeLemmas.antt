@@ -1,11 +1,11 @@
 -- Look-ups of names and of definitions.
 use Rattle.std.proofs.Common.{◌≡◌, ℕ, suc, ◌+◌, ◌-◌, ◌<◌, ◌≤◌, Bool, true, false, cond, Option, None, Some, List, [], ◌∷◌, ◌++◌, length, get_or, map, refl, sym, ap, ◌∙◌, arith}
 use Rattle.std.specs.Option.{option_map, option_or}
-use Rattle.task_model.specs.Text.{Text, same_text}
-use Rattle.task_model.specs.Program.{ParamTerm, DefTerm, def_term}
+use Rattle.task_model.specs.Terms.Text.{Text, same_text}
+use Rattle.task_model.specs.Terms.Program.{ParamTerm, DefTerm, def_term}
 use Rattle.std.proofs.Math.ListN.{get_or-map}
 use Rattle.task_model.specs.declared.program.Def.{Def}
-use Rattle.task_model.specs.Names.{kind_in, first_named, Numbered}
+use Rattle.task_model.specs.Checking.Names.{kind_in, first_named, Numbered}
 
 or_cond : {A : Type 0} (b : Bool) (o q : Option A) (a : A) → option_or (cond b (Some a) o) q ≡ cond b (Some a) (option_or o q)
 or_cond true o q a = refl

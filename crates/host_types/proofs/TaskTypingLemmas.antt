@@ -2,20 +2,20 @@
 use Rattle.std.proofs.Common.{◌≡◌, ℕ, suc, ◌+◌, Option, None, Some, List, length, refl, ap, subst, arith}
 use Rattle.std.specs.Prelude.{◌==◌}
 use Rattle.std.proofs.lemmas.Bool.Decides.{nat_tests}
-use Rattle.task_model.specs.Text.{Text}
-use Rattle.task_model.specs.Basic.{BasicTerm, bool_type}
-use Rattle.task_model.specs.Host.{HostTerm, as_exprs}
-use Rattle.task_model.specs.Program.{ParamTerm, DefBodyTerm, fun_body, task_body}
-use Rattle.task_model.specs.Names.{kind_in, bind_value, bind_place, named_type, Numbered, CallsTerm, is_open, called_definition, all_open, params_of, result_of}
-use Rattle.task_model.specs.TypeParts.{item_part}
-use Rattle.task_model.specs.TypeFault.{IsMet, unguarded, arity}
-use Rattle.task_model.specs.FullTask.{FullTask, full_edit, full_enter, full_share, full_fail, full_call, full_step, full_and, full_or, full_xor, full_let, full_if, full_case, full_new, full_put, full_absent}
-use Rattle.task_model.specs.NodeCounts.{nodes, count_all, task_nodes}
-use Rattle.task_model.specs.TypeOf.{type_of, task_type}
-use Rattle.task_model.specs.Demands.{arguments}
-use Rattle.task_model.specs.TaskDemands.{task_demands, task_call, task_kind}
-use Rattle.task_model.specs.Typing.{HasType}
-use Rattle.task_model.specs.TaskTyping.{HasTask, CallsTask}
+use Rattle.task_model.specs.Terms.Text.{Text}
+use Rattle.task_model.specs.Terms.Basic.{BasicTerm, bool_type}
+use Rattle.task_model.specs.Terms.Host.{HostTerm, as_exprs}
+use Rattle.task_model.specs.Terms.Program.{ParamTerm, DefBodyTerm, fun_body, task_body}
+use Rattle.task_model.specs.Checking.Names.{kind_in, bind_value, bind_place, named_type, Numbered, CallsTerm, is_open, called_definition, all_open, params_of, result_of}
+use Rattle.task_model.specs.Checking.TypeParts.{item_part}
+use Rattle.task_model.specs.Checking.TypeFault.{IsMet, unguarded, arity}
+use Rattle.task_model.specs.Checking.FullTask.{FullTask, full_edit, full_enter, full_share, full_fail, full_call, full_step, full_and, full_or, full_xor, full_let, full_if, full_case, full_new, full_put, full_absent}
+use Rattle.task_model.specs.Checking.NodeCounts.{nodes, count_all, task_nodes}
+use Rattle.task_model.specs.Checking.TypeOf.{type_of, task_type}
+use Rattle.task_model.specs.Checking.Demands.{arguments}
+use Rattle.task_model.specs.Checking.TaskDemands.{task_demands, task_call, task_kind}
+use Rattle.task_model.specs.Checking.Typing.{HasType}
+use Rattle.task_model.specs.Checking.TaskTyping.{HasTask, CallsTask}
 use Rattle.host_types.proofs.TypingLemmas.{first, second, no_unmet, demanded_true, compared_is, list_is, ref_is, typed, all_of}
 
 kind_is : (k : CallsTerm) (f : Text) (n args : ℕ) (d : Numbered) (w : DefBodyTerm) → called_definition k f ≡ Some d → d.def.what ≡ w

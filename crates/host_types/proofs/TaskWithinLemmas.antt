@@ -1,17 +1,17 @@
 -- Tasks of which all is met are within the limits.
 use Rattle.std.proofs.Common.{ℕ, suc, ◌+◌, ◌≤◌, List, length, refl}
-use Rattle.task_model.specs.Host.{HostTerm, as_exprs}
-use Rattle.task_model.specs.Program.{ParamTerm}
-use Rattle.task_model.specs.TypeParts.{item_part}
-use Rattle.task_model.specs.Names.{bind_value, bind_place, CallsTerm, called_definition, all_open, params_of}
-use Rattle.task_model.specs.TypeFault.{IsMet, ◌⨾◌, whole}
-use Rattle.task_model.specs.FullTask.{FullTask, full_edit, full_enter, full_share, full_fail, full_call, full_step, full_and, full_or, full_xor, full_let, full_if, full_case, full_new, full_put, full_absent}
-use Rattle.task_model.specs.NodeCounts.{nodes, task_nodes}
-use Rattle.task_model.specs.TypeOf.{type_of, task_type}
-use Rattle.task_model.specs.Demands.{has_place, all_demands}
-use Rattle.task_model.specs.TaskDemands.{task_demands}
-use Rattle.task_model.specs.Limits.{IsSmall, IsWithin}
-use Rattle.task_model.specs.TaskTyping.{IsTaskWithin}
+use Rattle.task_model.specs.Terms.Host.{HostTerm, as_exprs}
+use Rattle.task_model.specs.Terms.Program.{ParamTerm}
+use Rattle.task_model.specs.Checking.TypeParts.{item_part}
+use Rattle.task_model.specs.Checking.Names.{bind_value, bind_place, CallsTerm, called_definition, all_open, params_of}
+use Rattle.task_model.specs.Checking.TypeFault.{IsMet, ◌⨾◌, whole}
+use Rattle.task_model.specs.Checking.FullTask.{FullTask, full_edit, full_enter, full_share, full_fail, full_call, full_step, full_and, full_or, full_xor, full_let, full_if, full_case, full_new, full_put, full_absent}
+use Rattle.task_model.specs.Checking.NodeCounts.{nodes, task_nodes}
+use Rattle.task_model.specs.Checking.TypeOf.{type_of, task_type}
+use Rattle.task_model.specs.Checking.Demands.{has_place, all_demands}
+use Rattle.task_model.specs.Checking.TaskDemands.{task_demands}
+use Rattle.task_model.specs.Checking.Limits.{IsSmall, IsWithin}
+use Rattle.task_model.specs.Checking.TaskTyping.{IsTaskWithin}
 use Rattle.host_types.proofs.TypingLemmas.{first, second}
 use Rattle.host_types.proofs.WithinLemmas.{small, room, apart, within, within_kinds}
 

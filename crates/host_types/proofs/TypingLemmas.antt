@@ -3,20 +3,20 @@ use Rattle.std.proofs.Common.{◌≡◌, ℕ, suc, ◌+◌, Bool, true, false, O
 use Rattle.std.specs.Option.{option_or}
 use Rattle.std.specs.Prelude.{◌==◌}
 use Rattle.std.proofs.lemmas.Bool.Decides.{nat_tests}
-use Rattle.task_model.specs.Text.{Text}
-use Rattle.task_model.specs.Basic.{BasicTerm, unit_type, bool_type, int_type, text_type, pair_type, list_type}
-use Rattle.task_model.specs.Host.{HostTerm, HostTerms, unit_expr, bool_expr, int_expr, text_expr, name_expr, read_expr, call_expr, pair_expr, list_expr, nil_expr, neg_expr, not_expr, fst_expr, snd_expr, len_expr, op_expr, let_expr, if_expr, case_expr, no_exprs, more_exprs}
-use Rattle.task_model.specs.Program.{KindTerm, plain_kind, ref_kind, ParamTerm, DefBodyTerm, fun_body, task_body}
+use Rattle.task_model.specs.Terms.Text.{Text}
+use Rattle.task_model.specs.Terms.Basic.{BasicTerm, unit_type, bool_type, int_type, text_type, pair_type, list_type}
+use Rattle.task_model.specs.Terms.Host.{HostTerm, HostTerms, unit_expr, bool_expr, int_expr, text_expr, name_expr, read_expr, call_expr, pair_expr, list_expr, nil_expr, neg_expr, not_expr, fst_expr, snd_expr, len_expr, op_expr, let_expr, if_expr, case_expr, no_exprs, more_exprs}
+use Rattle.task_model.specs.Terms.Program.{KindTerm, plain_kind, ref_kind, ParamTerm, DefBodyTerm, fun_body, task_body}
 use Rattle.task_model.specs.declared.host.Op.{Op}
 use Rattle.task_model.specs.declared.host.Op.TheVariants as ops
-use Rattle.task_model.specs.Names.{kind_in, bind_value, named_type, Numbered, CallsTerm, is_open, called_definition, params_of, result_of}
-use Rattle.task_model.specs.TypeParts.{same_type, first_part, second_part, item_part}
-use Rattle.task_model.specs.TypeFault.{TypeKindTerm, Demands, unmet, ◌⨾◌, IsMet, first_fault, demanded, compared, is_pair, is_list, has_length, value_name, ref_name, whole, mismatch, later_call, arity}
-use Rattle.task_model.specs.NodeCounts.{nodes, count_all}
-use Rattle.task_model.specs.TypeOf.{type_of, operator_type}
-use Rattle.task_model.specs.Demands.{demands, elements, arguments, function_call, function_kind, argument, reference, left_operand, right_operand}
-use Rattle.task_model.specs.Rules.{bare_name}
-use Rattle.task_model.specs.Typing.{HasType, AllHave, HaveTypes, OfKind, Operates, HasLength, IsReference, CallsFunction}
+use Rattle.task_model.specs.Checking.Names.{kind_in, bind_value, named_type, Numbered, CallsTerm, is_open, called_definition, params_of, result_of}
+use Rattle.task_model.specs.Checking.TypeParts.{same_type, first_part, second_part, item_part}
+use Rattle.task_model.specs.Checking.TypeFault.{TypeKindTerm, Demands, unmet, ◌⨾◌, IsMet, first_fault, demanded, compared, is_pair, is_list, has_length, value_name, ref_name, whole, mismatch, later_call, arity}
+use Rattle.task_model.specs.Checking.NodeCounts.{nodes, count_all}
+use Rattle.task_model.specs.Checking.TypeOf.{type_of, operator_type}
+use Rattle.task_model.specs.Checking.Demands.{demands, elements, arguments, function_call, function_kind, argument, reference, left_operand, right_operand}
+use Rattle.task_model.specs.Running.Rules.{bare_name}
+use Rattle.task_model.specs.Checking.Typing.{HasType, AllHave, HaveTypes, OfKind, Operates, HasLength, IsReference, CallsFunction}
 
 -- ---- what is met
 none_first : {A : Type 0} (o q : Option A) → option_or o q ≡ None → o ≡ None

@@ -2,18 +2,18 @@
 use Rattle.std.proofs.Common.{◌≡◌, ℕ, suc, ◌+◌, ◌-◌, ◌≤◌, Bool, true, false, Option, List, [], ◌∷◌, length, refl, arith}
 use Rattle.std.specs.Prelude.{nat_le, not}
 use Rattle.std.proofs.lemmas.Bool.Decides.{nat_tests}
-use Rattle.task_model.specs.Text.{Text, same_text}
-use Rattle.task_model.specs.Basic.{BasicTerm}
-use Rattle.task_model.specs.Host.{HostTerm, HostTerms, call_expr, pair_expr, list_expr, neg_expr, not_expr, fst_expr, snd_expr, len_expr, op_expr, let_expr, if_expr, case_expr, no_exprs, more_exprs}
-use Rattle.task_model.specs.Program.{KindTerm, plain_kind, ref_kind, ParamTerm}
-use Rattle.task_model.specs.TypeParts.{symbols_of, item_part}
-use Rattle.task_model.specs.Names.{bind_value, CallsTerm, called_definition, params_of}
-use Rattle.task_model.specs.TypeFault.{Demands, IsMet, sized, big_type, too_many_names, duplicate}
-use Rattle.task_model.specs.NodeCounts.{nodes}
-use Rattle.task_model.specs.TypeOf.{type_of}
-use Rattle.task_model.specs.Demands.{demands, elements, arguments, argument, has_place, two_names}
-use Rattle.task_model.specs.Rules.{bare_name}
-use Rattle.task_model.specs.Limits.{IsSmall, WithinKind, IsWithin, AreWithin, AreWithinKinds}
+use Rattle.task_model.specs.Terms.Text.{Text, same_text}
+use Rattle.task_model.specs.Terms.Basic.{BasicTerm}
+use Rattle.task_model.specs.Terms.Host.{HostTerm, HostTerms, call_expr, pair_expr, list_expr, neg_expr, not_expr, fst_expr, snd_expr, len_expr, op_expr, let_expr, if_expr, case_expr, no_exprs, more_exprs}
+use Rattle.task_model.specs.Terms.Program.{KindTerm, plain_kind, ref_kind, ParamTerm}
+use Rattle.task_model.specs.Checking.TypeParts.{symbols_of, item_part}
+use Rattle.task_model.specs.Checking.Names.{bind_value, CallsTerm, called_definition, params_of}
+use Rattle.task_model.specs.Checking.TypeFault.{Demands, IsMet, sized, big_type, too_many_names, duplicate}
+use Rattle.task_model.specs.Checking.NodeCounts.{nodes}
+use Rattle.task_model.specs.Checking.TypeOf.{type_of}
+use Rattle.task_model.specs.Checking.Demands.{demands, elements, arguments, argument, has_place, two_names}
+use Rattle.task_model.specs.Running.Rules.{bare_name}
+use Rattle.task_model.specs.Checking.Limits.{IsSmall, WithinKind, IsWithin, AreWithin, AreWithinKinds}
 use Rattle.host_types.proofs.TypingLemmas.{first, second, demanded_true}
 
 pub small : (n : ℕ) (b : BasicTerm) → IsMet (sized n b) → IsSmall b

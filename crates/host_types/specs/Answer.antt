@@ -1,18 +1,18 @@
 -- What a check answers.
 use Rattle.std.specs.Prelude.{◌≡◌, ℕ, ◌+◌, List, ◌++◌, Option, Some, None, Result, MatchResult, map}
-use Rattle.task_model.specs.Basic.{BasicTerm, basic_term}
-use Rattle.task_model.specs.Host.{HostTerm}
-use Rattle.task_model.specs.Program.{ParamTerm, param_term}
+use Rattle.task_model.specs.Terms.Basic.{BasicTerm, basic_term}
+use Rattle.task_model.specs.Terms.Host.{HostTerm}
+use Rattle.task_model.specs.Terms.Program.{ParamTerm, param_term}
 use Rattle.task_model.specs.declared.basic.Basic.{Basic}
 use Rattle.task_model.specs.declared.program.Def.{Def}
-use Rattle.task_model.specs.Names.{Numbered, CallsTerm, params_of, result_of}
-use Rattle.task_model.specs.TypeFault.{TypeFaultTerm, Demands, first_fault, whole, wanted}
-use Rattle.task_model.specs.TypeKind.{type_kind_term}
-use Rattle.task_model.specs.FullTask.{FullTask}
-use Rattle.task_model.specs.NodeCounts.{nodes, task_nodes}
-use Rattle.task_model.specs.TypeOf.{type_of, task_type, listed_types}
-use Rattle.task_model.specs.Demands.{demands, all_demands}
-use Rattle.task_model.specs.TaskDemands.{task_demands}
+use Rattle.task_model.specs.Checking.Names.{Numbered, CallsTerm, params_of, result_of}
+use Rattle.task_model.specs.Checking.TypeFault.{TypeFaultTerm, Demands, first_fault, whole, wanted}
+use Rattle.task_model.specs.Checking.TypeKind.{type_kind_term}
+use Rattle.task_model.specs.Checking.FullTask.{FullTask}
+use Rattle.task_model.specs.Checking.NodeCounts.{nodes, task_nodes}
+use Rattle.task_model.specs.Checking.TypeOf.{type_of, task_type, listed_types}
+use Rattle.task_model.specs.Checking.Demands.{demands, all_demands}
+use Rattle.task_model.specs.Checking.TaskDemands.{task_demands}
 use Rattle.host_types.specs.declared.expressions.Typed.{Typed}
 use Rattle.host_types.specs.declared.fault.CheckStop.{CheckStop}
 use Rattle.host_types.specs.declared.fault.CheckStop.TheVariants.{Fault, Memory}

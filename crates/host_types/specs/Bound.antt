@@ -1,9 +1,9 @@
 -- Tasks that bind a name: `let` to a value, and `new` to a place of shared data.
-use Rattle.task_model.specs.Text.{Text}
-use Rattle.task_model.specs.Basic.{BasicTerm}
-use Rattle.task_model.specs.Host.{HostTerm}
-use Rattle.task_model.specs.Program.{KindTerm, plain_kind, ref_kind}
-use Rattle.task_model.specs.FullTask.{FullTask, full_let, full_new}
+use Rattle.task_model.specs.Terms.Text.{Text}
+use Rattle.task_model.specs.Terms.Basic.{BasicTerm}
+use Rattle.task_model.specs.Terms.Host.{HostTerm}
+use Rattle.task_model.specs.Terms.Program.{KindTerm, plain_kind, ref_kind}
+use Rattle.task_model.specs.Checking.FullTask.{FullTask, full_let, full_new}
 use Rattle.host_types.specs.declared.bound_to.BoundTo.{BoundTo}
 use Rattle.host_types.specs.declared.bound_to.BoundTo.TheVariants as bound_to
 

@@ -1,12 +1,12 @@
 -- Words for the parts of a check.
 use Rattle.std.specs.Prelude.{◌≡◌, ℕ, suc, ◌+◌, not, is_some, List, ◌++◌, length, None, Result, MatchResult, map}
-use Rattle.task_model.specs.Basic.{BasicTerm}
-use Rattle.task_model.specs.Program.{ParamTerm, DefBodyTerm, DefTerm, ProgramTerm, def_term}
-use Rattle.task_model.specs.Task.{body_term}
-use Rattle.task_model.specs.Names.{kind_in, basic_of}
-use Rattle.task_model.specs.TypeFault.{Demands, ◌⨾◌, first_fault, demanded, duplicate, sized}
-use Rattle.task_model.specs.Demands.{has_place}
-use Rattle.task_model.specs.TaskDemands.{fault_of, body_demands, definition_nodes, what_types, from_parameters, definition}
+use Rattle.task_model.specs.Terms.Basic.{BasicTerm}
+use Rattle.task_model.specs.Terms.Program.{ParamTerm, DefBodyTerm, DefTerm, ProgramTerm, def_term}
+use Rattle.task_model.specs.Terms.Task.{body_term}
+use Rattle.task_model.specs.Checking.Names.{kind_in, basic_of}
+use Rattle.task_model.specs.Checking.TypeFault.{Demands, ◌⨾◌, first_fault, demanded, duplicate, sized}
+use Rattle.task_model.specs.Checking.Demands.{has_place}
+use Rattle.task_model.specs.Checking.TaskDemands.{fault_of, body_demands, definition_nodes, what_types, from_parameters, definition}
 use Rattle.host_types.specs.Answer.{StopsBy, IsStop, IsTaskPassed}
 use Rattle.host_types.specs.declared.definitions.Definitions.{Definitions}
 use Rattle.task_model.specs.declared.task.Body.{Body}

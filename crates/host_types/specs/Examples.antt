@@ -1,10 +1,10 @@
 -- Programs by example, and their first faults.
 use Rattle.std.specs.Prelude.{pos, true, List, [], ◌∷◌, Some, codes}
-use Rattle.task_model.specs.Text.{Text}
-use Rattle.task_model.specs.Basic.{BasicTerm, int_type, text_type, pair_type, list_type}
-use Rattle.task_model.specs.Host.{int_expr, bool_expr, name_expr, read_expr, nil_expr, op_expr}
-use Rattle.task_model.specs.Task.{TaskTerm, edit, enter, share, call_task, next_task, and_task, new_task, put_task}
-use Rattle.task_model.specs.Program.{ParamTerm, DefTerm, ProgramTerm, ref_kind, task_body, main_name}
+use Rattle.task_model.specs.Terms.Text.{Text}
+use Rattle.task_model.specs.Terms.Basic.{BasicTerm, int_type, text_type, pair_type, list_type}
+use Rattle.task_model.specs.Terms.Host.{int_expr, bool_expr, name_expr, read_expr, nil_expr, op_expr}
+use Rattle.task_model.specs.Terms.Task.{TaskTerm, edit, enter, share, call_task, next_task, and_task, new_task, put_task}
+use Rattle.task_model.specs.Terms.Program.{ParamTerm, DefTerm, ProgramTerm, ref_kind, task_body, main_name}
 use Rattle.task_model.specs.declared.host.Op.TheVariants as ops
 
 abbrev task : Text → List ParamTerm → BasicTerm → TaskTerm → DefTerm

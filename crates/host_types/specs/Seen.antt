@@ -1,7 +1,7 @@
 -- What the types of the code stand for.
 use Rattle.std.specs.Prelude.{List, [], ◌∷◌, ◌++◌, map}
-use Rattle.task_model.specs.Program.{ParamTerm, kind_term, def_term}
-use Rattle.task_model.specs.Names.{Numbered, CallsTerm}
+use Rattle.task_model.specs.Terms.Program.{ParamTerm, kind_term, def_term}
+use Rattle.task_model.specs.Checking.Names.{Numbered, CallsTerm}
 use Rattle.host_types.specs.declared.names.Names as names
 use Rattle.host_types.specs.declared.definitions.Found.{Found}
 use Rattle.host_types.specs.declared.calls.Calls.{Calls}

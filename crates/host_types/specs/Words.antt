@@ -1,15 +1,15 @@
 -- Words for parts of the code.
 use Rattle.std.specs.Prelude.{ℕ, ◌+◌, ◌==◌, List, Option}
-use Rattle.task_model.specs.Basic.{BasicTerm, bool_type, int_type}
-use Rattle.task_model.specs.Host.{HostTerm}
-use Rattle.task_model.specs.Program.{ParamTerm}
-use Rattle.task_model.specs.Names.{CallsTerm, Numbered, is_open}
-use Rattle.task_model.specs.TypeParts.{first_part, second_part}
-use Rattle.task_model.specs.TypeFault.{TypeKindTerm, arity, Demands, ◌⨾◌, demanded, compared, is_pair, has_length, wanted}
-use Rattle.task_model.specs.NodeCounts.{nodes}
-use Rattle.task_model.specs.TypeOf.{type_of}
-use Rattle.task_model.specs.Demands.{demands, all_demands, function_call}
-use Rattle.task_model.specs.TaskDemands.{task_call}
+use Rattle.task_model.specs.Terms.Basic.{BasicTerm, bool_type, int_type}
+use Rattle.task_model.specs.Terms.Host.{HostTerm}
+use Rattle.task_model.specs.Terms.Program.{ParamTerm}
+use Rattle.task_model.specs.Checking.Names.{CallsTerm, Numbered, is_open}
+use Rattle.task_model.specs.Checking.TypeParts.{first_part, second_part}
+use Rattle.task_model.specs.Checking.TypeFault.{TypeKindTerm, arity, Demands, ◌⨾◌, demanded, compared, is_pair, has_length, wanted}
+use Rattle.task_model.specs.Checking.NodeCounts.{nodes}
+use Rattle.task_model.specs.Checking.TypeOf.{type_of}
+use Rattle.task_model.specs.Checking.Demands.{demands, all_demands, function_call}
+use Rattle.task_model.specs.Checking.TaskDemands.{task_call}
 use Rattle.host_types.specs.declared.calls.Callee.{Callee}
 use Rattle.host_types.specs.declared.calls.Callee.TheVariants as callee
 use Rattle.host_types.specs.declared.operators.Unary.{Unary}

@@ -1,6 +1,6 @@
 ghost use Rattle.std.specs.Prelude.{◌≡◌};
-ghost use Rattle.task_model.specs.Basic.{basic_term};
-ghost use Rattle.task_model.specs.Program.{kind_term};
+ghost use Rattle.task_model.specs.Terms.Basic.{basic_term};
+ghost use Rattle.task_model.specs.Terms.Program.{kind_term};
 ghost use Rattle.host_types.specs.Bound.{bound_kind};
 
 use task_model::{Basic, Kind};

@@ -1,5 +1,5 @@
 ghost use Rattle.std.specs.Prelude.{◌≡◌};
-ghost use Rattle.task_model.specs.Names as scopes;
+ghost use Rattle.task_model.specs.Checking.Names as scopes;
 
 use crate::definitions::Definitions;
 

@@ -1,14 +1,14 @@
 ghost use Rattle.std.specs.Prelude.{◌≡◌, ◌++◌, length, map, None, MatchResult, IfOk, IfErr};
-ghost use Rattle.task_model.specs.Basic.{basic_term};
-ghost use Rattle.task_model.specs.Program.{kind_term, param_term, def_term, def_body_term, program_term, main_name};
-ghost use Rattle.task_model.specs.Names.{basic_of, first_named};
-ghost use Rattle.task_model.specs.TaskDemands as demands;
-ghost use Rattle.task_model.specs.Checked.{checked_term};
-ghost use Rattle.task_model.specs.TaskDemands.{fault_of};
-ghost use Rattle.task_model.specs.Written.{IsWritten};
-ghost use Rattle.task_model.specs.Accepted.{IsAccepted};
+ghost use Rattle.task_model.specs.Terms.Basic.{basic_term};
+ghost use Rattle.task_model.specs.Terms.Program.{kind_term, param_term, def_term, def_body_term, program_term, main_name};
+ghost use Rattle.task_model.specs.Checking.Names.{basic_of, first_named};
+ghost use Rattle.task_model.specs.Checking.TaskDemands as demands;
+ghost use Rattle.task_model.specs.Running.Checked.{checked_term};
+ghost use Rattle.task_model.specs.Checking.TaskDemands.{fault_of};
+ghost use Rattle.task_model.specs.Syntax.Written.{IsWritten};
+ghost use Rattle.task_model.specs.Checking.Accepted.{IsAccepted};
 ghost use Rattle.host_types.specs.CheckWords.{seen_program, new_parameter, IsFirstTypeFault, IsChecked, ChecksBody, ChecksParameters, ChecksDefinition};
-ghost use Rattle.task_model.specs.TypeFault.{IsMet};
+ghost use Rattle.task_model.specs.Checking.TypeFault.{IsMet};
 ghost use Rattle.host_types.specs.Answer.{IsStop};
 ghost use Rattle.host_types.specs.Seen.{scope_term};
 

@@ -1,7 +1,7 @@
 ghost use Rattle.std.specs.Prelude.{◌≡◌, ◌↔◌, ◌+◌, ◌<◌, IsTrue, nat_le, MatchOption, MatchResult};
-ghost use Rattle.task_model.specs.Basic.{basic_term};
-ghost use Rattle.task_model.specs.TypeParts.{symbols_of};
-ghost use Rattle.task_model.specs.TypeFault.{sized, compared, IsMet};
+ghost use Rattle.task_model.specs.Terms.Basic.{basic_term};
+ghost use Rattle.task_model.specs.Checking.TypeParts.{symbols_of};
+ghost use Rattle.task_model.specs.Checking.TypeFault.{sized, compared, IsMet};
 ghost use Rattle.host_types.specs.Answer.{IsStop};
 
 use crate::fault::CheckStop;

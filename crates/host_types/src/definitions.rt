@@ -2,9 +2,9 @@ ghost use Rattle.std.specs.Prelude.{◌≡◌, map, MatchOption};
 ghost use Rattle.std.specs.Option.{option_map};
 ghost use Rattle.std.specs.Str.{bytes_eq};
 ghost use Rattle.indexmap.specs.IndexMap.{get_by};
-ghost use Rattle.task_model.specs.Text.{Text};
-ghost use Rattle.task_model.specs.Program.{def_term};
-ghost use Rattle.task_model.specs.Names.{first_named};
+ghost use Rattle.task_model.specs.Terms.Text.{Text};
+ghost use Rattle.task_model.specs.Terms.Program.{def_term};
+ghost use Rattle.task_model.specs.Checking.Names.{first_named};
 
 use indexmap::IndexMap;
 use std::alloc::{AllocError, Global};
@@ -30,9 +30,9 @@ impl<'p> Definitions<'p> {
     ghost use Rattle.std.specs.Prelude.{◌≡◌, IfOk};
     ghost use Rattle.std.specs.Option.{option_map};
     ghost use Rattle.host_types.specs.Seen.{found_term};
-    ghost use Rattle.task_model.specs.Program.{def_term};
-    ghost use Rattle.task_model.specs.Program.{main_name};
-    ghost use Rattle.task_model.specs.Names.{first_named};
+    ghost use Rattle.task_model.specs.Terms.Program.{def_term};
+    ghost use Rattle.task_model.specs.Terms.Program.{main_name};
+    ghost use Rattle.task_model.specs.Checking.Names.{first_named};
 
     pub(crate) fn new(alloc: Global, defs: &'p [Def]) -> Result<Definitions<'p>, AllocError>
         ensures { IfOk result (λ d. d.defs.now ≡ defs.now) }

@@ -1,18 +1,18 @@
 ghost use Rattle.std.specs.Prelude.{◌≡◌, ℕ, List, [], ◌∷◌, length, None, Some};
-ghost use Rattle.task_model.specs.Basic.{BasicTerm, bool_type, int_type, text_type, list_type};
-ghost use Rattle.task_model.specs.Host.{HostTerm};
-ghost use Rattle.task_model.specs.Program.{ParamTerm, DefTerm};
-ghost use Rattle.task_model.specs.Names.{CallsTerm};
-ghost use Rattle.task_model.specs.TypeFault.{IsMet, mismatch, unguarded, no_main};
-ghost use Rattle.task_model.specs.TypeOf.{type_of, task_type, listed_types};
-ghost use Rattle.task_model.specs.Demands.{all_demands};
-ghost use Rattle.task_model.specs.Typing.{HasType};
-ghost use Rattle.task_model.specs.Limits.{IsSmall, IsWithin};
-ghost use Rattle.task_model.specs.FullTask.{FullTask};
-ghost use Rattle.task_model.specs.TaskDemands.{task_demands, fault_of, types_of};
+ghost use Rattle.task_model.specs.Terms.Basic.{BasicTerm, bool_type, int_type, text_type, list_type};
+ghost use Rattle.task_model.specs.Terms.Host.{HostTerm};
+ghost use Rattle.task_model.specs.Terms.Program.{ParamTerm, DefTerm};
+ghost use Rattle.task_model.specs.Checking.Names.{CallsTerm};
+ghost use Rattle.task_model.specs.Checking.TypeFault.{IsMet, mismatch, unguarded, no_main};
+ghost use Rattle.task_model.specs.Checking.TypeOf.{type_of, task_type, listed_types};
+ghost use Rattle.task_model.specs.Checking.Demands.{all_demands};
+ghost use Rattle.task_model.specs.Checking.Typing.{HasType};
+ghost use Rattle.task_model.specs.Checking.Limits.{IsSmall, IsWithin};
+ghost use Rattle.task_model.specs.Checking.FullTask.{FullTask};
+ghost use Rattle.task_model.specs.Checking.TaskDemands.{task_demands, fault_of, types_of};
 ghost use Rattle.host_types.specs.Examples.{wrong_sum, endless, no_program, board};
-ghost use Rattle.task_model.specs.Placed.{edit_nodes};
-ghost use Rattle.task_model.specs.TaskTyping.{HasTask, IsTaskWithin};
+ghost use Rattle.task_model.specs.Checking.Placed.{edit_nodes};
+ghost use Rattle.task_model.specs.Checking.TaskTyping.{HasTask, IsTaskWithin};
 
 /// Where every demand of an expression is met, it has its type within the limits.
 pub fn met_is_typed()

@@ -1,11 +1,11 @@
 ghost use Rattle.std.specs.Prelude.{◌≡◌, length, map, MatchResult};
-ghost use Rattle.task_model.specs.Basic.{basic_term, list_type};
-ghost use Rattle.task_model.specs.TypeParts.{first_part, second_part};
-ghost use Rattle.task_model.specs.Names.{kind_in, named_type, called_definition};
-ghost use Rattle.task_model.specs.TypeFault.{◌⨾◌, value_name, ref_name, is_pair, is_list, has_length, IsMet};
-ghost use Rattle.task_model.specs.Demands.{has_place, two_names};
-ghost use Rattle.task_model.specs.Program.{param_term};
-ghost use Rattle.task_model.specs.TypeKind.{type_kind_term};
+ghost use Rattle.task_model.specs.Terms.Basic.{basic_term, list_type};
+ghost use Rattle.task_model.specs.Checking.TypeParts.{first_part, second_part};
+ghost use Rattle.task_model.specs.Checking.Names.{kind_in, named_type, called_definition};
+ghost use Rattle.task_model.specs.Checking.TypeFault.{◌⨾◌, value_name, ref_name, is_pair, is_list, has_length, IsMet};
+ghost use Rattle.task_model.specs.Checking.Demands.{has_place, two_names};
+ghost use Rattle.task_model.specs.Terms.Program.{param_term};
+ghost use Rattle.task_model.specs.Checking.TypeKind.{type_kind_term};
 ghost use Rattle.host_types.specs.Words.{call_of, open_with};
 ghost use Rattle.host_types.specs.Seen.{scope_term, calls_term};
 ghost use Rattle.host_types.specs.Answer.{IsStop, HasBasic, HasHead};

@@ -1,7 +1,7 @@
 ghost use Rattle.std.specs.Prelude.{◌≡◌, ◌≤◌, ◌++◌, [], ◌∷◌, length, nat_le, map};
 ghost use Rattle.std.specs.Option.{option_map};
-ghost use Rattle.task_model.specs.Program.{kind_term};
-ghost use Rattle.task_model.specs.Names.{kind_in};
+ghost use Rattle.task_model.specs.Terms.Program.{kind_term};
+ghost use Rattle.task_model.specs.Checking.Names.{kind_in};
 ghost use Rattle.host_types.specs.Seen.{scope_term};
 
 use task_model::{Kind, TaskText};

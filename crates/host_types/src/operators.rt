@@ -1,9 +1,9 @@
 ghost use Rattle.std.specs.Prelude.{◌≡◌, MatchResult, IfOk};
-ghost use Rattle.task_model.specs.Basic.{basic_term, pair_type, list_type};
-ghost use Rattle.task_model.specs.TypeOf.{operator_type};
-ghost use Rattle.task_model.specs.Demands.{left_operand, right_operand};
+ghost use Rattle.task_model.specs.Terms.Basic.{basic_term, pair_type, list_type};
+ghost use Rattle.task_model.specs.Checking.TypeOf.{operator_type};
+ghost use Rattle.task_model.specs.Checking.Demands.{left_operand, right_operand};
 ghost use Rattle.host_types.specs.Words.{unary_operand, unary_type};
-ghost use Rattle.task_model.specs.TypeFault.{IsMet};
+ghost use Rattle.task_model.specs.Checking.TypeFault.{IsMet};
 ghost use Rattle.host_types.specs.Answer.{IsStop, HasBasic};
 
 use crate::compare::compared;

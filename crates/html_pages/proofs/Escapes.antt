@@ -2,8 +2,8 @@
 use Rattle.std.proofs.Common.{◌≡◌, ℕ, ◌+◌, ◌<◌, [], ◌∷◌, ◌++◌, length, take, drop, get_or, refl, sym, ap, ap₂, ◌∙◌, subst, arith, append_assoc, append-nil}
 use Rattle.std.proofs.lemmas.List.{take_more}
 use Rattle.std.proofs.lemmas.Grind.{common_steps}
-use Rattle.task_model.specs.Text.{Text}
-use Rattle.task_model.specs.Html.{entity, html_escaped}
+use Rattle.task_model.specs.Terms.Text.{Text}
+use Rattle.task_model.specs.Showing.Html.{entity, html_escaped}
 use Rattle.html_pages.specs.Escaping.{EscapesAt}
 
 pub html_escaped-append : (s t : Text) → html_escaped (s ++ t) ≡ html_escaped s ++ html_escaped t

@@ -1,7 +1,7 @@
 -- A text that was written piece by piece.
 use Rattle.std.proofs.Common.{◌≡◌, ◌++◌, codes, Result, Ok, Err, OnOk, sym, ap, ◌∙◌, append_assoc}
-use Rattle.task_model.specs.Text.{Text}
-use Rattle.task_model.specs.Html.{form_text}
+use Rattle.task_model.specs.Terms.Text.{Text}
+use Rattle.task_model.specs.Showing.Html.{form_text}
 use Rattle.html_pages.specs.FormParts.{form_start, form_end}
 
 -- what a call that was answered Ok leaves

@@ -1,8 +1,8 @@
 -- Texts between tags and in attributes (docs/FORMATS.md, "HTML pages").
 use Rattle.std.specs.Prelude.{◌≡◌, ℕ, ◌<◌, ◌==◌, ◌&&◌, ◌||◌, not, Bool, true, [], ◌∷◌, length, take, slice_index, codes}
 use Rattle.std.specs.Str.{bytes_eq}
-use Rattle.task_model.specs.Text.{Text}
-use Rattle.task_model.specs.Html.{entity, html_escaped}
+use Rattle.task_model.specs.Terms.Text.{Text}
+use Rattle.task_model.specs.Showing.Html.{entity, html_escaped}
 
 -- the bytes up to this place are written as they are, and the byte there as this entity
 pub record EscapesAt (bytes : Text) (place : ℕ) (written : Text) : Type 0 where

@@ -1,6 +1,6 @@
 -- The parts of an HTML form (docs/FORMATS.md, "HTML pages").
 use Rattle.std.specs.Prelude.{◌++◌, codes}
-use Rattle.task_model.specs.Text.{Text}
+use Rattle.task_model.specs.Terms.Text.{Text}
 
 -- a form up to its own fields
 abbrev pub form_start : Text → Text → Text

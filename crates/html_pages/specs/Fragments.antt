@@ -1,12 +1,12 @@
 -- Fragments, and the pages that are framed of them (docs/FORMATS.md, "Pages" and "HTML pages").
 use Rattle.std.specs.Prelude.{ℕ, List, [], ◌∷◌, ◌++◌, codes, decimal}
-use Rattle.task_model.specs.Text.{Text}
-use Rattle.task_model.specs.Basic.{BasicTerm}
-use Rattle.task_model.specs.Value.{ValueTerm}
-use Rattle.task_model.specs.Literal.{basic_text, value_text}
-use Rattle.task_model.specs.Widget.{WidgetTerm}
-use Rattle.task_model.specs.Page.{widget_line, head_text, page_text}
-use Rattle.task_model.specs.Html.{widget_fragment, paragraph, editor_text, shown_value, html_text}
+use Rattle.task_model.specs.Terms.Text.{Text}
+use Rattle.task_model.specs.Terms.Basic.{BasicTerm}
+use Rattle.task_model.specs.Terms.Value.{ValueTerm}
+use Rattle.task_model.specs.Syntax.Literal.{basic_text, value_text}
+use Rattle.task_model.specs.Showing.Widget.{WidgetTerm}
+use Rattle.task_model.specs.Showing.Page.{widget_line, head_text, page_text}
+use Rattle.task_model.specs.Showing.Html.{widget_fragment, paragraph, editor_text, shown_value, html_text}
 use Rattle.task_model.specs.declared.widget.Face.{Face}
 use Rattle.task_model.specs.declared.widget.Face.TheVariants as faces
 

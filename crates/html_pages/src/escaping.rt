@@ -1,5 +1,5 @@
 ghost use Rattle.std.specs.Prelude.{◌≡◌, ◌∷◌, ◌++◌, [], ◌<◌, IfOk, OnOk, MatchOption, string_bytes};
-ghost use Rattle.task_model.specs.Html as model;
+ghost use Rattle.task_model.specs.Showing.Html as model;
 ghost use Rattle.html_pages.specs.Escaping.{EscapesAt};
 
 use std::alloc::Global;

@@ -1,8 +1,8 @@
 ghost use Rattle.std.specs.Prelude.{◌≡◌, ◌++◌, codes, OnOk, string_bytes};
-ghost use Rattle.task_model.specs.Basic.{basic_term};
-ghost use Rattle.task_model.specs.Literal.{basic_text};
-ghost use Rattle.task_model.specs.Page.{path_text};
-ghost use Rattle.task_model.specs.Html as model;
+ghost use Rattle.task_model.specs.Terms.Basic.{basic_term};
+ghost use Rattle.task_model.specs.Syntax.Literal.{basic_text};
+ghost use Rattle.task_model.specs.Showing.Page.{path_text};
+ghost use Rattle.task_model.specs.Showing.Html as model;
 ghost use Rattle.html_pages.specs.FormParts.{form_end, form_start, literal_fields, text_field};
 
 use crate::escaping::push_escaped;

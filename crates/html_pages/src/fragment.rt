@@ -1,5 +1,5 @@
 ghost use Rattle.std.specs.Prelude.{◌≡◌, ◌+◌, IfOk};
-ghost use Rattle.task_model.specs.Widget.{widget_term};
+ghost use Rattle.task_model.specs.Showing.Widget.{widget_term};
 ghost use Rattle.html_pages.specs.Fragments.{fragment_of};
 
 use crate::node::draw_texts;

@@ -1,6 +1,6 @@
 ghost use Rattle.std.specs.Prelude.{◌≡◌, ◌++◌, List, codes, decimal, map, IfOk, OnOk, string_bytes};
-ghost use Rattle.task_model.specs.Widget.{WidgetTerm};
-ghost use Rattle.task_model.specs.Html as model;
+ghost use Rattle.task_model.specs.Showing.Widget.{WidgetTerm};
+ghost use Rattle.task_model.specs.Showing.Html as model;
 ghost use Rattle.html_pages.specs.Fragments.{face_text, fragment_of, fragments_text, page_end, page_start};
 
 use crate::fragment::Fragment;

@@ -1,10 +1,10 @@
 ghost use Rattle.std.specs.Prelude.{◌≡◌, List, true};
-ghost use Rattle.task_model.specs.Text.{Text};
-ghost use Rattle.task_model.specs.Basic.{BasicTerm};
-ghost use Rattle.task_model.specs.Value.{ValueTerm};
-ghost use Rattle.task_model.specs.Literal.{basic_text};
-ghost use Rattle.task_model.specs.Page.{path_text};
-ghost use Rattle.task_model.specs.Html.{html_escaped, shown_value};
+ghost use Rattle.task_model.specs.Terms.Text.{Text};
+ghost use Rattle.task_model.specs.Terms.Basic.{BasicTerm};
+ghost use Rattle.task_model.specs.Terms.Value.{ValueTerm};
+ghost use Rattle.task_model.specs.Syntax.Literal.{basic_text};
+ghost use Rattle.task_model.specs.Showing.Page.{path_text};
+ghost use Rattle.task_model.specs.Showing.Html.{html_escaped, shown_value};
 ghost use Rattle.task_model.specs.declared.input.Turn.{Turn};
 ghost use Rattle.html_pages.specs.Escaping.{is_inert};
 

@@ -1,10 +1,10 @@
 ghost use Rattle.std.specs.Prelude.{◌≡◌, ◌++◌, codes, IfOk, string_bytes};
-ghost use Rattle.task_model.specs.Basic.{basic_term, text_type};
-ghost use Rattle.task_model.specs.Value.{value_term};
-ghost use Rattle.task_model.specs.Literal.{value_text};
-ghost use Rattle.task_model.specs.Widget.{widget_term};
-ghost use Rattle.task_model.specs.Page.{path_text, widget_line};
-ghost use Rattle.task_model.specs.Html as model;
+ghost use Rattle.task_model.specs.Terms.Basic.{basic_term, text_type};
+ghost use Rattle.task_model.specs.Terms.Value.{value_term};
+ghost use Rattle.task_model.specs.Syntax.Literal.{value_text};
+ghost use Rattle.task_model.specs.Showing.Widget.{widget_term};
+ghost use Rattle.task_model.specs.Showing.Page.{path_text, widget_line};
+ghost use Rattle.task_model.specs.Showing.Html as model;
 ghost use Rattle.html_pages.specs.Fragments.{empty_fragment, fragment_of, valued_fragment};
 
 use crate::forms::{push_editor, push_line, push_sign};

@@ -1,9 +1,9 @@
 -- Acts to the end of the line, by their first byte.
 use Rattle.std.specs.Prelude.{codes}
 use Rattle.std.proofs.Common.{◌≡◌, ℕ, Bool, false, [], ◌∷◌, ◌++◌, Ok, Err, refl, sym, ap, ◌∙◌, subst, arith}
-use Rattle.task_model.specs.Text.{Text}
-use Rattle.task_model.specs.Value.{ValueTerm}
-use Rattle.task_model.specs.Input.{ActTerm, set_act, next_act, left_act, right_act}
+use Rattle.task_model.specs.Terms.Text.{Text}
+use Rattle.task_model.specs.Terms.Value.{ValueTerm}
+use Rattle.task_model.specs.Terms.Input.{ActTerm, set_act, next_act, left_act, right_act}
 use Rattle.exact_reading.specs.declared.stop.ParseStop.{ParseStop}
 use Rattle.exact_reading.specs.Reading.{SharesPrefix, IsViablePrefix, Always, Right, Run, NoToken, Anything}
 use Rattle.exact_reading.proofs.Sequences.{Bind}

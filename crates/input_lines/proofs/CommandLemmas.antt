@@ -1,11 +1,11 @@
 -- What stands behind a seat, and whole lines.
 use Rattle.std.specs.Prelude.{codes, decimal}
 use Rattle.std.proofs.Common.{◌≡◌, ℕ, ◌≤◌, Bool, true, false, List, [], ◌∷◌, ◌++◌, get_or, Ok, Err, refl, sym, ap, ◌∙◌, subst, arith, append_assoc}
-use Rattle.task_model.specs.Text.{Text}
-use Rattle.task_model.specs.Token.{IsDigit}
-use Rattle.task_model.specs.State.{IsSeat}
-use Rattle.task_model.specs.Page.{path_text}
-use Rattle.task_model.specs.Input.{ActTerm}
+use Rattle.task_model.specs.Terms.Text.{Text}
+use Rattle.task_model.specs.Terms.Token.{IsDigit}
+use Rattle.task_model.specs.Running.State.{IsSeat}
+use Rattle.task_model.specs.Showing.Page.{path_text}
+use Rattle.task_model.specs.Terms.Input.{ActTerm}
 use Rattle.task_model.specs.declared.input.Turn.{Turn}
 use Rattle.exact_reading.specs.declared.stop.ParseStop.{ParseStop}
 use Rattle.exact_reading.specs.Reading.{Language, SharesPrefix, IsViablePrefix, Always, Answer, Right, Tok, NoToken, Anything}

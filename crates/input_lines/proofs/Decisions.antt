@@ -3,10 +3,10 @@ use Rattle.std.specs.Prelude.{codes}
 use Rattle.std.proofs.Common.{◌≡◌, ℕ, ◌+◌, ◌-◌, ◌*◌, ◌≤◌, ◌<◌, ◌⊎◌, inl, inr, List, [], ◌∷◌, ◌++◌, length, take, drop, Ok, Err, refl, sym, ap, ◌∙◌, subst, arith, append_assoc}
 use Rattle.std.proofs.lemmas.Bool.{cases_eq, cases_lt}
 use Rattle.std.proofs.lemmas.List.{take-append-drop, take_all}
-use Rattle.task_model.specs.Text.{Text}
-use Rattle.task_model.specs.Token.{IsDigit}
-use Rattle.task_model.specs.Input.{set_act, next_act, left_act, right_act}
-use Rattle.task_model.specs.Page.{path_text}
+use Rattle.task_model.specs.Terms.Text.{Text}
+use Rattle.task_model.specs.Terms.Token.{IsDigit}
+use Rattle.task_model.specs.Terms.Input.{set_act, next_act, left_act, right_act}
+use Rattle.task_model.specs.Showing.Page.{path_text}
 use Rattle.task_model.specs.declared.input.Turn.{Turn}
 use Rattle.task_model.specs.declared.input.Turn.TheVariants.{First, Second}
 use Rattle.exact_reading.specs.declared.stop.ParseStop.{ParseStop}
@@ -16,9 +16,9 @@ use Rattle.exact_reading.specs.Reading.{Language, IsViablePrefix, Always, Answer
 use Rattle.exact_reading.specs.Whole.{IsFault}
 use Rattle.literal_text.specs.Literals.{IsLiteral}
 use Rattle.literal_text.specs.LiteralReading.{NoDigit}
-use Rattle.literal_laws.proofs.Decided.{Decided, reads, fails, followed, WordOrFault, word_or_fault, one_value}
-use Rattle.literal_laws.proofs.Words.{begins_or_not, Within, within_or_not, token, run}
-use Rattle.literal_laws.proofs.OneLiteral.{some_any, one_any}
+use Rattle.literal_text_laws.proofs.Decided.{Decided, reads, fails, followed, WordOrFault, word_or_fault, one_value}
+use Rattle.literal_text_laws.proofs.Words.{begins_or_not, Within, within_or_not, token, run}
+use Rattle.literal_text_laws.proofs.OneLiteral.{some_any, one_any}
 use Rattle.input_lines.specs.ScriptLines.{LineTerm, nothing, shows, IsScriptLine}
 use Rattle.input_lines.specs.LinePlaces.{IsLineWithin, IsBadLine}
 use Rattle.input_lines.specs.LineReading.{AtEnd, AtReturn, NoReturn, NoLetter, LineEnd, EndWord, SeatNumber, PathLetters, EndLiteral, EndAct, EndInput, EndCommand, SeatedLine}

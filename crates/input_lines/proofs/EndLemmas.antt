@@ -1,6 +1,6 @@
 -- Ends of lines, and words in front of them.
 use Rattle.std.proofs.Common.{◌≡◌, ◌≢◌, ℕ, zero, suc, ◌<◌, Bool, true, false, [], ◌∷◌, ◌++◌, length, take, get_or, Ok, Err, refl, sym, ap, ◌∙◌, subst, arith}
-use Rattle.task_model.specs.Text.{Text}
+use Rattle.task_model.specs.Terms.Text.{Text}
 use Rattle.exact_reading.specs.declared.stop.ParseStop.{ParseStop}
 use Rattle.exact_reading.specs.declared.stop.ParseStop.TheVariants.{Fault}
 use Rattle.exact_reading.specs.declared.stop.FaultKind.TheVariants.{Unexpected}

@@ -1,10 +1,10 @@
 -- A printed entry, as a parse.
 use Rattle.std.specs.Prelude.{decimal}
 use Rattle.std.proofs.Common.{◌≡◌, false, ◌∷◌, ◌++◌, refl, sym, ap, ◌∙◌}
-use Rattle.task_model.specs.Literal.{value_text}
-use Rattle.task_model.specs.Page.{path_text}
-use Rattle.task_model.specs.Input.{ActTerm, set_act, next_act, left_act, right_act, EntryTerm}
-use Rattle.task_model.specs.State.{IsSeat}
+use Rattle.task_model.specs.Syntax.Literal.{value_text}
+use Rattle.task_model.specs.Showing.Page.{path_text}
+use Rattle.task_model.specs.Terms.Input.{ActTerm, set_act, next_act, left_act, right_act, EntryTerm}
+use Rattle.task_model.specs.Running.State.{IsSeat}
 use Rattle.exact_reading.proofs.Sequences.{append_nil}
 use Rattle.input_lines.specs.ScriptLines.{ActParse, next, left, right, set, act_bytes, parsed_act, act, gives, IsScriptLine}
 use Rattle.input_lines.specs.EntryText.{act_text, entry_line, HasLiteral}

@@ -7,7 +7,7 @@ use Rattle.exact_reading.specs.declared.stop.FaultKind.TheVariants.{Unexpected}
 use Rattle.exact_reading.specs.Reading.{IsViablePrefix, Always}
 use Rattle.exact_reading.specs.Whole.{IsFault}
 use Rattle.exact_reading.proofs.Sequences.{append_nil}
-use Rattle.task_model.specs.Text.{Text}
+use Rattle.task_model.specs.Terms.Text.{Text}
 use Rattle.input_lines.specs.declared.standing.Standing.{Standing}
 use Rattle.input_lines.specs.ShortestRest.{shortest_rest, behind_byte, behind_bytes, at_start}
 use Rattle.input_lines.specs.ScriptLines.{LineTerm, nothing, empty, IsScriptLine}

@@ -2,16 +2,16 @@
 use Rattle.std.proofs.Common.{◌≡◌, ℕ, suc, ◌+◌, ◌-◌, ◌≤◌, ◌<◌, [], ◌∷◌, ◌++◌, length, take, drop, refl, sym, ap, ◌∙◌, arith, append_assoc, length-append}
 use Rattle.std.proofs.lemmas.List.{length-take-le, take-append-drop}
 use Rattle.std.proofs.Math.Seq.{take-append-add}
-use Rattle.task_model.specs.Text.{Text}
-use Rattle.task_model.specs.Literal.{value_text}
-use Rattle.task_model.specs.Held.{IsHeldAct}
-use Rattle.task_model.specs.State.{IsEntry}
-use Rattle.task_model.specs.Input.{ActTerm, set_act, next_act, left_act, right_act, EntryTerm}
+use Rattle.task_model.specs.Terms.Text.{Text}
+use Rattle.task_model.specs.Syntax.Literal.{value_text}
+use Rattle.task_model.specs.Terms.Held.{IsHeldAct}
+use Rattle.task_model.specs.Running.State.{IsEntry}
+use Rattle.task_model.specs.Terms.Input.{ActTerm, set_act, next_act, left_act, right_act, EntryTerm}
 use Rattle.exact_reading.specs.declared.stop.FaultKind.TheVariants.{Unexpected}
 use Rattle.exact_reading.specs.Reading.{Always}
 use Rattle.exact_reading.specs.Whole.{IsFault}
 use Rattle.exact_reading.proofs.Whole.{no_word}
-use Rattle.literal_laws.proofs.Decided as places
+use Rattle.literal_text_laws.proofs.Decided as places
 use Rattle.literal_text.proofs.PrintLemmas.{printed_literal}
 use Rattle.input_lines.specs.ScriptLines.{LineTerm, gives, IsScriptLine}
 use Rattle.input_lines.specs.LinePlaces.{IsLineWithin, IsBadLine}

@@ -2,10 +2,10 @@
 use Rattle.std.specs.Prelude.{codes}
 use Rattle.std.proofs.lemmas.Bool.Decides.{nat_tests}
 use Rattle.std.proofs.Common.{◌≡◌, ◌≢◌, ℕ, zero, suc, ◌+◌, ◌-◌, ◌*◌, ◌≤◌, ◌⊎◌, inl, inr, Bool, true, false, List, [], ◌∷◌, ◌++◌, length, refl, sym, ap, ◌∙◌, subst, arith, append_assoc}
-use Rattle.task_model.specs.Text.{Text}
-use Rattle.task_model.specs.Value.{as_values, count_of}
-use Rattle.task_model.specs.Literal.{bool_text}
-use Rattle.task_model.specs.Token.{IsDigit, AreDigits, number_from, SpellsNumber, IsText, spelled}
+use Rattle.task_model.specs.Terms.Text.{Text}
+use Rattle.task_model.specs.Terms.Value.{as_values, count_of}
+use Rattle.task_model.specs.Syntax.Literal.{bool_text}
+use Rattle.task_model.specs.Terms.Token.{IsDigit, AreDigits, number_from, SpellsNumber, IsText, spelled}
 use Rattle.literal_text.specs.Literals.{LiteralForm, literal, further, LiteralParse, unit, bool, int, text, pair, empty, list, last, more, literal_bytes, value, spaces, minus_text, IsWithinLiteralLimits, AreWithinLiteralLimits, levels_of, levels_in}
 use Rattle.literal_text.specs.LiteralReading.{most}
 use Rattle.literal_text.proofs.IntLemmas.{signed_fits, fits_signed}

@@ -1,7 +1,7 @@
 -- Paths.
 use Rattle.std.proofs.Common.{◌≡◌, ℕ, List, [], ◌∷◌, ◌++◌, get_or, Ok, Err, refl, sym, ap, ◌∙◌, subst, append_assoc, arith}
-use Rattle.task_model.specs.Text.{Text}
-use Rattle.task_model.specs.Page.{path_text, turns_text}
+use Rattle.task_model.specs.Terms.Text.{Text}
+use Rattle.task_model.specs.Showing.Page.{path_text, turns_text}
 use Rattle.task_model.specs.declared.input.Turn.{Turn}
 use Rattle.task_model.specs.declared.input.Turn.TheVariants.{First, Second}
 use Rattle.exact_reading.specs.declared.stop.ParseStop.{ParseStop}

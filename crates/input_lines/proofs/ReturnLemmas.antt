@@ -3,10 +3,10 @@ use Rattle.std.specs.Prelude.{encode_utf8}
 use Rattle.std.specs.Char.{IsScalar}
 use Rattle.std.proofs.str.Laws as laws
 use Rattle.std.proofs.Common.{◌≡◌, ℕ, zero, suc, ◌≤◌, Bool, true, false, inl, inr, List, [], ◌∷◌, ◌++◌, refl, sym, ap, ◌∙◌, subst, arith}
-use Rattle.task_model.specs.Text.{Text}
-use Rattle.task_model.specs.Value.{ValueTerm}
-use Rattle.task_model.specs.Literal.{bool_text}
-use Rattle.task_model.specs.Token.{TextPart, raw, letter, hex, part_spelling, PartIs, PartsAre, spelled, IsText, Escapes, quote, backslash, line_feed, tab, carriage_return, IsHex, AreDigits}
+use Rattle.task_model.specs.Terms.Text.{Text}
+use Rattle.task_model.specs.Terms.Value.{ValueTerm}
+use Rattle.task_model.specs.Syntax.Literal.{bool_text}
+use Rattle.task_model.specs.Terms.Token.{TextPart, raw, letter, hex, part_spelling, PartIs, PartsAre, spelled, IsText, Escapes, quote, backslash, line_feed, tab, carriage_return, IsHex, AreDigits}
 use Rattle.literal_text.specs.Literals.{LiteralForm, LiteralParse, unit, bool, int, text, pair, empty, list, last, more, literal_bytes, spaces, minus_text, IsLiteral}
 use Rattle.literal_text.proofs.CharacterLemmas.{only_scalar, shape_of}
 use Rattle.input_lines.specs.LineReading.{NoReturn, AtReturn}

@@ -2,9 +2,9 @@
 use Rattle.std.specs.Prelude.{decimal}
 use Rattle.std.proofs.lemmas.Fmt.{decimal_digit, decimal_step}
 use Rattle.std.proofs.Common.{◌≡◌, ℕ, ◌+◌, ◌-◌, ◌*◌, ◌/◌, ◌%◌, ◌<◌, ◌≤◌, ◌⊎◌, inl, inr, [], ◌∷◌, ◌++◌, length, Ok, Err, refl, sym, ap, ◌∙◌, subst, arith}
-use Rattle.task_model.specs.Text.{Text}
-use Rattle.task_model.specs.Token.{IsDigit}
-use Rattle.task_model.specs.State.{IsSeat}
+use Rattle.task_model.specs.Terms.Text.{Text}
+use Rattle.task_model.specs.Terms.Token.{IsDigit}
+use Rattle.task_model.specs.Running.State.{IsSeat}
 use Rattle.exact_reading.specs.declared.stop.ParseStop.TheVariants.{Fault}
 use Rattle.exact_reading.specs.declared.stop.FaultKind.TheVariants.{Unexpected}
 use Rattle.exact_reading.specs.Reading.{SharesPrefix, Always, Right}

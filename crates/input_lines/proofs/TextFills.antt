@@ -4,8 +4,8 @@ use Rattle.std.proofs.str.Laws as laws
 use Rattle.std.proofs.lemmas.Bool.Decides.{nat_tests}
 use Rattle.std.proofs.Common.{◌≡◌, ◌≢◌, ℕ, ◌+◌, ◌<◌, ◌≤◌, List, [], ◌∷◌, ◌++◌, length, refl, sym, ap, ◌∙◌, subst, arith, append_assoc, length-append}
 use Rattle.exact_reading.proofs.Sequences.{append_nil}
-use Rattle.task_model.specs.Text.{Text}
-use Rattle.task_model.specs.Token.{TextPart, raw, letter, hex, part_spelling, PartIs, PartsAre, spelled, Escapes, quote, backslash, line_feed, tab, carriage_return}
+use Rattle.task_model.specs.Terms.Text.{Text}
+use Rattle.task_model.specs.Terms.Token.{TextPart, raw, letter, hex, part_spelling, PartIs, PartsAre, spelled, Escapes, quote, backslash, line_feed, tab, carriage_return}
 use Rattle.literal_text.proofs.CharacterLemmas.{only_scalar, shape_of}
 use Rattle.input_lines.specs.declared.next.Next.TheVariants as nexts
 use Rattle.input_lines.specs.declared.bracket.Bracket.{Bracket}

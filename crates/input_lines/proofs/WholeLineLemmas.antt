@@ -7,7 +7,7 @@ use Rattle.exact_reading.specs.declared.stop.ParseStop.TheVariants.{Fault}
 use Rattle.exact_reading.specs.Reading.{IsViablePrefix, Always, Right}
 use Rattle.exact_reading.specs.Whole.{IsFault, IsFirstFault}
 use Rattle.exact_reading.proofs.Whole.{whole_only, refused, always_unexpected, no_word}
-use Rattle.task_model.specs.Text.{Text}
+use Rattle.task_model.specs.Terms.Text.{Text}
 use Rattle.line_frame.specs.declared.machine.LineStop.{LineStop}
 use Rattle.line_frame.specs.declared.machine.LineStop.TheVariants.{Bad, Memory}
 use Rattle.input_lines.specs.ScriptLines.{LineTerm, LineParse, empty, comment, show, act, parsed_line, IsScriptLine, HasSeat}

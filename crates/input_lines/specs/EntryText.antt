@@ -1,9 +1,9 @@
 -- Entries as text (docs/FORMATS.md, "Script lines").
 use Rattle.std.specs.Prelude.{◌∷◌, ◌++◌, ◌≤◌, codes, decimal}
-use Rattle.task_model.specs.Text.{Text}
-use Rattle.task_model.specs.Literal.{value_text}
-use Rattle.task_model.specs.Input.{ActTerm, set_act, next_act, left_act, right_act, EntryTerm}
-use Rattle.task_model.specs.Page.{path_text}
+use Rattle.task_model.specs.Terms.Text.{Text}
+use Rattle.task_model.specs.Syntax.Literal.{value_text}
+use Rattle.task_model.specs.Terms.Input.{ActTerm, set_act, next_act, left_act, right_act, EntryTerm}
+use Rattle.task_model.specs.Showing.Page.{path_text}
 use Rattle.literal_text.specs.Literals.{IsLiteral, IsWithinLiteralLimits, levels_of}
 
 abbrev pub act_text : ActTerm → Text

@@ -1,6 +1,6 @@
 -- The longest front of bytes that still leaves room for a rest (docs/FORMATS.md, "Script lines").
 use Rattle.std.specs.Prelude.{◌≡◌, ℕ, ◌+◌, [], ◌∷◌, ◌++◌, length}
-use Rattle.task_model.specs.Text.{Text}
+use Rattle.task_model.specs.Terms.Text.{Text}
 use Rattle.line_frame.specs.declared.machine.LineStop.{LineStop}
 use Rattle.line_frame.specs.declared.machine.LineStop.TheVariants.{Bad, Memory}
 use Rattle.input_lines.specs.LinePlaces.{BeginsLine}

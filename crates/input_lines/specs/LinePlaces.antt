@@ -1,6 +1,6 @@
 -- Where bytes stop being a line within the limit on its length (docs/FORMATS.md, "Script lines").
 use Rattle.std.specs.Prelude.{◌≡◌, ℕ, ◌+◌, ◌≤◌, length}
-use Rattle.task_model.specs.Text.{Text}
+use Rattle.task_model.specs.Terms.Text.{Text}
 use Rattle.exact_reading.specs.Reading.{IsViablePrefix, Always}
 use Rattle.exact_reading.specs.declared.stop.FaultKind.TheVariants.{Unexpected}
 use Rattle.exact_reading.specs.Whole.{IsFirstFault}

@@ -1,10 +1,10 @@
 -- What the functions inside read: each a language.
 use Rattle.std.specs.Prelude.{◌≡◌, ℕ, Bool, List, [], ◌∷◌, ◌++◌, codes, decimal}
-use Rattle.task_model.specs.Text.{Text}
-use Rattle.task_model.specs.Value.{ValueTerm}
-use Rattle.task_model.specs.Input.{ActTerm}
-use Rattle.task_model.specs.State.{IsSeat}
-use Rattle.task_model.specs.Page.{path_text}
+use Rattle.task_model.specs.Terms.Text.{Text}
+use Rattle.task_model.specs.Terms.Value.{ValueTerm}
+use Rattle.task_model.specs.Terms.Input.{ActTerm}
+use Rattle.task_model.specs.Running.State.{IsSeat}
+use Rattle.task_model.specs.Showing.Page.{path_text}
 use Rattle.task_model.specs.declared.input.Turn.{Turn}
 use Rattle.exact_reading.specs.Reading.{NoToken}
 use Rattle.literal_text.specs.Literals.{IsLiteral}

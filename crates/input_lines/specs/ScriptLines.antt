@@ -1,10 +1,10 @@
 -- Which bytes are a line of a script, and what it asks for (docs/FORMATS.md, "Script lines").
 use Rattle.std.specs.Prelude.{◌≡◌, ℕ, Bool, true, false, List, [], ◌∷◌, ◌++◌, codes, decimal}
-use Rattle.task_model.specs.Text.{Text}
-use Rattle.task_model.specs.Value.{ValueTerm}
-use Rattle.task_model.specs.Input.{ActTerm, set_act, next_act, left_act, right_act, EntryTerm, entry_term}
-use Rattle.task_model.specs.State.{IsSeat}
-use Rattle.task_model.specs.Page.{path_text}
+use Rattle.task_model.specs.Terms.Text.{Text}
+use Rattle.task_model.specs.Terms.Value.{ValueTerm}
+use Rattle.task_model.specs.Terms.Input.{ActTerm, set_act, next_act, left_act, right_act, EntryTerm, entry_term}
+use Rattle.task_model.specs.Running.State.{IsSeat}
+use Rattle.task_model.specs.Showing.Page.{path_text}
 use Rattle.task_model.specs.declared.input.Turn.{Turn}
 use Rattle.literal_text.specs.Literals.{IsLiteral}
 use Rattle.input_lines.specs.declared.line.Line.{Line}

@@ -1,7 +1,7 @@
 -- The fewest bytes with which a line can still end (docs/FORMATS.md, "Script lines"). The bytes so far begin a line of any length:
 -- of other bytes nothing is said.
 use Rattle.std.specs.Prelude.{ℕ, zero, suc, ◌+◌, ◌==◌, nat_lt, if◌then◌else◌, List, [], ◌∷◌}
-use Rattle.task_model.specs.Text.{Text}
+use Rattle.task_model.specs.Terms.Text.{Text}
 use Rattle.input_lines.specs.declared.next.Next.{Next}
 use Rattle.input_lines.specs.declared.next.Next.TheVariants as nexts
 use Rattle.input_lines.specs.declared.bracket.Bracket.{Bracket}

@@ -1,8 +1,8 @@
 -- The program of a soak and its inputs (docs/FORMATS.md, "The soak generator").
 use Rattle.std.specs.Prelude.{ℕ, zero, suc, ◌+◌, ◌-◌, ◌*◌, ◌/◌, ◌%◌, ◌^◌, pos, List, [], ◌∷◌, ◌++◌, codes, decimal, replicate}
-use Rattle.task_model.specs.Text.{Text}
-use Rattle.task_model.specs.Value.{int_value}
-use Rattle.task_model.specs.Input.{ActTerm, set_act, next_act, left_act, EntryTerm}
+use Rattle.task_model.specs.Terms.Text.{Text}
+use Rattle.task_model.specs.Terms.Value.{int_value}
+use Rattle.task_model.specs.Terms.Input.{ActTerm, set_act, next_act, left_act, EntryTerm}
 use Rattle.task_model.specs.declared.input.Turn.{Turn}
 use Rattle.task_model.specs.declared.input.Turn.TheVariants as turns
 

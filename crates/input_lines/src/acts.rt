@@ -1,7 +1,7 @@
 ghost use Rattle.std.specs.Prelude.{◌≡◌, ◌∷◌, List, ℕ, [], MatchBool};
 ghost use Rattle.exact_reading.specs.Reading.{Right, seen, Always, NoToken};
-ghost use Rattle.task_model.specs.Input.{act_term};
-ghost use Rattle.task_model.specs.Value.{value_term};
+ghost use Rattle.task_model.specs.Terms.Input.{act_term};
+ghost use Rattle.task_model.specs.Terms.Value.{value_term};
 ghost use Rattle.literal_text.specs.Literals.{IsLiteral};
 ghost use Rattle.input_lines.specs.LineReading.{EndAct, EndLiteral, AtEnd, AtReturn};
 

@@ -1,7 +1,7 @@
 ghost use Rattle.std.specs.Prelude.{◌≡◌, ◌≤◌, ◌<◌, ◌+◌, ◌↔◌, ◌⊎◌, ℕ, length, take};
-ghost use Rattle.task_model.specs.Text.{Text};
-ghost use Rattle.task_model.specs.Input.{EntryTerm};
-ghost use Rattle.task_model.specs.State.{IsEntry};
+ghost use Rattle.task_model.specs.Terms.Text.{Text};
+ghost use Rattle.task_model.specs.Terms.Input.{EntryTerm};
+ghost use Rattle.task_model.specs.Running.State.{IsEntry};
 ghost use Rattle.input_lines.specs.ScriptLines.{LineTerm, IsScriptLine, gives};
 ghost use Rattle.input_lines.specs.LinePlaces.{IsBadLine};
 ghost use Rattle.input_lines.specs.EntryText.{entry_line, IsWithinActLimits};

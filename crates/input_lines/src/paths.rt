@@ -1,6 +1,6 @@
 ghost use Rattle.std.specs.Prelude.{◌≡◌, ◌∷◌, ◌++◌, [], MatchOption};
 ghost use Rattle.exact_reading.specs.Reading.{Right, seen, Always};
-ghost use Rattle.task_model.specs.Page.{turns_text};
+ghost use Rattle.task_model.specs.Showing.Page.{turns_text};
 ghost use Rattle.input_lines.specs.LineReading.{PathLetters, NoLetter};
 
 use exact_reading::{ParseStop, expect, strip};

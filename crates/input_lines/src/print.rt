@@ -1,7 +1,7 @@
 ghost use Rattle.std.specs.Prelude.{◌≡◌, ◌++◌, ◌∷◌, [], IfOk, OnOk, string_bytes, decimal};
-ghost use Rattle.task_model.specs.Input.{act_term, entry_term};
-ghost use Rattle.task_model.specs.Page.{path_text, turns_text};
-ghost use Rattle.task_model.specs.State.{IsSeat};
+ghost use Rattle.task_model.specs.Terms.Input.{act_term, entry_term};
+ghost use Rattle.task_model.specs.Showing.Page.{path_text, turns_text};
+ghost use Rattle.task_model.specs.Running.State.{IsSeat};
 ghost use Rattle.input_lines.specs.ScriptLines.{IsScriptLine, gives};
 ghost use Rattle.input_lines.specs.EntryText.{act_text, entry_line, entry_text, IsWithinActLimits, HasLiteral};
 

@@ -1,6 +1,6 @@
 ghost use Rattle.std.specs.Prelude.{◌≡◌, ◌∷◌, ◌-◌, ℕ, List, MatchOption, MatchBool};
 ghost use Rattle.exact_reading.specs.Reading.{Right, seen, Always};
-ghost use Rattle.task_model.specs.Token.{IsDigit};
+ghost use Rattle.task_model.specs.Terms.Token.{IsDigit};
 ghost use Rattle.literal_text.specs.LiteralReading.{NoDigit};
 ghost use Rattle.input_lines.specs.LineReading.{SeatNumber};
 

@@ -1,5 +1,5 @@
 ghost use Rattle.std.specs.Prelude.{◌≡◌, ◌++◌, ◌<◌, ◌/◌, ◌%◌, IfOk, OnOk, string_bytes};
-ghost use Rattle.task_model.specs.Input.{act_term, entry_term};
+ghost use Rattle.task_model.specs.Terms.Input.{act_term, entry_term};
 ghost use Rattle.input_lines.specs.Soak.{soak_text, soak_type, soak_part, soak_parts, soak_reference, soak_join, soak_next, soak_entry_of, soak_drawn, soak_path, soak_act};
 
 use crate::print::{push, push_number};

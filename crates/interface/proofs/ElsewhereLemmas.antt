@@ -1,10 +1,10 @@
 -- Offers of other parts, and what the first of some offers says.
 use Rattle.std.proofs.Common.{◌≡◌, ℕ, List, [], ◌∷◌, ◌++◌, map, Some, refl}
-use Rattle.task_model.specs.Value.{ValueTerm}
-use Rattle.task_model.specs.Tree.{TreeTerm}
-use Rattle.task_model.specs.Checked.{CheckedTerm}
-use Rattle.task_model.specs.Rules.{value_of}
-use Rattle.task_model.specs.Offer.{OfferKindTerm, next_offer, left_offer, right_offer, OfferTerm, offered, AreOffers}
+use Rattle.task_model.specs.Terms.Value.{ValueTerm}
+use Rattle.task_model.specs.Terms.Tree.{TreeTerm}
+use Rattle.task_model.specs.Running.Checked.{CheckedTerm}
+use Rattle.task_model.specs.Running.Rules.{value_of}
+use Rattle.task_model.specs.Running.Offer.{OfferKindTerm, next_offer, left_offer, right_offer, OfferTerm, offered, AreOffers}
 use Rattle.task_model.specs.declared.input.Turn.{Turn}
 use Rattle.task_model.specs.declared.input.Turn.TheVariants as turns
 use Rattle.task_model.specs.declared.widget.Sign.{Sign}

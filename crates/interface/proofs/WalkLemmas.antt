@@ -1,13 +1,13 @@
 -- What a walk through a tree shows, by the form of the tree.
 use Rattle.std.proofs.Common.{◌≡◌, ℕ, List, [], ◌∷◌, ◌++◌, map, drop, Option, Some, None, refl, sym, ap, ◌∙◌, subst, append_assoc, append-nil, Result, Ok, Err, OnOk, IfOk}
-use Rattle.task_model.specs.Basic.{BasicTerm}
-use Rattle.task_model.specs.Value.{ValueTerm}
-use Rattle.task_model.specs.Tree.{LaterTerm, TreeTerm, then_tree, next_tree, fail_tree, xor_tree}
-use Rattle.task_model.specs.Checked.{CheckedTerm}
-use Rattle.task_model.specs.Rules.{value_of}
-use Rattle.task_model.specs.Sign.{IsStepSign}
-use Rattle.task_model.specs.Offer.{set_offer, next_offer, left_offer, right_offer, OfferTerm, offered, both_offers, AreOffers}
-use Rattle.task_model.specs.Widget.{ShapeTerm, then_shape, step_shape, fail_shape, pick_shape, WidgetTerm, here, both_widgets, AreWidgets}
+use Rattle.task_model.specs.Terms.Basic.{BasicTerm}
+use Rattle.task_model.specs.Terms.Value.{ValueTerm}
+use Rattle.task_model.specs.Terms.Tree.{LaterTerm, TreeTerm, then_tree, next_tree, fail_tree, xor_tree}
+use Rattle.task_model.specs.Running.Checked.{CheckedTerm}
+use Rattle.task_model.specs.Running.Rules.{value_of}
+use Rattle.task_model.specs.Running.Sign.{IsStepSign}
+use Rattle.task_model.specs.Running.Offer.{set_offer, next_offer, left_offer, right_offer, OfferTerm, offered, both_offers, AreOffers}
+use Rattle.task_model.specs.Showing.Widget.{ShapeTerm, then_shape, step_shape, fail_shape, pick_shape, WidgetTerm, here, both_widgets, AreWidgets}
 use Rattle.task_model.specs.declared.input.Turn.{Turn}
 use Rattle.task_model.specs.declared.input.Turn.TheVariants as turns
 use Rattle.task_model.specs.declared.widget.Sign.{Sign}

@@ -1,7 +1,7 @@
 -- How the offers of a tree mark its widgets (docs/RULES.md, "Offers", "Interfaces").
 use Rattle.std.specs.Prelude.{◌≡◌, List, [], ◌∷◌, ◌++◌, map, drop, Option, None, Some}
-use Rattle.task_model.specs.Value.{ValueTerm}
-use Rattle.task_model.specs.Offer.{OfferKindTerm, next_offer, left_offer, right_offer, OfferTerm, offered}
+use Rattle.task_model.specs.Terms.Value.{ValueTerm}
+use Rattle.task_model.specs.Running.Offer.{OfferKindTerm, next_offer, left_offer, right_offer, OfferTerm, offered}
 use Rattle.task_model.specs.declared.input.Turn.{Turn}
 use Rattle.task_model.specs.declared.widget.Sign.{Sign}
 use Rattle.task_model.specs.declared.widget.Sign.TheVariants as signs

@@ -1,11 +1,11 @@
 -- What a walk through a tree is given of the offers, and what it adds to the widgets (docs/RULES.md, "Interfaces").
 use Rattle.std.specs.Prelude.{◌≡◌, ℕ, List, [], ◌∷◌, ◌++◌, map}
 use Rattle.std.specs.List.{AllByRecursion}
-use Rattle.task_model.specs.Value.{ValueTerm}
-use Rattle.task_model.specs.Tree.{TreeTerm}
-use Rattle.task_model.specs.Checked.{CheckedTerm}
-use Rattle.task_model.specs.Offer.{left_offer, right_offer, OfferTerm, AreOffers}
-use Rattle.task_model.specs.Widget.{WidgetTerm, pick_shape, here, AreWidgets}
+use Rattle.task_model.specs.Terms.Value.{ValueTerm}
+use Rattle.task_model.specs.Terms.Tree.{TreeTerm}
+use Rattle.task_model.specs.Running.Checked.{CheckedTerm}
+use Rattle.task_model.specs.Running.Offer.{left_offer, right_offer, OfferTerm, AreOffers}
+use Rattle.task_model.specs.Showing.Widget.{WidgetTerm, pick_shape, here, AreWidgets}
 use Rattle.task_model.specs.declared.input.Turn.{Turn}
 use Rattle.task_model.specs.declared.widget.Sign.{Sign}
 use Rattle.tree_trail.specs.Below.{offer_below, widget_below, IsInto}

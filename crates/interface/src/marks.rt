@@ -1,5 +1,5 @@
 ghost use Rattle.std.specs.Prelude.{◌≡◌, ◌↔◌, map, IsTrue};
-ghost use Rattle.task_model.specs.Offer.{offer_kind_term, offer_term};
+ghost use Rattle.task_model.specs.Running.Offer.{offer_kind_term, offer_term};
 ghost use Rattle.interface.specs.Marks.{answered_sign, behind_mark, tested_kind, MarksFirst};
 
 use task_model::{Answer, Offer, OfferKind, Sign};

@@ -1,8 +1,8 @@
 ghost use Rattle.std.specs.Prelude.{◌≡◌, IfOk};
-ghost use Rattle.task_model.specs.Basic.{basic_term};
-ghost use Rattle.task_model.specs.Value.{value_term};
-ghost use Rattle.task_model.specs.Widget as model;
-ghost use Rattle.task_model.specs.Widget.{shape_term};
+ghost use Rattle.task_model.specs.Terms.Basic.{basic_term};
+ghost use Rattle.task_model.specs.Terms.Value.{value_term};
+ghost use Rattle.task_model.specs.Showing.Widget as model;
+ghost use Rattle.task_model.specs.Showing.Widget.{shape_term};
 
 use task_model::{Basic, OutOfMemory, Reads, Shape, Value, copy_basic, copy_value};
 

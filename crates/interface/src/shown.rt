@@ -1,5 +1,5 @@
 ghost use Rattle.std.specs.Prelude.{◌≡◌, [], ◌∷◌, ◌++◌, map, OnOk};
-ghost use Rattle.task_model.specs.Widget.{here, shape_term, widget_term};
+ghost use Rattle.task_model.specs.Showing.Widget.{here, shape_term, widget_term};
 ghost use Rattle.tree_trail.specs.Below.{widget_below};
 
 use std::alloc::Global;

@@ -1,9 +1,9 @@
 ghost use Rattle.std.specs.Prelude.{◌≡◌, ℕ, ◌∷◌, [], ◌++◌, map, drop, IfOk, OnOk};
-ghost use Rattle.task_model.specs.Tree.{tree_term};
-ghost use Rattle.task_model.specs.Rules.{value_of};
-ghost use Rattle.task_model.specs.Checked.{CheckedTerm};
-ghost use Rattle.task_model.specs.Offer.{offer_term, AreOffers};
-ghost use Rattle.task_model.specs.Widget.{here, shape_term, widget_term, AreWidgets};
+ghost use Rattle.task_model.specs.Terms.Tree.{tree_term};
+ghost use Rattle.task_model.specs.Running.Rules.{value_of};
+ghost use Rattle.task_model.specs.Running.Checked.{CheckedTerm};
+ghost use Rattle.task_model.specs.Running.Offer.{offer_term, AreOffers};
+ghost use Rattle.task_model.specs.Showing.Widget.{here, shape_term, widget_term, AreWidgets};
 ghost use Rattle.tree_trail.specs.Below.{widget_below};
 ghost use Rattle.interface.specs.Marks.{MarksStep};
 ghost use Rattle.interface.specs.Walked.{Picked, Walked};

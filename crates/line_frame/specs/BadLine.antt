@@ -1,6 +1,6 @@
 -- The answers to one line.
 use Rattle.std.specs.Prelude.{ℕ, Result, Ok, Err, ⊤}
-use Rattle.task_model.specs.Rowed.{Rowed}
+use Rattle.task_model.specs.Terms.Rowed.{Rowed}
 use Rattle.line_frame.specs.declared.machine.LineStop.{LineStop}
 use Rattle.line_frame.specs.declared.machine.LineStop.TheVariants.{Bad, Memory}
 

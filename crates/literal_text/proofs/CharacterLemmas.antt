@@ -7,7 +7,7 @@ use Rattle.std.proofs.str.Laws as laws
 use Rattle.std.proofs.lemmas.Bool.Decides.{nat_tests}
 use Rattle.std.proofs.Common.{◌≡◌, ℕ, ◌+◌, ◌-◌, ◌*◌, ◌/◌, ◌%◌, ◌<◌, ◌≤◌, Bool, true, false, ◌&&◌, ◌⊎◌, inl, inr, [], ◌∷◌, length, refl, sym, ap, ◌∙◌, arith}
 use lib.Utf8.{scalar_cases}
-use Rattle.task_model.specs.Text.{Text}
+use Rattle.task_model.specs.Terms.Text.{Text}
 use Rattle.literal_text.specs.LiteralReading.{width_of}
 
 both : (a b : Bool) → (a && b) ≡ true → a ≡ true

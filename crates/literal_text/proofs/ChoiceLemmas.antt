@@ -2,9 +2,9 @@
 use Rattle.std.specs.Prelude.{nat_le}
 use Rattle.std.proofs.lemmas.Bool.Decides.{nat_tests}
 use Rattle.std.proofs.Common.{◌≡◌, ℕ, suc, ◌-◌, ◌<◌, ◌≤◌, max, Bool, true, false, Option, None, Some, ◌⊎◌, inl, inr, [], ◌∷◌, ◌++◌, length, Ok, Err, refl, sym, ap, ◌∙◌, subst, arith}
-use Rattle.task_model.specs.Text.{Text}
-use Rattle.task_model.specs.Basic.{BasicTerm, unit_type, bool_type, int_type, text_type, pair_type, list_type}
-use Rattle.task_model.specs.Value.{ValueTerm, unit_value, bool_value, int_value, text_value, list_value, no_values, as_values, value_has}
+use Rattle.task_model.specs.Terms.Text.{Text}
+use Rattle.task_model.specs.Terms.Basic.{BasicTerm, unit_type, bool_type, int_type, text_type, pair_type, list_type}
+use Rattle.task_model.specs.Terms.Value.{ValueTerm, unit_value, bool_value, int_value, text_value, list_value, no_values, as_values, value_has}
 use Rattle.exact_reading.specs.declared.stop.ParseStop.{ParseStop}
 use Rattle.exact_reading.specs.Reading.{SharesPrefix, IsViablePrefix, Always, Answer, Right, NoToken}
 use Rattle.exact_reading.proofs.Productions.{Follows, by_production, same_language, tighter}

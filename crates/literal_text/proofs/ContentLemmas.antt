@@ -1,8 +1,8 @@
 -- Texts: parts between quotes.
 use Rattle.std.proofs.Common.{◌≡◌, ℕ, suc, ◌-◌, ◌<◌, ◌≤◌, List, [], ◌∷◌, ◌++◌, length, Ok, Err, refl, sym, ap, ◌∙◌, subst, arith, append_assoc, length-append}
-use Rattle.task_model.specs.Text.{Text}
-use Rattle.task_model.specs.Value.{ValueTerm, text_value}
-use Rattle.task_model.specs.Token.{TextPart, part_spelling, PartsAre, spelled}
+use Rattle.task_model.specs.Terms.Text.{Text}
+use Rattle.task_model.specs.Terms.Value.{ValueTerm, text_value}
+use Rattle.task_model.specs.Terms.Token.{TextPart, part_spelling, PartsAre, spelled}
 use Rattle.exact_reading.specs.declared.stop.ParseStop.{ParseStop}
 use Rattle.exact_reading.specs.Reading.{Language, SharesPrefix, IsViablePrefix, Always, Answer, Right, Tok, Anything, NoToken}
 use Rattle.exact_reading.proofs.Sequences.{Bind, Done, append_nil}

@@ -3,8 +3,8 @@ use Rattle.std.specs.Prelude.{encode_utf8, ◌==◌, if◌then◌else◌}
 use Rattle.std.specs.Char.{IsScalar}
 use Rattle.std.proofs.lemmas.Bool.Decides.{nat_tests}
 use Rattle.std.proofs.Common.{◌≡◌, ◌≢◌, ℕ, suc, ◌+◌, ◌*◌, ◌<◌, ◌≤◌, ◌⊎◌, inl, inr, [], ◌∷◌, ◌++◌, length, Ok, Err, refl, sym, ap, ◌∙◌, subst, arith}
-use Rattle.task_model.specs.Text.{Text}
-use Rattle.task_model.specs.Token.{TextPart, raw, letter, hex, part_spelling, PartIs, Escapes, quote, backslash, line_feed, tab, carriage_return, IsHex, IsDigit, hex_value}
+use Rattle.task_model.specs.Terms.Text.{Text}
+use Rattle.task_model.specs.Terms.Token.{TextPart, raw, letter, hex, part_spelling, PartIs, Escapes, quote, backslash, line_feed, tab, carriage_return, IsHex, IsDigit, hex_value}
 use Rattle.exact_reading.specs.declared.stop.ParseStop.{ParseStop}
 use Rattle.exact_reading.specs.declared.stop.ParseStop.TheVariants.{Fault}
 use Rattle.exact_reading.specs.declared.stop.FaultKind.TheVariants.{Unexpected}

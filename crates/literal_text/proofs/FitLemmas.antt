@@ -2,9 +2,9 @@
 use Rattle.std.specs.Prelude.{nat_le}
 use Rattle.std.proofs.lemmas.Bool.Decides.{nat_tests}
 use Rattle.std.proofs.Common.{◌≡◌, ℕ, suc, ◌-◌, ◌≤◌, max, Bool, true, false, cond, Option, None, Some, List, [], ◌∷◌, length, refl, ap, ◌∙◌, arith}
-use Rattle.task_model.specs.Text.{Text}
-use Rattle.task_model.specs.Basic.{BasicTerm, unit_type, bool_type, int_type, text_type, pair_type, list_type}
-use Rattle.task_model.specs.Value.{ValueTerm, unit_value, bool_value, int_value, text_value, pair_value, list_value, as_values, count_of, value_has, values_have}
+use Rattle.task_model.specs.Terms.Text.{Text}
+use Rattle.task_model.specs.Terms.Basic.{BasicTerm, unit_type, bool_type, int_type, text_type, pair_type, list_type}
+use Rattle.task_model.specs.Terms.Value.{ValueTerm, unit_value, bool_value, int_value, text_value, pair_value, list_value, as_values, count_of, value_has, values_have}
 use Rattle.task_model.proofs.RowLemmas.{count_of-as_values}
 use Rattle.literal_text.specs.Literals.{LiteralParse, literal, unit, bool, int, text, pair, empty, value, IsWithinLiteralLimits, AreWithinLiteralLimits, levels_of, levels_in}
 use Rattle.literal_text.specs.LiteralReading.{HasWanted, fewest_levels, fewest, Fit, AllFit, Lit}

@@ -1,10 +1,10 @@
 -- Literals of several tokens.
 use Rattle.std.proofs.Common.{◌≡◌, ◌≢◌, ℕ, ◌≤◌, Bool, true, false, Option, ◌⊎◌, inl, inr, [], ◌∷◌, ◌++◌, Ok, Err, refl, sym, ap, ◌∙◌, subst, arith, append_assoc}
-use Rattle.task_model.specs.Text.{Text}
-use Rattle.task_model.specs.Basic.{BasicTerm}
-use Rattle.task_model.specs.Value.{ValueTerm, unit_value, bool_value, pair_value}
-use Rattle.task_model.specs.Literal.{bool_text}
-use Rattle.task_model.specs.Token.{IsDigit}
+use Rattle.task_model.specs.Terms.Text.{Text}
+use Rattle.task_model.specs.Terms.Basic.{BasicTerm}
+use Rattle.task_model.specs.Terms.Value.{ValueTerm, unit_value, bool_value, pair_value}
+use Rattle.task_model.specs.Syntax.Literal.{bool_text}
+use Rattle.task_model.specs.Terms.Token.{IsDigit}
 use Rattle.exact_reading.specs.declared.stop.ParseStop.{ParseStop}
 use Rattle.exact_reading.specs.Reading.{Language, SharesPrefix, IsViablePrefix, Always, Answer, Right, NoToken}
 use Rattle.exact_reading.proofs.Sequences.{Bind, Done, append_nil}

@@ -7,17 +7,17 @@ use Rattle.std.proofs.str.Laws as laws
 use Rattle.std.proofs.lemmas.Fmt.{decimal_by_steps}
 use Rattle.std.proofs.lemmas.Bool.Decides.{nat_tests}
 use Rattle.std.proofs.Common.{◌≡◌, ◌≢◌, ℕ, suc, ◌+◌, ◌-◌, ◌*◌, ◌/◌, ◌%◌, ◌^◌, ◌<◌, ◌≤◌, Bool, true, false, ◌&&◌, ◌⊎◌, inl, inr, List, [], ◌∷◌, ◌++◌, length, refl, sym, ap, ◌∙◌, subst, arith, append_assoc}
-use Rattle.task_model.specs.Text.{Text}
-use Rattle.task_model.specs.Basic.{BasicTerm, unit_type, bool_type, int_type, text_type, pair_type, list_type}
-use Rattle.task_model.specs.Value.{ValueTerm, unit_value, bool_value, int_value, text_value, pair_value, list_value, ValueTerms, no_values, more_values, as_values, count_of, value_has, values_have}
-use Rattle.task_model.specs.Literal.{basic_text, bool_text, hex_digit, escaped, escaped_all, value_text, rest_text}
-use Rattle.task_model.specs.TypeParts.{symbols_of}
-use Rattle.task_model.specs.Token.{TextPart, raw, letter, hex, part_spelling, PartIs, PartsAre, spelled, IsText, Escapes, quote, backslash, line_feed, tab, carriage_return, IsHex, IsDigit, AreDigits, number_from, SpellsNumber, hex_value}
+use Rattle.task_model.specs.Terms.Text.{Text}
+use Rattle.task_model.specs.Terms.Basic.{BasicTerm, unit_type, bool_type, int_type, text_type, pair_type, list_type}
+use Rattle.task_model.specs.Terms.Value.{ValueTerm, unit_value, bool_value, int_value, text_value, pair_value, list_value, ValueTerms, no_values, more_values, as_values, count_of, value_has, values_have}
+use Rattle.task_model.specs.Syntax.Literal.{basic_text, bool_text, hex_digit, escaped, escaped_all, value_text, rest_text}
+use Rattle.task_model.specs.Checking.TypeParts.{symbols_of}
+use Rattle.task_model.specs.Terms.Token.{TextPart, raw, letter, hex, part_spelling, PartIs, PartsAre, spelled, IsText, Escapes, quote, backslash, line_feed, tab, carriage_return, IsHex, IsDigit, AreDigits, number_from, SpellsNumber, hex_value}
 use Rattle.exact_reading.proofs.Sequences.{append_nil}
 use Rattle.literal_text.specs.Literals.{LiteralParse, literal, further, unit, bool, int, text, pair, empty, list, last, more, literal_bytes, value, IsWithinLiteralLimits, AreWithinLiteralLimits, levels_of, levels_in, IsLiteral, IsLiteralOf}
 use Rattle.literal_text.specs.Types as types
 use Rattle.literal_text.specs.Types.{IsTypeName}
-use Rattle.task_model.specs.Held.{IsHeld, AreHeld}
+use Rattle.task_model.specs.Terms.Held.{IsHeld, AreHeld}
 use Rattle.literal_text.proofs.CharacterLemmas.{order, is_only_scalar, narrow_shape, shape_of}
 use Rattle.literal_text.proofs.FitLemmas.{both_true}
 

@@ -2,9 +2,9 @@
 use Rattle.std.proofs.Common.{◌≡◌, ℕ, suc, ◌≤◌, true, false, ◌==◌, Option, None, Some, [], ◌∷◌, ◌++◌, length, Result, Ok, Err, refl, sym, ap, ◌∙◌, subst, arith}
 use Rattle.std.specs.Prelude.{IfErr}
 use Rattle.std.proofs.lemmas.Bool.Decides.{nat_tests}
-use Rattle.task_model.specs.Text.{Text}
-use Rattle.task_model.specs.Basic.{BasicTerm}
-use Rattle.task_model.specs.Value.{ValueTerm}
+use Rattle.task_model.specs.Terms.Text.{Text}
+use Rattle.task_model.specs.Terms.Basic.{BasicTerm}
+use Rattle.task_model.specs.Terms.Value.{ValueTerm}
 use Rattle.exact_reading.specs.declared.stop.FaultKind.TheVariants.{Unexpected}
 use Rattle.exact_reading.specs.Reading.{Language, IsViablePrefix, Always, Answer, Right}
 use Rattle.exact_reading.specs.Whole.{IsFirstFault, IsFault}
@@ -17,7 +17,7 @@ use Rattle.literal_text.specs.Literals.{spaces, IsLiteral, IsLiteralOf}
 use Rattle.literal_text.specs.Types.{IsTypeName}
 use Rattle.literal_text.specs.Types as types
 use Rattle.literal_text.specs.LiteralPlaces.{IsStopAt}
-use Rattle.task_model.specs.TypeParts.{symbols_of}
+use Rattle.task_model.specs.Checking.TypeParts.{symbols_of}
 use Rattle.literal_text.specs.LiteralReading.{NoBlank, Ends, Gap, Lit, Whole, TypeName, fewest}
 use Rattle.literal_text.proofs.WordLemmas.{gap_right}
 use Rattle.literal_text.proofs.FitLemmas.{least_lit, fewest_least}

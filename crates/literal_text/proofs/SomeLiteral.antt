@@ -1,10 +1,10 @@
 -- Some literal of each type, and some name of a type.
 use Rattle.std.proofs.Common.{◌≤◌, Option, None, Some, [], refl, arith}
 use Rattle.std.specs.Prelude.{codes}
-use Rattle.task_model.specs.Text.{Text}
-use Rattle.task_model.specs.Basic.{BasicTerm, unit_type, bool_type, int_type, text_type, pair_type, list_type}
-use Rattle.task_model.specs.Value.{ValueTerm}
-use Rattle.task_model.specs.TypeParts.{symbols_of}
+use Rattle.task_model.specs.Terms.Text.{Text}
+use Rattle.task_model.specs.Terms.Basic.{BasicTerm, unit_type, bool_type, int_type, text_type, pair_type, list_type}
+use Rattle.task_model.specs.Terms.Value.{ValueTerm}
+use Rattle.task_model.specs.Checking.TypeParts.{symbols_of}
 use Rattle.exact_reading.specs.Reading.{IsViablePrefix, Always}
 use Rattle.literal_text.specs.Literals.{IsLiteral, IsLiteralOf}
 use Rattle.literal_text.specs.Types as types

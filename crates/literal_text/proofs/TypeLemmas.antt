@@ -1,9 +1,9 @@
 -- Names of types.
 use Rattle.std.proofs.Common.{◌≡◌, ◌≢◌, ℕ, suc, ◌+◌, ◌-◌, ◌<◌, ◌≤◌, [], ◌∷◌, ◌++◌, length, Ok, Err, refl, sym, ap, ◌∙◌, subst, arith, append_assoc}
 use Rattle.std.specs.Prelude.{codes}
-use Rattle.task_model.specs.Text.{Text}
-use Rattle.task_model.specs.Basic.{BasicTerm, unit_type, bool_type, int_type, text_type, pair_type, list_type}
-use Rattle.task_model.specs.TypeParts.{symbols_of}
+use Rattle.task_model.specs.Terms.Text.{Text}
+use Rattle.task_model.specs.Terms.Basic.{BasicTerm, unit_type, bool_type, int_type, text_type, pair_type, list_type}
+use Rattle.task_model.specs.Checking.TypeParts.{symbols_of}
 use Rattle.exact_reading.specs.declared.stop.ParseStop.{ParseStop}
 use Rattle.exact_reading.specs.declared.stop.ParseStop.TheVariants.{Fault}
 use Rattle.exact_reading.specs.declared.stop.FaultKind.TheVariants.{Unexpected}

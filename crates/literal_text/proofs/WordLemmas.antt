@@ -1,6 +1,6 @@
 -- Words, brackets and the spaces behind them.
 use Rattle.std.proofs.Common.{◌≡◌, ℕ, zero, suc, [], ◌∷◌, ◌++◌, Ok, Err, refl, sym, ap, ◌∙◌}
-use Rattle.task_model.specs.Text.{Text}
+use Rattle.task_model.specs.Terms.Text.{Text}
 use Rattle.exact_reading.specs.declared.stop.ParseStop.{ParseStop}
 use Rattle.exact_reading.specs.Reading.{SharesPrefix, IsViablePrefix, Always, Answer, Right, Run, Anything}
 use Rattle.exact_reading.proofs.Sequences.{Bind, append_nil}

@@ -1,6 +1,6 @@
 -- Where bytes stop being a literal.
 use Rattle.std.specs.Prelude.{ℕ}
-use Rattle.task_model.specs.Text.{Text}
+use Rattle.task_model.specs.Terms.Text.{Text}
 use Rattle.exact_reading.specs.declared.stop.FaultKind.TheVariants.{Unexpected}
 use Rattle.exact_reading.specs.Reading.{Language, Always}
 use Rattle.exact_reading.specs.Whole.{IsFirstFault}

@@ -1,11 +1,11 @@
 -- What the functions inside read: each a language, with the limits that hold where it stands.
 use Rattle.std.specs.Prelude.{◌≡◌, ◌≢◌, ℕ, ◌+◌, ◌*◌, ◌<◌, ◌≤◌, nat_lt, if◌then◌else◌, suc, max, Option, None, Some, Bool, true, false, ◌⊎◌, List, [], ◌∷◌, ◌++◌, length}
-use Rattle.task_model.specs.Text.{Text}
-use Rattle.task_model.specs.Basic.{BasicTerm, unit_type, bool_type, int_type, text_type, pair_type, list_type, basic_term}
-use Rattle.task_model.specs.Value.{ValueTerm, unit_value, bool_value, int_value, text_value, pair_value, list_value, no_values, as_values, value_has}
-use Rattle.task_model.specs.Literal.{bool_text}
-use Rattle.task_model.specs.TypeParts.{symbols_of}
-use Rattle.task_model.specs.Token.{TextPart, raw, part_spelling, PartIs, PartsAre, spelled, IsText, IsDigit, AreDigits, number_from, SpellsNumber, IsHex, hex_value}
+use Rattle.task_model.specs.Terms.Text.{Text}
+use Rattle.task_model.specs.Terms.Basic.{BasicTerm, unit_type, bool_type, int_type, text_type, pair_type, list_type, basic_term}
+use Rattle.task_model.specs.Terms.Value.{ValueTerm, unit_value, bool_value, int_value, text_value, pair_value, list_value, no_values, as_values, value_has}
+use Rattle.task_model.specs.Syntax.Literal.{bool_text}
+use Rattle.task_model.specs.Checking.TypeParts.{symbols_of}
+use Rattle.task_model.specs.Terms.Token.{TextPart, raw, part_spelling, PartIs, PartsAre, spelled, IsText, IsDigit, AreDigits, number_from, SpellsNumber, IsHex, hex_value}
 use Rattle.exact_reading.specs.Reading.{NoToken}
 use Rattle.literal_text.specs.Literals.{LiteralParse, literal, further, literal_bytes, value, spaces, minus_text, signed, IsWithinLiteralLimits, levels_of}
 use Rattle.literal_text.specs.Types as types

@@ -1,11 +1,11 @@
 -- Which literal_bytes are a literal, and of which value (docs/FORMATS.md, "Literals").
 use Rattle.std.specs.Prelude.{◌≡◌, ℕ, ℤ, pos, negsuc, zero, suc, ◌≤◌, max, Bool, true, false, List, [], ◌∷◌, ◌++◌, length, replicate, FitsSigned}
 use Rattle.std.specs.Int.{w64}
-use Rattle.task_model.specs.Text.{Text}
-use Rattle.task_model.specs.Basic.{BasicTerm}
-use Rattle.task_model.specs.Value.{ValueTerm, unit_value, bool_value, int_value, text_value, pair_value, list_value, ValueTerms, no_values, more_values, as_values, count_of, value_has}
-use Rattle.task_model.specs.Literal.{bool_text}
-use Rattle.task_model.specs.Token.{SpellsNumber, IsText}
+use Rattle.task_model.specs.Terms.Text.{Text}
+use Rattle.task_model.specs.Terms.Basic.{BasicTerm}
+use Rattle.task_model.specs.Terms.Value.{ValueTerm, unit_value, bool_value, int_value, text_value, pair_value, list_value, ValueTerms, no_values, more_values, as_values, count_of, value_has}
+use Rattle.task_model.specs.Syntax.Literal.{bool_text}
+use Rattle.task_model.specs.Terms.Token.{SpellsNumber, IsText}
 
 abbrev pub spaces : ℕ → Text
 spaces n = replicate n 32

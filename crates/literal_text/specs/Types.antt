@@ -1,8 +1,8 @@
 -- Which type_bytes are the name of a type (docs/FORMATS.md, "Types").
 use Rattle.std.specs.Prelude.{◌≡◌, ℕ, ◌≤◌, ◌∷◌, ◌++◌, codes}
-use Rattle.task_model.specs.Text.{Text}
-use Rattle.task_model.specs.Basic.{BasicTerm, unit_type, bool_type, int_type, text_type, pair_type, list_type}
-use Rattle.task_model.specs.TypeParts.{symbols_of}
+use Rattle.task_model.specs.Terms.Text.{Text}
+use Rattle.task_model.specs.Terms.Basic.{BasicTerm, unit_type, bool_type, int_type, text_type, pair_type, list_type}
+use Rattle.task_model.specs.Checking.TypeParts.{symbols_of}
 use Rattle.literal_text.specs.Literals.{spaces}
 
 -- One case for each production. A number says how many spaces stand behind a token.

@@ -1,7 +1,7 @@
 ghost use Rattle.std.specs.Prelude.{◌≡◌, ◌≤◌, ◌∷◌, ◌-◌, ℕ, true, MatchOption};
 ghost use Rattle.exact_reading.specs.Reading.{Right, seen, Always};
-ghost use Rattle.task_model.specs.Token.{IsDigit};
-ghost use Rattle.task_model.specs.Value.{value_term};
+ghost use Rattle.task_model.specs.Terms.Token.{IsDigit};
+ghost use Rattle.task_model.specs.Terms.Value.{value_term};
 ghost use Rattle.literal_text.specs.Literals.{signed};
 ghost use Rattle.literal_text.specs.LiteralReading.{IntLiteral, Number, NoDigit, Ends, most};
 

@@ -1,6 +1,6 @@
 ghost use Rattle.std.specs.Prelude.{◌≤◌, []};
-ghost use Rattle.task_model.specs.Basic.{BasicTerm};
-ghost use Rattle.task_model.specs.TypeParts.{symbols_of};
+ghost use Rattle.task_model.specs.Terms.Basic.{BasicTerm};
+ghost use Rattle.task_model.specs.Checking.TypeParts.{symbols_of};
 ghost use Rattle.exact_reading.specs.Reading.{IsViablePrefix, Always};
 ghost use Rattle.literal_text.specs.Literals.{IsLiteral, IsLiteralOf};
 ghost use Rattle.literal_text.specs.Types.{IsTypeName};

@@ -1,11 +1,11 @@
 ghost use Rattle.std.specs.Prelude.{◌≡◌, ◌≤◌, ◌<◌, ◌/◌, ◌%◌, [], ◌∷◌, ◌++◌, IfOk, OnOk, string_bytes, encode_utf8, codes, map, true, if◌then◌else◌};
-ghost use Rattle.task_model.specs.Basic.{BasicTerm, basic_term};
-ghost use Rattle.task_model.specs.Value.{value_term, value_has, list_value, as_values};
-ghost use Rattle.task_model.specs.Literal.{basic_text, value_text, escaped_all, hex_digit};
-ghost use Rattle.task_model.specs.TypeParts.{symbols_of};
+ghost use Rattle.task_model.specs.Terms.Basic.{BasicTerm, basic_term};
+ghost use Rattle.task_model.specs.Terms.Value.{value_term, value_has, list_value, as_values};
+ghost use Rattle.task_model.specs.Syntax.Literal.{basic_text, value_text, escaped_all, hex_digit};
+ghost use Rattle.task_model.specs.Checking.TypeParts.{symbols_of};
 ghost use Rattle.literal_text.specs.Literals.{IsLiteral, IsLiteralOf, IsWithinLiteralLimits, levels_of};
 ghost use Rattle.literal_text.specs.Types.{IsTypeName};
-ghost use Rattle.task_model.specs.Held.{IsHeld, AreHeld};
+ghost use Rattle.task_model.specs.Terms.Held.{IsHeld, AreHeld};
 
 use itoa::Buffer;
 use std::alloc::Global;

@@ -1,8 +1,8 @@
 ghost use Rattle.std.specs.Prelude.{◌≡◌, ◌≤◌, ◌+◌, ℕ, length, IfOk, IfErr, MatchResult};
 ghost use Rattle.exact_reading.specs.Reading.{Always};
-ghost use Rattle.task_model.specs.Basic.{BasicTerm, basic_term};
-ghost use Rattle.task_model.specs.Value.{ValueTerm, value_term};
-ghost use Rattle.task_model.specs.TypeParts.{symbols_of};
+ghost use Rattle.task_model.specs.Terms.Basic.{BasicTerm, basic_term};
+ghost use Rattle.task_model.specs.Terms.Value.{ValueTerm, value_term};
+ghost use Rattle.task_model.specs.Checking.TypeParts.{symbols_of};
 ghost use Rattle.literal_text.specs.Literals.{IsLiteral, IsLiteralOf};
 ghost use Rattle.literal_text.specs.Types.{IsTypeName};
 ghost use Rattle.literal_text.specs.LiteralPlaces.{IsStopAt};

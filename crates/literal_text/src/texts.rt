@@ -2,8 +2,8 @@ ghost use Rattle.std.specs.Prelude.{◌≡◌, ◌≤◌, ◌∷◌, [], ◌<◌
 ghost use Rattle.std.specs.Char.{IsScalar};
 ghost use Rattle.std.specs.Str.Lossy.{second_byte_min, second_byte_max};
 ghost use Rattle.exact_reading.specs.Reading.{Right, seen, Always, Anything};
-ghost use Rattle.task_model.specs.Token.{Escapes};
-ghost use Rattle.task_model.specs.Value.{value_term};
+ghost use Rattle.task_model.specs.Terms.Token.{Escapes};
+ghost use Rattle.task_model.specs.Terms.Value.{value_term};
 ghost use Rattle.literal_text.specs.LiteralReading.{TextLiteral, Content, Part, Wide, WideEnd, Escape, HexEnd, HexDigit, InRange, NoBlank, width_of, IsRawByte};
 
 use exact_reading::{ParseStop, expect, next, skip, strip, unexpected};

@@ -1,6 +1,6 @@
 ghost use Rattle.std.specs.Prelude.{◌≡◌, ◌≤◌, MatchOption};
 ghost use Rattle.exact_reading.specs.Reading.{Right, seen, Always, NoToken};
-ghost use Rattle.task_model.specs.Basic.{basic_term};
+ghost use Rattle.task_model.specs.Terms.Basic.{basic_term};
 ghost use Rattle.literal_text.specs.LiteralReading.{TypeName, ListName, PairName, NoBlank};
 
 use crate::words::{begins, word};

@@ -1,7 +1,7 @@
 ghost use Rattle.std.specs.Prelude.{◌≤◌, None, Some};
 ghost use Rattle.exact_reading.specs.Reading.{Right, seen, Always};
-ghost use Rattle.task_model.specs.Basic.{basic_term};
-ghost use Rattle.task_model.specs.Value.{value_term};
+ghost use Rattle.task_model.specs.Terms.Basic.{basic_term};
+ghost use Rattle.task_model.specs.Terms.Value.{value_term};
 ghost use Rattle.literal_text.specs.LiteralReading.{Lit, ListLiteral, NoElements, Elements, UnitLiteral, UnitEnd, PairEnd, BoolLiteral, NoBlank, Ends, want_of, fewest, fewest_levels};
 
 use crate::ints::int;

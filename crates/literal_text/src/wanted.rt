@@ -1,6 +1,6 @@
 ghost use Rattle.std.specs.Prelude.{◌≤◌, ◌↔◌, IsTrue};
 ghost use Rattle.literal_text.specs.LiteralReading.{want_of, fewest, fewest_levels};
-ghost use Rattle.task_model.specs.Basic.{basic_term};
+ghost use Rattle.task_model.specs.Terms.Basic.{basic_term};
 
 use task_model::Basic;
 

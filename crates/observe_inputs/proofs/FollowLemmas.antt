@@ -1,11 +1,11 @@
 -- What a walk through a tree finds, by the form of the tree.
 use Rattle.std.proofs.Common.{◌≡◌, ℕ, List, [], ◌∷◌, ◌++◌, map, refl, sym, ap, ◌∙◌, subst, append_assoc}
-use Rattle.task_model.specs.Value.{ValueTerm}
-use Rattle.task_model.specs.Tree.{LaterTerm, TreeTerm, next_tree, xor_tree}
-use Rattle.task_model.specs.Checked.{CheckedTerm}
-use Rattle.task_model.specs.Rules.{value_of}
-use Rattle.task_model.specs.Sign.{IsSideSign, IsStepSign}
-use Rattle.task_model.specs.Offer.{next_offer, left_offer, right_offer, OfferTerm, offered, both_offers, AreOffers}
+use Rattle.task_model.specs.Terms.Value.{ValueTerm}
+use Rattle.task_model.specs.Terms.Tree.{LaterTerm, TreeTerm, next_tree, xor_tree}
+use Rattle.task_model.specs.Running.Checked.{CheckedTerm}
+use Rattle.task_model.specs.Running.Rules.{value_of}
+use Rattle.task_model.specs.Running.Sign.{IsSideSign, IsStepSign}
+use Rattle.task_model.specs.Running.Offer.{next_offer, left_offer, right_offer, OfferTerm, offered, both_offers, AreOffers}
 use Rattle.task_model.specs.declared.input.Turn.{Turn}
 use Rattle.task_model.specs.declared.input.Turn.TheVariants as turns
 use Rattle.task_model.specs.declared.widget.Sign.{Sign}

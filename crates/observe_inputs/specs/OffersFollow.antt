@@ -1,9 +1,9 @@
 -- What a walk through a tree adds to the offers (docs/RULES.md, "Offers").
 use Rattle.std.specs.Prelude.{◌≡◌, ℕ, List, ◌++◌, map}
-use Rattle.task_model.specs.Value.{ValueTerm}
-use Rattle.task_model.specs.Tree.{TreeTerm}
-use Rattle.task_model.specs.Checked.{CheckedTerm}
-use Rattle.task_model.specs.Offer.{OfferTerm, AreOffers}
+use Rattle.task_model.specs.Terms.Value.{ValueTerm}
+use Rattle.task_model.specs.Terms.Tree.{TreeTerm}
+use Rattle.task_model.specs.Running.Checked.{CheckedTerm}
+use Rattle.task_model.specs.Running.Offer.{OfferTerm, AreOffers}
 use Rattle.task_model.specs.declared.input.Turn.{Turn}
 use Rattle.tree_trail.specs.Below.{offer_below}
 

@@ -1,8 +1,8 @@
 -- How many tests are made for a tree's offers (docs/RULES.md, "Offers").
 use Rattle.std.specs.Prelude.{ℕ, ◌+◌, List, Option, None, Some}
-use Rattle.task_model.specs.Value.{ValueTerm}
-use Rattle.task_model.specs.Tree.{TreeTerm, then_tree, next_tree, and_tree, or_tree, xor_tree}
-use Rattle.task_model.specs.Rules.{value_of}
+use Rattle.task_model.specs.Terms.Value.{ValueTerm}
+use Rattle.task_model.specs.Terms.Tree.{TreeTerm, then_tree, next_tree, and_tree, or_tree, xor_tree}
+use Rattle.task_model.specs.Running.Rules.{value_of}
 
 -- one test where the left part of a user step has a value
 abbrev pub step_tests : Option ValueTerm → ℕ

@@ -1,5 +1,5 @@
 ghost use Rattle.std.specs.Prelude.{◌≡◌, [], ◌++◌, map, OnOk};
-ghost use Rattle.task_model.specs.Offer.{offered, offer_kind_term, offer_term};
+ghost use Rattle.task_model.specs.Running.Offer.{offered, offer_kind_term, offer_term};
 ghost use Rattle.tree_trail.specs.Below.{offer_below};
 
 use std::alloc::Global;

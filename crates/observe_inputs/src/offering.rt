@@ -1,9 +1,9 @@
 ghost use Rattle.std.specs.Prelude.{◌≡◌, ◌+◌, [], ◌∷◌, ◌++◌, map, IfOk, OnOk};
-ghost use Rattle.task_model.specs.Value.{value_term};
-ghost use Rattle.task_model.specs.Tree.{xor_tree, delay_term, tree_term, at};
-ghost use Rattle.task_model.specs.Checked.{checked_term};
-ghost use Rattle.task_model.specs.Fits.{Fits};
-ghost use Rattle.task_model.specs.Offer.{offer_term, AreOffers};
+ghost use Rattle.task_model.specs.Terms.Value.{value_term};
+ghost use Rattle.task_model.specs.Terms.Tree.{xor_tree, delay_term, tree_term, at};
+ghost use Rattle.task_model.specs.Running.Checked.{checked_term};
+ghost use Rattle.task_model.specs.Checking.Fits.{Fits};
+ghost use Rattle.task_model.specs.Running.Offer.{offer_term, AreOffers};
 ghost use Rattle.observe_inputs.specs.TestsIn.{tests_in};
 ghost use Rattle.observe_inputs.specs.OffersFollow.{OffersFollow};
 

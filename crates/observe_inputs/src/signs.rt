@@ -1,10 +1,10 @@
 ghost use Rattle.std.specs.Prelude.{◌≡◌, ◌+◌, map, IfOk, OnOk};
-ghost use Rattle.task_model.specs.Value.{value_term};
-ghost use Rattle.task_model.specs.Tree.{next_tree, cont_term, tree_term, at};
-ghost use Rattle.task_model.specs.Checked.{checked_term};
-ghost use Rattle.task_model.specs.Fits.{Fits};
-ghost use Rattle.task_model.specs.Rules.{value_of};
-ghost use Rattle.task_model.specs.Sign.{IsStepSign};
+ghost use Rattle.task_model.specs.Terms.Value.{value_term};
+ghost use Rattle.task_model.specs.Terms.Tree.{next_tree, cont_term, tree_term, at};
+ghost use Rattle.task_model.specs.Running.Checked.{checked_term};
+ghost use Rattle.task_model.specs.Checking.Fits.{Fits};
+ghost use Rattle.task_model.specs.Running.Rules.{value_of};
+ghost use Rattle.task_model.specs.Running.Sign.{IsStepSign};
 ghost use Rattle.observe_inputs.specs.TestsIn.{step_tests};
 
 use shared_store::Store;

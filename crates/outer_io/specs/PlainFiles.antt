@@ -1,7 +1,7 @@
 -- What files in memory hold.
 use Rattle.std.specs.Prelude.{ℕ, List, [], ◌∷◌, Option, None, Some, nat_eq, if◌then◌else◌}
 use Rattle.std.specs.Cmp.Lexicographic.{pointwise}
-use Rattle.task_model.specs.Rowed.{Rowed}
+use Rattle.task_model.specs.Terms.Rowed.{Rowed}
 use Rattle.outer_io.specs.declared.plain_files.PlainFiles.{PlainFiles}
 
 -- what the first of these names that is `name` holds

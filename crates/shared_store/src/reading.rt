@@ -1,5 +1,5 @@
 ghost use Rattle.std.specs.Prelude.{map};
-ghost use Rattle.task_model.specs.Value.{value_term};
+ghost use Rattle.task_model.specs.Terms.Value.{value_term};
 
 use crate::store::Store;
 use task_model::{Reads, Value};

@@ -3,18 +3,18 @@ use Rattle.std.proofs.Common.{◌≡◌, ℕ, ◌-◌, ◌<◌, ◌≤◌, List,
 use Rattle.std.proofs.Common.{length-drop}
 use Rattle.std.proofs.lemmas.List.{length-append, length-map}
 use Rattle.std.proofs.lemmas.Option.{slice_get_within}
-use Rattle.task_model.specs.Text.{Text}
-use Rattle.task_model.specs.Basic.{BasicTerm}
-use Rattle.task_model.specs.Value.{ValueTerm}
-use Rattle.task_model.specs.Env.{SlotTerm, plain_slot, place_slot, EnvTerm}
-use Rattle.task_model.specs.Host.{HostTerm}
-use Rattle.task_model.specs.Task.{TaskTerm, put_task}
-use Rattle.task_model.specs.Program.{ParamTerm, ref_kind}
-use Rattle.task_model.specs.Checked.{CheckedTerm, nodes_of, slot_of}
-use Rattle.task_model.specs.Accepted.{IsAccepted}
-use Rattle.task_model.specs.Plan.{evaluates}
-use Rattle.task_model.specs.Rules.{evaluate_rule}
-use Rattle.task_model.specs.Fits.{SlotsHave, StoreHas}
+use Rattle.task_model.specs.Terms.Text.{Text}
+use Rattle.task_model.specs.Terms.Basic.{BasicTerm}
+use Rattle.task_model.specs.Terms.Value.{ValueTerm}
+use Rattle.task_model.specs.Terms.Env.{SlotTerm, plain_slot, place_slot, EnvTerm}
+use Rattle.task_model.specs.Terms.Host.{HostTerm}
+use Rattle.task_model.specs.Terms.Task.{TaskTerm, put_task}
+use Rattle.task_model.specs.Terms.Program.{ParamTerm, ref_kind}
+use Rattle.task_model.specs.Running.Checked.{CheckedTerm, nodes_of, slot_of}
+use Rattle.task_model.specs.Checking.Accepted.{IsAccepted}
+use Rattle.task_model.specs.Running.Plan.{evaluates}
+use Rattle.task_model.specs.Running.Rules.{evaluate_rule}
+use Rattle.task_model.specs.Checking.Fits.{SlotsHave, StoreHas}
 use Rattle.typing_laws.specs.Well.{MayAsk, Well}
 use Rattle.typing_laws.proofs.CallLemmas.{well_rule}
 use Rattle.typing_laws.proofs.FitLemmas.{Matches, slot_found}
@@ -34,7 +34,7 @@ module _ {c : CheckedTerm} {env : EnvTerm} {σ : List ValueTerm} where
   -- so many nodes stand in the program from its first one on
   pub within_types : (t : TaskTerm) → MayAsk c (evaluates t env σ) → nodes_of c.program t ≤ length c.types - env.first
   within_types t m =
-      let fits = m.supposed in
+      let fits = m.assumed in
       let many = types_are c.program fits.scope t env.names fits.stands.placed in
       let lists = ap length fits.fits.lists ∙ length-append _ fits.fits.behind in
       let left = length-drop env.first c.types in
@@ -49,7 +49,7 @@ slots_paired Σ (s ∷ ss) [] h = absurd h
 -- there are as many slots as names
 pub task_paired : {c : CheckedTerm} {t : TaskTerm} {env : EnvTerm} {σ : List ValueTerm} → MayAsk c (evaluates t env σ) → IsPaired env
 task_paired {env = env} m =
-    let fits = m.supposed in
+    let fits = m.assumed in
     ap length fits.names.names ∙ length-map fits.scope (λ q. q.name)
     ∙ slots_paired m.typing.places env.slots fits.scope fits.names.slots
 
@@ -73,7 +73,7 @@ place_within Σ σ b n (Some (place_slot m)) s h e =
 pub put_within : {c : CheckedTerm} {env : EnvTerm} {σ : List ValueTerm} (x : Text) (e : HostTerm) (t : TaskTerm) (n : ℕ)
     → MayAsk c (evaluates (put_task x e t) env σ) → place_named env x ≡ Some n → n < length σ
 put_within {env = env} {σ = σ} x e t n m is =
-    let fits = m.supposed in
+    let fits = m.assumed in
     let typed = fits.fits.typed in
     place_within m.typing.places σ typed.0 n (slot_of env x) fits.store
     (slot_found m.typing.places env fits.scope x (ref_kind typed.0) fits.names typed.1) is

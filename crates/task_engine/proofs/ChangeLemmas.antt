@@ -4,7 +4,7 @@ use Rattle.std.specs.Prelude.{slice_get, slice_set, ◌==◌}
 use Rattle.std.specs.Option.{option_map}
 use Rattle.std.proofs.lemmas.List.{length-map}
 use Rattle.std.proofs.lemmas.Bool.Decides.{nat_tests}
-use Rattle.task_model.specs.Value.{ValueTerm, value_term}
+use Rattle.task_model.specs.Terms.Value.{ValueTerm, value_term}
 use Rattle.task_model.specs.declared.value.Value.{Value}
 use Rattle.shared_store.specs.declared.store.Overwritten.{Overwritten}
 use Rattle.shared_store.specs.Log.{rewound}

@@ -1,10 +1,10 @@
 -- What fits where a user step stops at the value of its left, and at the sides of a choice.
 use Rattle.std.proofs.Common.{◌≡◌, List, Some}
-use Rattle.task_model.specs.Value.{ValueTerm}
-use Rattle.task_model.specs.Tree.{LaterTerm, TreeTerm, next_tree, xor_tree, at}
-use Rattle.task_model.specs.Checked.{CheckedTerm}
-use Rattle.task_model.specs.Rules.{value_of}
-use Rattle.task_model.specs.Fits.{Fits}
+use Rattle.task_model.specs.Terms.Value.{ValueTerm}
+use Rattle.task_model.specs.Terms.Tree.{LaterTerm, TreeTerm, next_tree, xor_tree, at}
+use Rattle.task_model.specs.Running.Checked.{CheckedTerm}
+use Rattle.task_model.specs.Running.Rules.{value_of}
+use Rattle.task_model.specs.Checking.Fits.{Fits}
 use Rattle.typing_laws.proofs.TreeLemmas.{value_typed}
 use Rattle.task_engine.specs.Fitting.{ContFits, SideFits}
 

@@ -2,19 +2,19 @@
 use Rattle.std.proofs.Common.{◌≡◌, ℕ, ◌+◌, List, Option, Some, None, Result, Ok, refl, sym, ap, ◌∙◌, subst}
 use Rattle.std.specs.Option.{option_map}
 use Rattle.std.specs.Prelude.{slice_get}
-use Rattle.task_model.specs.Left.{Left}
-use Rattle.task_model.specs.Text.{Text}
-use Rattle.task_model.specs.Value.{ValueTerm}
-use Rattle.task_model.specs.Env.{EnvTerm}
-use Rattle.task_model.specs.Host.{HostTerm}
-use Rattle.task_model.specs.Task.{TaskTerm, share, call_task}
-use Rattle.task_model.specs.Tree.{TreeTerm, share_tree, tree_term, State, at}
+use Rattle.task_model.specs.Terms.Left.{Left}
+use Rattle.task_model.specs.Terms.Text.{Text}
+use Rattle.task_model.specs.Terms.Value.{ValueTerm}
+use Rattle.task_model.specs.Terms.Env.{EnvTerm}
+use Rattle.task_model.specs.Terms.Host.{HostTerm}
+use Rattle.task_model.specs.Terms.Task.{TaskTerm, share, call_task}
+use Rattle.task_model.specs.Terms.Tree.{TreeTerm, share_tree, tree_term, State, at}
 use Rattle.task_model.specs.declared.tree.Tree as tree
-use Rattle.task_model.specs.Program.{ProgramTerm}
-use Rattle.task_model.specs.Checked.{CheckedTerm, Callee, task_named, nodes_of}
-use Rattle.task_model.specs.Plan.{evaluates, Plan, give, ask, known}
-use Rattle.task_model.specs.Rules.{evaluate_rule, later, later_by}
-use Rattle.task_model.specs.Calls.{RunsJudgement, RunsPlan}
+use Rattle.task_model.specs.Terms.Program.{ProgramTerm}
+use Rattle.task_model.specs.Running.Checked.{CheckedTerm, Callee, task_named, nodes_of}
+use Rattle.task_model.specs.Running.Plan.{evaluates, Plan, give, ask, known}
+use Rattle.task_model.specs.Running.Rules.{evaluate_rule, later, later_by}
+use Rattle.task_model.specs.Syntax.Calls.{RunsJudgement, RunsPlan}
 use Rattle.task_model.specs.declared.purse.Stop.{Stop}
 use Rattle.task_model.proofs.RanLemmas.{ran_give}
 use Rattle.typing_laws.specs.Well.{Well}

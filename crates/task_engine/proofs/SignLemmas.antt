@@ -1,13 +1,13 @@
 -- What the callers of trials and of tests are told.
 use Rattle.std.proofs.Common.{◌≡◌, ℕ, Bool, true, false, Result, Ok, Err, IfOk, subst, sym, arith}
-use Rattle.task_model.specs.Left.{Left}
-use Rattle.task_model.specs.Spends.{Spends}
-use Rattle.task_model.specs.Checked.{CheckedTerm}
-use Rattle.task_model.specs.Plan.{Plan, plan_work, derives_at, Derives}
-use Rattle.task_model.specs.Rules.{rule_of}
-use Rattle.task_model.specs.Judgements.{IsWithinBudget}
-use Rattle.task_model.specs.Sign.{IsSign, Test}
-use Rattle.task_model.specs.Calls.{RunsPlan}
+use Rattle.task_model.specs.Terms.Left.{Left}
+use Rattle.task_model.specs.Running.Spends.{Spends}
+use Rattle.task_model.specs.Running.Checked.{CheckedTerm}
+use Rattle.task_model.specs.Running.Plan.{Plan, plan_work, derives_at, Derives}
+use Rattle.task_model.specs.Running.Rules.{rule_of}
+use Rattle.task_model.specs.Running.Judgements.{IsWithinBudget}
+use Rattle.task_model.specs.Running.Sign.{IsSign, Test}
+use Rattle.task_model.specs.Syntax.Calls.{RunsPlan}
 use Rattle.task_model.specs.declared.purse.Stop.{Stop}
 use Rattle.task_model.specs.declared.purse.Stop.TheVariants.{Over, Memory}
 use Rattle.task_model.specs.declared.memory.OutOfMemory.{OutOfMemory}

@@ -1,10 +1,10 @@
 -- Where bodies begin, by the table.
 use Rattle.std.proofs.Common.{◌≡◌, ℕ, zero, suc, ◌<◌, List, [], ◌∷◌, length, get_or, Some, refl, sym, ap, ◌∙◌, arith}
 use Rattle.std.specs.Prelude.{slice_get, IsSome}
-use Rattle.task_model.specs.Program.{ProgramTerm}
-use Rattle.task_model.specs.Checked.{body_first}
-use Rattle.task_model.specs.Placed.{firsts_of}
-use Rattle.task_model.specs.Written.{IsWritten}
+use Rattle.task_model.specs.Terms.Program.{ProgramTerm}
+use Rattle.task_model.specs.Running.Checked.{body_first}
+use Rattle.task_model.specs.Checking.Placed.{firsts_of}
+use Rattle.task_model.specs.Syntax.Written.{IsWritten}
 use Rattle.task_laws.proofs.TableLemmas.{nodes_before, entries}
 
 some_within : {X : Type 0} (xs : List X) (i : ℕ) → IsSome (slice_get xs i) → i < length xs

@@ -3,22 +3,22 @@ use Rattle.std.proofs.Common.{◌≡◌, inl, inr, ℕ, Bool, true, false, List,
 use Rattle.std.specs.Prelude.{IfSome}
 use Rattle.std.specs.Option.{is_some}
 use Rattle.std.specs.Prelude.{slice_get, IsSome}
-use Rattle.task_model.specs.Left.{Left}
-use Rattle.task_model.specs.Text.{Text}
-use Rattle.task_model.specs.Basic.{BasicTerm}
-use Rattle.task_model.specs.Value.{ValueTerm, value_term}
+use Rattle.task_model.specs.Terms.Left.{Left}
+use Rattle.task_model.specs.Terms.Text.{Text}
+use Rattle.task_model.specs.Terms.Basic.{BasicTerm}
+use Rattle.task_model.specs.Terms.Value.{ValueTerm, value_term}
 use Rattle.task_model.specs.declared.value.Value.{Value}
 use Rattle.task_model.specs.declared.purse.Stop.TheVariants.{Over, Memory}
-use Rattle.task_model.specs.Env.{SlotTerm, EnvTerm, plain_slot}
-use Rattle.task_model.specs.Task.{BodyTerm}
-use Rattle.task_model.specs.Program.{ParamTerm}
-use Rattle.task_model.specs.Tree.{LaterTerm, TreeTerm, then_tree, xor_tree, tree_term, State, at}
-use Rattle.task_model.specs.Checked.{CheckedTerm, body_first}
-use Rattle.task_model.specs.Accepted.{IsAccepted}
-use Rattle.task_model.specs.Plan.{fails, strides, evaluates, Plan, give, ask, after, known, stride_on, derives_at}
-use Rattle.task_model.specs.Rules.{bound, branch, side, trial, opened_env, applied, fired, value_of, with_value, fail_rule, stride_rule, rule_of}
-use Rattle.task_model.specs.Calls.{RunsJudgement, RunsPlan}
-use Rattle.task_model.specs.Fits.{BindsAs, LaterHas}
+use Rattle.task_model.specs.Terms.Env.{SlotTerm, EnvTerm, plain_slot}
+use Rattle.task_model.specs.Terms.Task.{BodyTerm}
+use Rattle.task_model.specs.Terms.Program.{ParamTerm}
+use Rattle.task_model.specs.Terms.Tree.{LaterTerm, TreeTerm, then_tree, xor_tree, tree_term, State, at}
+use Rattle.task_model.specs.Running.Checked.{CheckedTerm, body_first}
+use Rattle.task_model.specs.Checking.Accepted.{IsAccepted}
+use Rattle.task_model.specs.Running.Plan.{fails, strides, evaluates, Plan, give, ask, after, known, stride_on, derives_at}
+use Rattle.task_model.specs.Running.Rules.{bound, branch, side, trial, opened_env, applied, fired, value_of, with_value, fail_rule, stride_rule, rule_of}
+use Rattle.task_model.specs.Syntax.Calls.{RunsJudgement, RunsPlan}
+use Rattle.task_model.specs.Checking.Fits.{BindsAs, LaterHas}
 use Rattle.task_model.specs.declared.tree.Tree as tree
 use Rattle.task_model.specs.declared.purse.Stop.{Stop}
 use Rattle.shared_store.specs.Layered.{Layered}
@@ -49,8 +49,8 @@ module _ {c : CheckedTerm} {σ : List ValueTerm} where
 pub may_stride_on : {c : CheckedTerm} {s : State} {X : Type 0} {view : X → State} {old new : Left} {x : X} → IsAccepted c
     → MayAsk c (strides s) → RunsJudgement c (strides s) view old new (Ok x) → MayAsk c (strides (view x))
 may_stride_on {c = c} {s = s} {view = view} {old = old} {x = x} accepted m a =
-    let kept = derives_typed c accepted old.height m.typing (strides s) m.supposed (view x) a.runs.0 a.runs.1 a.runs.2 in
-    record { typing = record { places = kept.0; type = m.typing.type }; supposed = kept.2 }
+    let kept = derives_typed c accepted old.height m.typing (strides s) m.assumed (view x) a.runs.0 a.runs.1 a.runs.2 in
+    record { typing = record { places = kept.0; type = m.typing.type }; assumed = kept.2 }
 
 -- ---- what bodies bind
 binds_none : (s : List ParamTerm) (o : Option Text) (inner : List ParamTerm) → BindsAs s o None inner → o ≡ None
@@ -80,13 +80,13 @@ step_binds c Σ k a b accepted h d e =
 pub sides_bind : {c : CheckedTerm} {σ : List ValueTerm} (j k : LaterTerm) → IsAccepted c → MayAsk c (fails (at (xor_tree j k) σ))
     → BindsNone c j.body × BindsNone c k.body
 sides_bind {c = c} j k accepted m =
-    let has = m.supposed.tree in
+    let has = m.assumed.tree in
     (side_binds c m.typing.places j m.typing.type accepted has.0, side_binds c m.typing.places k m.typing.type accepted has.1)
 
 pub then_binds : {c : CheckedTerm} {σ : List ValueTerm} (t : TreeTerm) (k : LaterTerm) → IsAccepted c
     → MayAsk c (strides (at (then_tree t k) σ)) → Binds c k.body
 then_binds {c = c} t k accepted m =
-    let has = m.supposed.tree in
+    let has = m.assumed.tree in
     step_binds c m.typing.places k has.0 m.typing.type accepted has.2
 
 -- ---- environments of bodies
@@ -154,7 +154,7 @@ pub same_store : {A : Type 0} {a b : Layered A} → a.list ≡ b.list → a.laye
 same_store p q = λ i. record { list = p i; layers = q i }
 
 pub well_stride_on : {c : CheckedTerm} {A : Type 0} {s : State} {f : State → Plan A} → Well c (stride_on s f) → MayAsk c (strides s)
-well_stride_on w = record { typing = w.good.0; supposed = w.good.1 }
+well_stride_on w = record { typing = w.good.0; assumed = w.good.1 }
 
 -- ---- the end of a stride's layer
 pub asked_judged : {c : CheckedTerm} {s : State} {old new : Left} (t : TreeTerm) (σ τ τ' : List Value)

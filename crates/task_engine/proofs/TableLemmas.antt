@@ -1,10 +1,10 @@
 -- Tables that are made item by item.
 use Rattle.std.proofs.Common.{◌≡◌, ℕ, zero, suc, ◌+◌, ◌<◌, ◌≤◌, cond, List, [], ◌∷◌, length, drop, get_or, map, None, refl, sym, ap, ◌∙◌, arith, add-one, drop-cons}
 use Rattle.std.specs.Prelude.{slice_set}
-use Rattle.task_model.specs.Text.{Text, same_text}
-use Rattle.task_model.specs.Task.{body_term}
-use Rattle.task_model.specs.Program.{DefTerm, def_term, ProgramTerm}
-use Rattle.task_model.specs.Checked.{counts_from, nodes_in, what_nodes, def_in}
+use Rattle.task_model.specs.Terms.Text.{Text, same_text}
+use Rattle.task_model.specs.Terms.Task.{body_term}
+use Rattle.task_model.specs.Terms.Program.{DefTerm, def_term, ProgramTerm}
+use Rattle.task_model.specs.Running.Checked.{counts_from, nodes_in, what_nodes, def_in}
 use Rattle.task_model.specs.declared.task.Body.{Body}
 use Rattle.task_model.specs.declared.program.Def.{Def}
 use Rattle.host_eval.proofs.ListLemmas.{in_front, empty}

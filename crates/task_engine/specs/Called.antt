@@ -1,15 +1,15 @@
 -- Tasks that are called.
 use Rattle.std.specs.Prelude.{ℕ, List, [], map, Option}
-use Rattle.task_model.specs.Value.{ValueTerm}
-use Rattle.task_model.specs.Env.{EnvTerm}
-use Rattle.task_model.specs.Host.{HostTerm}
-use Rattle.task_model.specs.Task.{task_term}
-use Rattle.task_model.specs.Tree.{State}
-use Rattle.task_model.specs.Program.{param_term, DefTerm}
-use Rattle.task_model.specs.Checked as checked
-use Rattle.task_model.specs.Checked.{callee_of, param_names}
-use Rattle.task_model.specs.Plan.{evaluates, Plan, give, ask, unit, after}
-use Rattle.task_model.specs.Rules.{slots_for}
+use Rattle.task_model.specs.Terms.Value.{ValueTerm}
+use Rattle.task_model.specs.Terms.Env.{EnvTerm}
+use Rattle.task_model.specs.Terms.Host.{HostTerm}
+use Rattle.task_model.specs.Terms.Task.{task_term}
+use Rattle.task_model.specs.Terms.Tree.{State}
+use Rattle.task_model.specs.Terms.Program.{param_term, DefTerm}
+use Rattle.task_model.specs.Running.Checked as checked
+use Rattle.task_model.specs.Running.Checked.{callee_of, param_names}
+use Rattle.task_model.specs.Running.Plan.{evaluates, Plan, give, ask, unit, after}
+use Rattle.task_model.specs.Running.Rules.{slots_for}
 use Rattle.task_engine.specs.declared.callee.Callee.{Callee}
 
 abbrev pub seen_callee : Callee → checked.Callee

@@ -1,10 +1,10 @@
 -- What may be applied and tested (docs/RULES.md, "Programs").
 use Rattle.std.specs.Prelude.{◌≡◌, true, List, None, Some}
-use Rattle.task_model.specs.Basic.{BasicTerm}
-use Rattle.task_model.specs.Value.{ValueTerm, value_has}
-use Rattle.task_model.specs.Tree.{LaterTerm}
-use Rattle.task_model.specs.Checked.{CheckedTerm}
-use Rattle.task_model.specs.Fits.{StoreHas, LaterHas}
+use Rattle.task_model.specs.Terms.Basic.{BasicTerm}
+use Rattle.task_model.specs.Terms.Value.{ValueTerm, value_has}
+use Rattle.task_model.specs.Terms.Tree.{LaterTerm}
+use Rattle.task_model.specs.Running.Checked.{CheckedTerm}
+use Rattle.task_model.specs.Checking.Fits.{StoreHas, LaterHas}
 
 -- a cont, a value of the type that it takes, and a store that fit the program
 pub record ContFits (c : CheckedTerm) (k : LaterTerm) (v : ValueTerm) (σ : List ValueTerm) : Type 0 where

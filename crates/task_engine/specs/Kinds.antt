@@ -1,8 +1,8 @@
 -- Steps and pairs by their kinds, of which rules say the same.
 use Rattle.std.specs.Prelude.{ℕ}
-use Rattle.task_model.specs.Task.{TaskTerm, then_task, next_task, and_task, or_task}
-use Rattle.task_model.specs.Tree as trees
-use Rattle.task_model.specs.Tree.{LaterTerm, TreeTerm}
+use Rattle.task_model.specs.Terms.Task.{TaskTerm, then_task, next_task, and_task, or_task}
+use Rattle.task_model.specs.Terms.Tree as trees
+use Rattle.task_model.specs.Terms.Tree.{LaterTerm, TreeTerm}
 use Rattle.task_engine.specs.declared.kinds.StepKind.{StepKind}
 use Rattle.task_engine.specs.declared.kinds.StepKind.TheVariants as steps
 use Rattle.task_engine.specs.declared.kinds.PairKind.{PairKind}

@@ -1,10 +1,10 @@
 -- Parts of rules that have functions of their own.
 use Rattle.std.specs.Prelude.{Option}
 use Rattle.std.specs.Option.{option_map}
-use Rattle.task_model.specs.Text.{Text}
-use Rattle.task_model.specs.Basic.{BasicTerm}
-use Rattle.task_model.specs.Env.{EnvTerm}
-use Rattle.task_model.specs.Tree.{TreeTerm, share_tree}
+use Rattle.task_model.specs.Terms.Text.{Text}
+use Rattle.task_model.specs.Terms.Basic.{BasicTerm}
+use Rattle.task_model.specs.Terms.Env.{EnvTerm}
+use Rattle.task_model.specs.Terms.Tree.{TreeTerm, share_tree}
 use Rattle.host_eval.specs.ValueWords.{option_then, place_named}
 
 -- the tree of a share node, where there are its type and the place of its name

@@ -1,15 +1,15 @@
 -- Values, states, evaluations and strides, over stores with layers.
 use Rattle.std.specs.Prelude.{List, map, Option, Result}
 use Rattle.shared_store.specs.Layered.{Layered}
-use Rattle.task_model.specs.Left.{Left}
-use Rattle.task_model.specs.Value.{ValueTerm, value_term}
+use Rattle.task_model.specs.Terms.Left.{Left}
+use Rattle.task_model.specs.Terms.Value.{ValueTerm, value_term}
 use Rattle.task_model.specs.declared.value.Value.{Value}
-use Rattle.task_model.specs.Task.{TaskTerm}
-use Rattle.task_model.specs.Tree.{TreeTerm, tree_term, State, at}
-use Rattle.task_model.specs.Checked.{SeenChecked, checked_term}
-use Rattle.task_model.specs.Plan.{evaluates, strides}
-use Rattle.task_model.specs.Rules.{evaluate_rule, stride_rule}
-use Rattle.task_model.specs.Calls.{RunsPlan}
+use Rattle.task_model.specs.Terms.Task.{TaskTerm}
+use Rattle.task_model.specs.Terms.Tree.{TreeTerm, tree_term, State, at}
+use Rattle.task_model.specs.Running.Checked.{SeenChecked, checked_term}
+use Rattle.task_model.specs.Running.Plan.{evaluates, strides}
+use Rattle.task_model.specs.Running.Rules.{evaluate_rule, stride_rule}
+use Rattle.task_model.specs.Syntax.Calls.{RunsPlan}
 use Rattle.task_model.specs.declared.purse.Stop.{Stop}
 use Rattle.task_model.specs.declared.tree.Tree.{Tree}
 use Rattle.typing_laws.specs.Well.{MayAsk}

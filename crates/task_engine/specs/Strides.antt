@@ -1,13 +1,13 @@
 -- What strides and trials answer.
 use Rattle.std.specs.Prelude.{◌≡◌, ℕ, List, map, Option, Some, None, Result, Ok, Err, ◌⊎◌, slice_get, IsSome}
-use Rattle.task_model.specs.Value.{ValueTerm, value_term}
+use Rattle.task_model.specs.Terms.Value.{ValueTerm, value_term}
 use Rattle.task_model.specs.declared.value.Value.{Value}
 use Rattle.task_model.specs.declared.purse.Stop.{Stop}
-use Rattle.task_model.specs.Task.{BodyTerm}
-use Rattle.task_model.specs.Tree.{LaterTerm, TreeTerm, edit_tree, enter_tree, share_tree, then_tree, next_tree, fail_tree, and_tree, or_tree, xor_tree, tree_term, State, at}
-use Rattle.task_model.specs.Checked.{CheckedTerm}
-use Rattle.task_model.specs.Plan.{fails, Plan, give, ask}
-use Rattle.task_model.specs.Rules.{branch, applied, value_of}
+use Rattle.task_model.specs.Terms.Task.{BodyTerm}
+use Rattle.task_model.specs.Terms.Tree.{LaterTerm, TreeTerm, edit_tree, enter_tree, share_tree, then_tree, next_tree, fail_tree, and_tree, or_tree, xor_tree, tree_term, State, at}
+use Rattle.task_model.specs.Running.Checked.{CheckedTerm}
+use Rattle.task_model.specs.Running.Plan.{fails, Plan, give, ask}
+use Rattle.task_model.specs.Running.Rules.{branch, applied, value_of}
 use Rattle.task_model.specs.declared.tree.Tree.{Tree}
 
 -- the tree after a stride: where nothing is answered it is the one that stood there

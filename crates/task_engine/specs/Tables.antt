@@ -1,8 +1,8 @@
 -- Where the nodes of a program's definitions and bodies begin.
 use Rattle.std.specs.Prelude.{◌≡◌, ℕ, ◌+◌, List, [], ◌∷◌}
-use Rattle.task_model.specs.Program.{DefTerm, ProgramTerm}
-use Rattle.task_model.specs.Checked.{counts_of, what_nodes}
-use Rattle.task_model.specs.Placed.{firsts_of}
+use Rattle.task_model.specs.Terms.Program.{DefTerm, ProgramTerm}
+use Rattle.task_model.specs.Running.Checked.{counts_of, what_nodes}
+use Rattle.task_model.specs.Checking.Placed.{firsts_of}
 
 -- how many `edit` and `share` nodes stand before each of these definitions, where so many stand before the first
 abbrev pub definition_firsts : ProgramTerm → ℕ → List DefTerm → List ℕ

@@ -1,6 +1,6 @@
 -- When what was overwritten is what stands there.
 use Rattle.std.specs.Prelude.{◌≡◌, ℕ, Bool, true, false, List, [], ◌∷◌, ◌==◌, ◌⊎◌, if◌then◌else◌, Option, Some, None, slice_get}
-use Rattle.task_model.specs.Value.{value_term}
+use Rattle.task_model.specs.Terms.Value.{value_term}
 use Rattle.task_model.specs.declared.value.Value.{Value}
 use Rattle.shared_store.specs.declared.store.Overwritten.{Overwritten}
 

@@ -1,7 +1,7 @@
 ghost use Rattle.std.specs.Prelude.{◌≡◌, ℕ, length, map};
 ghost use Rattle.std.specs.Option.{option_map};
-ghost use Rattle.task_model.specs.Program.{def_term, ProgramTerm};
-ghost use Rattle.task_model.specs.Checked as checked;
+ghost use Rattle.task_model.specs.Terms.Program.{def_term, ProgramTerm};
+ghost use Rattle.task_model.specs.Running.Checked as checked;
 ghost use Rattle.task_engine.specs.Tables.{definition_firsts};
 ghost use Rattle.task_engine.specs.Called.{seen_callee, as_callee};
 

@@ -1,6 +1,6 @@
 ghost use Rattle.std.specs.Prelude.{◌≡◌, ◌+◌, ◌<◌, IfOk, IsOk, IsSome, Some, slice_get};
-ghost use Rattle.task_model.specs.Task.{task_term};
-ghost use Rattle.task_model.specs.Checked as checked;
+ghost use Rattle.task_model.specs.Terms.Task.{task_term};
+ghost use Rattle.task_model.specs.Running.Checked as checked;
 
 use task_model::{OutOfMemory, Task};
 

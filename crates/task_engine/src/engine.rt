@@ -1,9 +1,9 @@
 ghost use Rattle.std.specs.Prelude.{◌≡◌, ◌<◌, IfOk, IsSome, Some, slice_get};
-ghost use Rattle.task_model.specs.Basic.{basic_term};
-ghost use Rattle.task_model.specs.Task.{body_term, task_term};
-ghost use Rattle.task_model.specs.Program.{program_term};
-ghost use Rattle.task_model.specs.Checked as checked;
-ghost use Rattle.task_model.specs.Checked.{checked_term};
+ghost use Rattle.task_model.specs.Terms.Basic.{basic_term};
+ghost use Rattle.task_model.specs.Terms.Task.{body_term, task_term};
+ghost use Rattle.task_model.specs.Terms.Program.{program_term};
+ghost use Rattle.task_model.specs.Running.Checked as checked;
+ghost use Rattle.task_model.specs.Running.Checked.{checked_term};
 ghost use Rattle.task_engine.specs.Called.{seen_callee};
 
 use crate::callee::{Callee, callee_in};
@@ -26,8 +26,8 @@ pub struct Engine {
 
 impl Model for Engine {
     ghost use Rattle.std.specs.Prelude.{◌≡◌};
-    ghost use Rattle.task_model.specs.Checked.{SeenChecked, counts_of};
-    ghost use Rattle.task_model.specs.Program.{program_term, def_term};
+    ghost use Rattle.task_model.specs.Running.Checked.{SeenChecked, counts_of};
+    ghost use Rattle.task_model.specs.Terms.Program.{program_term, def_term};
     ghost use Rattle.task_model.specs.contracts.checked.Checked as checkeds;
     ghost use Rattle.task_engine.specs.Tables.{AreTables};
 

@@ -1,10 +1,10 @@
 ghost use Rattle.std.specs.Prelude.{◌≡◌, map, IfOk};
 ghost use Rattle.std.specs.Arc.{arc_value};
-ghost use Rattle.task_model.specs.Basic.{basic_term};
-ghost use Rattle.task_model.specs.Env.{slot_term};
-ghost use Rattle.task_model.specs.Tree as trees;
-ghost use Rattle.task_model.specs.Tree.{tree_term};
-ghost use Rattle.task_model.specs.Rules as rules;
+ghost use Rattle.task_model.specs.Terms.Basic.{basic_term};
+ghost use Rattle.task_model.specs.Terms.Env.{slot_term};
+ghost use Rattle.task_model.specs.Terms.Tree as trees;
+ghost use Rattle.task_model.specs.Terms.Tree.{tree_term};
+ghost use Rattle.task_model.specs.Running.Rules as rules;
 ghost use Rattle.host_eval.specs.NamesTerm.{names_term, slots_in};
 ghost use Rattle.task_engine.specs.Kinds as kinds;
 

@@ -1,6 +1,6 @@
 ghost use Rattle.std.specs.Prelude.{◌≡◌};
 ghost use Rattle.std.specs.Arc.{arc_value};
-ghost use Rattle.task_model.specs.Tree.{cont_term, tree_term};
+ghost use Rattle.task_model.specs.Terms.Tree.{cont_term, tree_term};
 ghost use Rattle.task_engine.specs.Kinds as kinds;
 
 use std::sync::Arc;

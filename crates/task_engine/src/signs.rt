@@ -1,9 +1,9 @@
 ghost use Rattle.std.specs.Prelude.{◌≡◌, ◌+◌, map, IfOk};
-ghost use Rattle.task_model.specs.Value.{value_term};
-ghost use Rattle.task_model.specs.Tree.{cont_term, delay_term};
-ghost use Rattle.task_model.specs.Checked.{checked_term};
-ghost use Rattle.task_model.specs.Rules.{trial};
-ghost use Rattle.task_model.specs.Sign.{IsSign, IsSideSign, Test};
+ghost use Rattle.task_model.specs.Terms.Value.{value_term};
+ghost use Rattle.task_model.specs.Terms.Tree.{cont_term, delay_term};
+ghost use Rattle.task_model.specs.Running.Checked.{checked_term};
+ghost use Rattle.task_model.specs.Running.Rules.{trial};
+ghost use Rattle.task_model.specs.Running.Sign.{IsSign, IsSideSign, Test};
 ghost use Rattle.task_engine.specs.Fitting.{ContFits, SideFits};
 ghost use Rattle.task_engine.specs.TestAnswers.{TellsSign};
 

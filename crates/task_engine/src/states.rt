@@ -1,11 +1,11 @@
 ghost use Rattle.std.specs.Prelude.{◌≡◌, map, IfOk, None};
-ghost use Rattle.task_model.specs.Value.{value_term};
-ghost use Rattle.task_model.specs.Task.{task_term};
-ghost use Rattle.task_model.specs.Tree.{cont_term, tree_term, at};
-ghost use Rattle.task_model.specs.Checked.{checked_term};
-ghost use Rattle.task_model.specs.Plan.{fails, strides, settles, normal};
-ghost use Rattle.task_model.specs.Judgements as judgements;
-ghost use Rattle.task_model.specs.Spends.{Spends};
+ghost use Rattle.task_model.specs.Terms.Value.{value_term};
+ghost use Rattle.task_model.specs.Terms.Task.{task_term};
+ghost use Rattle.task_model.specs.Terms.Tree.{cont_term, tree_term, at};
+ghost use Rattle.task_model.specs.Running.Checked.{checked_term};
+ghost use Rattle.task_model.specs.Running.Plan.{fails, strides, settles, normal};
+ghost use Rattle.task_model.specs.Running.Judgements as judgements;
+ghost use Rattle.task_model.specs.Running.Spends.{Spends};
 ghost use Rattle.typing_laws.specs.Well.{MayAsk};
 ghost use Rattle.host_eval.specs.NamesTerm.{names_term};
 ghost use Rattle.task_engine.specs.Fitting.{ContFits};

@@ -1,10 +1,10 @@
 ghost use Rattle.std.specs.Prelude.{◌≡◌, IfOk, None};
 ghost use Rattle.std.specs.Option.{is_some, option_map};
 ghost use Rattle.std.specs.Arc.{arc_value};
-ghost use Rattle.task_model.specs.Value.{value_term};
-ghost use Rattle.task_model.specs.Tree as trees;
-ghost use Rattle.task_model.specs.Tree.{TreeTerm, cont_term, tree_term};
-ghost use Rattle.task_model.specs.Rules as rules;
+ghost use Rattle.task_model.specs.Terms.Value.{value_term};
+ghost use Rattle.task_model.specs.Terms.Tree as trees;
+ghost use Rattle.task_model.specs.Terms.Tree.{TreeTerm, cont_term, tree_term};
+ghost use Rattle.task_model.specs.Running.Rules as rules;
 ghost use Rattle.task_engine.specs.Kinds as kinds;
 ghost use Rattle.task_engine.specs.Stores.{values_in};
 ghost use Rattle.task_engine.specs.Strides.{after_stride, Calm};

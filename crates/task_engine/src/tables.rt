@@ -1,8 +1,8 @@
 ghost use Rattle.std.specs.Prelude.{◌≡◌, ℕ, ◌+◌, ◌++◌, length, map, IfOk, OnOk};
-ghost use Rattle.task_model.specs.Task.{body_term};
-ghost use Rattle.task_model.specs.Program.{def_body_term, def_term, program_term, ProgramTerm};
-ghost use Rattle.task_model.specs.Placed as placed;
-ghost use Rattle.task_model.specs.Checked as checked;
+ghost use Rattle.task_model.specs.Terms.Task.{body_term};
+ghost use Rattle.task_model.specs.Terms.Program.{def_body_term, def_term, program_term, ProgramTerm};
+ghost use Rattle.task_model.specs.Checking.Placed as placed;
+ghost use Rattle.task_model.specs.Running.Checked as checked;
 ghost use Rattle.task_engine.specs.Tables.{definition_firsts};
 
 use crate::counts::{added, nodes_in};

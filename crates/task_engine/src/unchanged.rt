@@ -1,5 +1,5 @@
 ghost use Rattle.std.specs.Prelude.{◌≡◌, ◌↔◌, ◌<◌, List, map, length, slice_get, IsTrue, Some};
-ghost use Rattle.task_model.specs.Value.{value_term};
+ghost use Rattle.task_model.specs.Terms.Value.{value_term};
 ghost use Rattle.task_model.specs.declared.value.Value.{Value};
 ghost use Rattle.shared_store.specs.Log.{rewound};
 ghost use Rattle.task_engine.specs.Writes as writes;

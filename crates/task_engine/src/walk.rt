@@ -1,8 +1,8 @@
 ghost use Rattle.std.specs.Prelude.{◌≡◌, ◌+◌, ◌++◌, IfOk, OnOk};
-ghost use Rattle.task_model.specs.Task.{task_term};
-ghost use Rattle.task_model.specs.FullTask.{FullTask, full_and, full_body_numbered, step_over, sides_of};
-ghost use Rattle.task_model.specs.LaterBodies.{full_task, later_bodies};
-ghost use Rattle.task_model.specs.Placed.{edit_nodes, task_firsts};
+ghost use Rattle.task_model.specs.Terms.Task.{task_term};
+ghost use Rattle.task_model.specs.Checking.FullTask.{FullTask, full_and, full_body_numbered, step_over, sides_of};
+ghost use Rattle.task_model.specs.Syntax.LaterBodies.{full_task, later_bodies};
+ghost use Rattle.task_model.specs.Checking.Placed.{edit_nodes, task_firsts};
 
 use crate::counts::added;
 use task_model::{LaterBodies, NumberedBody, OutOfMemory, Row, Task};

@@ -1,13 +1,13 @@
 -- An input acts at the address that its path leads to, and nothing else of the tree changes.
 use Rattle.std.proofs.Common.{◌≡◌, ◌∙◌, ℕ, List, [], ◌∷◌, Option, None, Some, refl, sym, ap, subst, arith}
-use Rattle.task_model.specs.Value.{ValueTerm}
-use Rattle.task_model.specs.Tree.{TreeTerm, edit_tree, enter_tree, share_tree, then_tree, next_tree, fail_tree, and_tree, or_tree, xor_tree, LaterTerm, State, at}
-use Rattle.task_model.specs.Input.{ActTerm, set_act, next_act, left_act, right_act}
-use Rattle.task_model.specs.Checked.{CheckedTerm}
-use Rattle.task_model.specs.Plan.{Plan, give, plan_work, Derives}
-use Rattle.task_model.specs.Rules.{rule_of, value_of}
-use Rattle.task_model.specs.Handling.{rebuilt, rebuilds, stopped, at_step, handled}
-use Rattle.task_model.specs.Address.{DownTerm, into_left, into_first, into_second, Address, address_turns, node_at, with_node, further_down, address_at_editor, address_at_step, address_of}
+use Rattle.task_model.specs.Terms.Value.{ValueTerm}
+use Rattle.task_model.specs.Terms.Tree.{TreeTerm, edit_tree, enter_tree, share_tree, then_tree, next_tree, fail_tree, and_tree, or_tree, xor_tree, LaterTerm, State, at}
+use Rattle.task_model.specs.Terms.Input.{ActTerm, set_act, next_act, left_act, right_act}
+use Rattle.task_model.specs.Running.Checked.{CheckedTerm}
+use Rattle.task_model.specs.Running.Plan.{Plan, give, plan_work, Derives}
+use Rattle.task_model.specs.Running.Rules.{rule_of, value_of}
+use Rattle.task_model.specs.Running.Handling.{rebuilt, rebuilds, stopped, at_step, handled}
+use Rattle.task_model.specs.Running.Address.{DownTerm, into_left, into_first, into_second, Address, address_turns, node_at, with_node, further_down, address_at_editor, address_at_step, address_of}
 use Rattle.task_model.specs.declared.input.Turn.{Turn}
 use Rattle.task_model.specs.declared.input.Turn.TheVariants as turns
 use Rattle.task_model.proofs.PlanLemmas.{work_after, after_work}

@@ -1,23 +1,23 @@
 -- Parts of rules that go alike over two stores, and the rules of expressions.
 use Rattle.std.proofs.Common.{◌≡◌, ℕ, Bool, true, false, List, [], ◌∷◌, ◌++◌, Option, Some, None, refl, sym, ap, ◌∙◌, subst}
 use Rattle.std.specs.Prelude.{slice_get}
-use Rattle.task_model.specs.Text.{Text}
-use Rattle.task_model.specs.Value.{ValueTerm, unit_value, bool_value, int_value, text_value, pair_value, list_value, no_values, more_values}
-use Rattle.task_model.specs.Operators.{list_of, operated, negated, opposite, first_of, second_of, length_of}
-use Rattle.task_model.specs.Env.{SlotTerm, plain_slot, place_slot, EnvTerm}
-use Rattle.task_model.specs.Host.{HostTerm, unit_expr, bool_expr, int_expr, text_expr, name_expr, read_expr, call_expr, pair_expr, list_expr, nil_expr, neg_expr, not_expr, fst_expr, snd_expr, len_expr, op_expr, let_expr, if_expr, case_expr, HostTerms, no_exprs, more_exprs}
-use Rattle.task_model.specs.Program.{KindTerm, plain_kind, ref_kind, ParamTerm}
-use Rattle.task_model.specs.Tree.{TreeTerm, State, at}
-use Rattle.task_model.specs.Checked.{CheckedTerm, slot_of, fun_named, param_names}
-use Rattle.task_model.specs.Plan.{Judgement, gives_value, evaluates, fails, strides, settles, normal, Derived, Plan, give, ask, known}
-use Rattle.task_model.specs.Rules.{bound, later_by, as_value, as_place, branch, chosen, matched, bare_name, slot_for, slots_for, exprs_of, values_for, with_value, op_rule, value_rule}
+use Rattle.task_model.specs.Terms.Text.{Text}
+use Rattle.task_model.specs.Terms.Value.{ValueTerm, unit_value, bool_value, int_value, text_value, pair_value, list_value, no_values, more_values}
+use Rattle.task_model.specs.Running.Operators.{list_of, operated, negated, opposite, first_of, second_of, length_of}
+use Rattle.task_model.specs.Terms.Env.{SlotTerm, plain_slot, place_slot, EnvTerm}
+use Rattle.task_model.specs.Terms.Host.{HostTerm, unit_expr, bool_expr, int_expr, text_expr, name_expr, read_expr, call_expr, pair_expr, list_expr, nil_expr, neg_expr, not_expr, fst_expr, snd_expr, len_expr, op_expr, let_expr, if_expr, case_expr, HostTerms, no_exprs, more_exprs}
+use Rattle.task_model.specs.Terms.Program.{KindTerm, plain_kind, ref_kind, ParamTerm}
+use Rattle.task_model.specs.Terms.Tree.{TreeTerm, State, at}
+use Rattle.task_model.specs.Running.Checked.{CheckedTerm, slot_of, fun_named, param_names}
+use Rattle.task_model.specs.Running.Plan.{Judgement, gives_value, evaluates, fails, strides, settles, normal, Derived, Plan, give, ask, known}
+use Rattle.task_model.specs.Running.Rules.{bound, later_by, as_value, as_place, branch, chosen, matched, bare_name, slot_for, slots_for, exprs_of, values_for, with_value, op_rule, value_rule}
 use Rattle.task_model.specs.declared.host.Op.{Op}
 use Rattle.task_model.specs.declared.host.Op.TheVariants as ops
 use Rattle.task_laws.proofs.LikeLemmas.{Like, like_give, like_stuck, like_ask, like_unit, like_after, Steady}
 use Rattle.task_laws.proofs.TwinLemmas.{SlotIn, SlotsIn, TreeIn, slots_in_push, IfIn, found_in, Frame, Twins, stays}
 
 module _ (f : Frame) where
-  -- ---- what is supposed of a judgement over a second store, and what holds of its result there
+  -- ---- what is assumed of a judgement over a second store, and what holds of its result there
   pub record Alike (s : State) (τ : List ValueTerm) : Type 0 where
     pub tree : TreeIn f.inside s.tree
     pub stores : Twins f s.store τ

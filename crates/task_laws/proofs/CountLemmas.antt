@@ -1,12 +1,12 @@
 -- How many nodes tasks have, and how many stand before their bodies, by their parses.
 use Rattle.std.proofs.Common.{◌≡◌, ℕ, zero, suc, ◌+◌, ◌-◌, ◌≤◌, List, [], ◌∷◌, ◌++◌, length, refl, ap, ◌∙◌, subst, arith, le_refl}
 use Rattle.std.specs.Prelude.{Some, None, slice_get, unwrap_or}
-use Rattle.task_model.specs.Text.{Text}
-use Rattle.task_model.specs.Task.{BodyTerm}
-use Rattle.task_model.specs.Checked.{nodes_in, body_nodes, counts_from}
-use Rattle.task_model.specs.Grammar.{Form, task, series, choice, chain, internal, external, Parse, task_let, task_if, task_case, task_new, task_put, task_plain, task_then, task_next, task_edit, task_enter, task_share, task_fail, task_call, task_group, single, joined}
-use Rattle.task_model.specs.Meaning.{meaning, bodies, bodies_of}
-use Rattle.task_model.specs.Placed.{edit_nodes, task_firsts}
+use Rattle.task_model.specs.Terms.Text.{Text}
+use Rattle.task_model.specs.Terms.Task.{BodyTerm}
+use Rattle.task_model.specs.Running.Checked.{nodes_in, body_nodes, counts_from}
+use Rattle.task_model.specs.Syntax.Grammar.{Form, task, series, choice, chain, internal, external, Parse, task_let, task_if, task_case, task_new, task_put, task_plain, task_then, task_next, task_edit, task_enter, task_share, task_fail, task_call, task_group, single, joined}
+use Rattle.task_model.specs.Syntax.Meaning.{meaning, bodies, bodies_of}
+use Rattle.task_model.specs.Checking.Placed.{edit_nodes, task_firsts}
 use Rattle.task_model.proofs.BodyCounts.{two, bodies_count}
 use Rattle.task_laws.proofs.ParseLemmas.{IsTask, term_at, whole, body_of, both, Finds, finds_first, finds_second}
 

@@ -1,16 +1,16 @@
 -- What is failing has no value and offers nothing.
 use Rattle.std.proofs.Common.{◌≡◌, ◌≤◌, ℕ, Bool, true, false, List, [], ◌++◌, None, refl, sym, ap, ◌∙◌, subst, arith, le_refl}
 use Rattle.std.specs.Option.{option_or}
-use Rattle.task_model.specs.Basic.{BasicTerm}
-use Rattle.task_model.specs.Value.{ValueTerm}
-use Rattle.task_model.specs.Env.{SlotTerm}
-use Rattle.task_model.specs.Tree.{LaterTerm, TreeTerm, edit_tree, enter_tree, share_tree, then_tree, next_tree, fail_tree, and_tree, or_tree, xor_tree, at}
-use Rattle.task_model.specs.Checked.{CheckedTerm}
-use Rattle.task_model.specs.Plan.{fails, Plan, give, ask, plan_work, Derives}
-use Rattle.task_model.specs.Rules.{branch, paired, value_of, tested, side, fail_rule, rule_of}
-use Rattle.task_model.specs.Judgements.{Fails, IsWithinBudget}
-use Rattle.task_model.specs.Sign.{Test, IsStepSign}
-use Rattle.task_model.specs.Offer.{OfferTerm, next_offer, left_offer, right_offer, offered, both_offers, AreOffers}
+use Rattle.task_model.specs.Terms.Basic.{BasicTerm}
+use Rattle.task_model.specs.Terms.Value.{ValueTerm}
+use Rattle.task_model.specs.Terms.Env.{SlotTerm}
+use Rattle.task_model.specs.Terms.Tree.{LaterTerm, TreeTerm, edit_tree, enter_tree, share_tree, then_tree, next_tree, fail_tree, and_tree, or_tree, xor_tree, at}
+use Rattle.task_model.specs.Running.Checked.{CheckedTerm}
+use Rattle.task_model.specs.Running.Plan.{fails, Plan, give, ask, plan_work, Derives}
+use Rattle.task_model.specs.Running.Rules.{branch, paired, value_of, tested, side, fail_rule, rule_of}
+use Rattle.task_model.specs.Running.Judgements.{Fails, IsWithinBudget}
+use Rattle.task_model.specs.Running.Sign.{Test, IsStepSign}
+use Rattle.task_model.specs.Running.Offer.{OfferTerm, next_offer, left_offer, right_offer, offered, both_offers, AreOffers}
 use Rattle.task_model.specs.declared.widget.Sign.TheVariants as signs
 use Rattle.task_model.proofs.PlanLemmas.{work_after, by_rule}
 use Rattle.task_model.proofs.SignLemmas.{sign_failing}

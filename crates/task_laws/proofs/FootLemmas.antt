@@ -5,18 +5,18 @@ use Rattle.std.specs.List.{All, Contains}
 use Rattle.std.proofs.lemmas.Bool.{eq-eqb, eqb-true, le-leb, leb-true, leb-false}
 use Rattle.std.proofs.lemmas.List.Elements.{All-contains, All-contains_itself}
 use Rattle.std.proofs.lemmas.Option.{slice_get_past}
-use Rattle.task_model.specs.Value.{ValueTerm, unit_value}
-use Rattle.task_model.specs.Env.{SlotTerm, plain_slot, place_slot}
-use Rattle.task_model.specs.Tree.{LaterTerm, TreeTerm, edit_tree, enter_tree, share_tree, then_tree, next_tree, fail_tree, and_tree, or_tree, xor_tree, State, at}
-use Rattle.task_model.specs.Checked.{CheckedTerm}
-use Rattle.task_model.specs.Work.{Work}
-use Rattle.task_model.specs.Plan.{fails, strides, settles, Derives}
-use Rattle.task_model.specs.Rules.{value_of, trial, side, rule_of}
-use Rattle.task_model.specs.Foot.{with_places, foot, among, AgreeOn}
-use Rattle.task_model.specs.Judgements.{Fails, Strides, Settles}
-use Rattle.task_model.specs.Sign.{IsSign, Test, IsStepSign}
-use Rattle.task_model.specs.Offer.{OfferTerm, AreOffers}
-use Rattle.task_model.specs.Widget.{WidgetTerm, share_shape, here, AreWidgets}
+use Rattle.task_model.specs.Terms.Value.{ValueTerm, unit_value}
+use Rattle.task_model.specs.Terms.Env.{SlotTerm, plain_slot, place_slot}
+use Rattle.task_model.specs.Terms.Tree.{LaterTerm, TreeTerm, edit_tree, enter_tree, share_tree, then_tree, next_tree, fail_tree, and_tree, or_tree, xor_tree, State, at}
+use Rattle.task_model.specs.Running.Checked.{CheckedTerm}
+use Rattle.task_model.specs.Running.Work.{Work}
+use Rattle.task_model.specs.Running.Plan.{fails, strides, settles, Derives}
+use Rattle.task_model.specs.Running.Rules.{value_of, trial, side, rule_of}
+use Rattle.task_model.specs.Running.Foot.{with_places, foot, among, AgreeOn}
+use Rattle.task_model.specs.Running.Judgements.{Fails, Strides, Settles}
+use Rattle.task_model.specs.Running.Sign.{IsSign, Test, IsStepSign}
+use Rattle.task_model.specs.Running.Offer.{OfferTerm, AreOffers}
+use Rattle.task_model.specs.Showing.Widget.{WidgetTerm, share_shape, here, AreWidgets}
 use Rattle.task_model.specs.declared.widget.Sign.{Sign}
 use Rattle.task_model.specs.declared.widget.Sign.TheVariants as signs
 use Rattle.task_laws.specs.TreePlaces.{slot_places, places_in}

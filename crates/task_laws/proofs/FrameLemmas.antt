@@ -1,13 +1,13 @@
 -- Every rule goes alike over two stores that agree inside: by a case for each form.
 use Rattle.std.proofs.Common.{ℕ, Bool, true, false, List, [], ◌∷◌, ◌++◌, length, Option, Some, None, refl, sym, subst}
 use Rattle.std.specs.Prelude.{slice_get, slice_set}
-use Rattle.task_model.specs.Value.{ValueTerm}
-use Rattle.task_model.specs.Env.{SlotTerm, plain_slot, place_slot, EnvTerm}
-use Rattle.task_model.specs.Task.{TaskTerm, edit, enter, share, fail, call_task, then_task, next_task, and_task, or_task, xor_task, let_task, if_task, case_task, new_task, put_task}
-use Rattle.task_model.specs.Tree.{LaterTerm, TreeTerm, edit_tree, enter_tree, share_tree, then_tree, next_tree, fail_tree, and_tree, or_tree, xor_tree, State, at}
-use Rattle.task_model.specs.Checked.{CheckedTerm, nodes_of, task_named, param_names}
-use Rattle.task_model.specs.Plan.{Judgement, gives_value, evaluates, fails, strides, settles, normal, Derived, Plan, give, ask, stride_on, derives_at}
-use Rattle.task_model.specs.Rules.{bound, later_by, branch, slots_for, value_of, with_value, or_of, later, evaluate_rule, opened_env, applied, tested, side, fail_rule, fired, stride_rule, rule_of}
+use Rattle.task_model.specs.Terms.Value.{ValueTerm}
+use Rattle.task_model.specs.Terms.Env.{SlotTerm, plain_slot, place_slot, EnvTerm}
+use Rattle.task_model.specs.Terms.Task.{TaskTerm, edit, enter, share, fail, call_task, then_task, next_task, and_task, or_task, xor_task, let_task, if_task, case_task, new_task, put_task}
+use Rattle.task_model.specs.Terms.Tree.{LaterTerm, TreeTerm, edit_tree, enter_tree, share_tree, then_tree, next_tree, fail_tree, and_tree, or_tree, xor_tree, State, at}
+use Rattle.task_model.specs.Running.Checked.{CheckedTerm, nodes_of, task_named, param_names}
+use Rattle.task_model.specs.Running.Plan.{Judgement, gives_value, evaluates, fails, strides, settles, normal, Derived, Plan, give, ask, stride_on, derives_at}
+use Rattle.task_model.specs.Running.Rules.{bound, later_by, branch, slots_for, value_of, with_value, or_of, later, evaluate_rule, opened_env, applied, tested, side, fail_rule, fired, stride_rule, rule_of}
 use Rattle.task_laws.proofs.LikeLemmas.{over, result_over, Like, like_give, like_ask, like_unit, like_strides, like_after, Results, derives_alike}
 use Rattle.task_laws.proofs.TwinLemmas.{SlotsIn, TreeIn, slots_in_push, Frame, Twins, twins_push, twins_set, new_in, value_alike}
 use Rattle.task_laws.proofs.AlikeLemmas.{Alike, AlikeIn, Pre, Post, steady, Goes, SameBool, SameState, SameSlots, give_bool, give_state, like_known, like_ref, like_branch, like_chosen, like_matched, like_or, bind_in, bind_two, moved_in, over_left, like_slots, like_host}

@@ -2,18 +2,18 @@
 use Rattle.std.proofs.Common.{◌≡◌, ℕ, suc, ◌+◌, Bool, true, false, List, [], ◌∷◌, ◌++◌, map, refl, sym, ap, ◌∙◌, subst, arith, append-nil}
 use Rattle.std.proofs.lemmas.List.{map-append}
 use Rattle.std.specs.Prelude.{if◌then◌else◌}
-use Rattle.task_model.specs.Text.{Text}
-use Rattle.task_model.specs.Task.{BodyTerm}
-use Rattle.task_model.specs.Program.{ProgramTerm}
-use Rattle.task_model.specs.Checked.{param_names}
+use Rattle.task_model.specs.Terms.Text.{Text}
+use Rattle.task_model.specs.Terms.Task.{BodyTerm}
+use Rattle.task_model.specs.Terms.Program.{ProgramTerm}
+use Rattle.task_model.specs.Running.Checked.{param_names}
 use Rattle.task_model.specs.declared.keyword.Keyword.TheVariants as words
 use Rattle.task_model.specs.declared.symbol.Symbol.TheVariants as signs
-use Rattle.task_model.specs.Lexemes.{Lexeme, keyword, symbol, name}
-use Rattle.task_model.specs.Grammar.{Form, program, parameter, basic, expression, comparison, listed, operand, atom, series, enclosed, parameters, arguments, comma, list, choice, chain, either, both, sum, product, internal, external, together, or, and, plus, minus, join, times, quot, rem, negative, not, fst, snd, len, unit, bool, int, text, operator, Parse, no_definitions, more_definitions, function, task_named, value_named, reference_named, scalar_type, pair_type, list_type, task_let, task_if, task_case, task_new, task_put, task_plain, task_then, task_next, task_edit, task_enter, task_share, task_fail, task_call, task_group, let_in, if_then, case_of, plain, uncompared, compared, unlisted, cons, prefixed, unprefixed, digits, quoted, constant, nothing, named, content, call, group, pair, elements, nil, single, joined, empty, full, tokens}
-use Rattle.task_model.specs.Meaning.{meaning, bodies, bodies_of, program_of}
-use Rattle.task_model.specs.FullTask.{full_in}
-use Rattle.task_model.specs.TaskDemands.{bodies_in_place}
-use Rattle.task_model.specs.Placed.{edit_nodes, task_firsts, firsts_in, firsts_of}
+use Rattle.task_model.specs.Syntax.Lexemes.{Lexeme, keyword, symbol, name}
+use Rattle.task_model.specs.Syntax.Grammar.{Form, program, parameter, basic, expression, comparison, listed, operand, atom, series, enclosed, parameters, arguments, comma, list, choice, chain, either, both, sum, product, internal, external, together, or, and, plus, minus, join, times, quot, rem, negative, not, fst, snd, len, unit, bool, int, text, operator, Parse, no_definitions, more_definitions, function, task_named, value_named, reference_named, scalar_type, pair_type, list_type, task_let, task_if, task_case, task_new, task_put, task_plain, task_then, task_next, task_edit, task_enter, task_share, task_fail, task_call, task_group, let_in, if_then, case_of, plain, uncompared, compared, unlisted, cons, prefixed, unprefixed, digits, quoted, constant, nothing, named, content, call, group, pair, elements, nil, single, joined, empty, full, tokens}
+use Rattle.task_model.specs.Syntax.Meaning.{meaning, bodies, bodies_of, program_of}
+use Rattle.task_model.specs.Checking.FullTask.{full_in}
+use Rattle.task_model.specs.Checking.TaskDemands.{bodies_in_place}
+use Rattle.task_model.specs.Checking.Placed.{edit_nodes, task_firsts, firsts_in, firsts_of}
 use Rattle.task_model.proofs.BodyCounts.{bodies_count}
 use Rattle.task_laws.specs.BodyFronts.{is_edit_word, edit_words, behind, body_fronts}
 use Rattle.task_laws.proofs.ParseLemmas.{IsTask, whole, both as both_same, in_place, places_first, places_second}

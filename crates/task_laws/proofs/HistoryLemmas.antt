@@ -1,14 +1,14 @@
 -- Prefixes of histories, and their pages.
 use Rattle.std.proofs.Common.{◌≡◌, ◌∙◌, ℕ, zero, suc, min, List, [], ◌∷◌, refl, sym, ap, subst, arith}
-use Rattle.task_model.specs.Text.{Text}
-use Rattle.task_model.specs.Tree.{State}
-use Rattle.task_model.specs.Checked.{CheckedTerm}
-use Rattle.task_model.specs.Item.{ItemTerm, opened, took}
-use Rattle.task_model.specs.Page.{page_text}
-use Rattle.task_model.specs.Html.{html_text}
-use Rattle.task_model.specs.Widget.{WidgetTerm, AreWidgets}
-use Rattle.task_model.specs.Accepted.{typed_program}
-use Rattle.task_model.specs.State.{LeadTo, version_of, AreEntries, IsLegal, history_prefix, HasWidgets, IsPage}
+use Rattle.task_model.specs.Terms.Text.{Text}
+use Rattle.task_model.specs.Terms.Tree.{State}
+use Rattle.task_model.specs.Running.Checked.{CheckedTerm}
+use Rattle.task_model.specs.Terms.Item.{ItemTerm, opened, took}
+use Rattle.task_model.specs.Showing.Page.{page_text}
+use Rattle.task_model.specs.Showing.Html.{html_text}
+use Rattle.task_model.specs.Showing.Widget.{WidgetTerm, AreWidgets}
+use Rattle.task_model.specs.Checking.Accepted.{typed_program}
+use Rattle.task_model.specs.Running.State.{LeadTo, version_of, AreEntries, IsLegal, history_prefix, HasWidgets, IsPage}
 use Rattle.task_model.specs.declared.widget.Face.{Face}
 use Rattle.task_model.specs.declared.widget.Face.TheVariants as faces
 use Rattle.task_model.proofs.OutcomeLemmas.{reached_once}

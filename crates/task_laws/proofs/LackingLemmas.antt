@@ -2,19 +2,19 @@
 use Rattle.std.proofs.Common.{◌≡◌, ℕ, Bool, true, false, List, [], ◌∷◌, Option, Some, None, refl, sym, subst, arith}
 use Rattle.std.specs.Prelude.{◌⊎◌, slice_get}
 use mathlib.Core.Logic.{inl, inr}
-use Rattle.task_model.specs.Basic.{BasicTerm}
-use Rattle.task_model.specs.Value.{ValueTerm, value_has}
-use Rattle.task_model.specs.Env.{SlotTerm}
-use Rattle.task_model.specs.Task.{BodyTerm}
-use Rattle.task_model.specs.Tree.{TreeTerm, State}
-use Rattle.task_model.specs.Input.{ActTerm, set_act, next_act, left_act, right_act}
-use Rattle.task_model.specs.Checked.{CheckedTerm}
-use Rattle.task_model.specs.Plan.{fails, normal, Plan, give, ask, known, plan_work, Derives}
-use Rattle.task_model.specs.Rules.{branch, opened_env, rule_of}
-use Rattle.task_model.specs.Judgements.{IsWithinBudget}
-use Rattle.task_model.specs.Handling.{if_typed, at_editor, rebuilt, rebuilds, unless_failing}
-use Rattle.task_model.specs.Sign.{IsSign, Test}
-use Rattle.task_model.specs.Offer.{OfferKindTerm, set_offer, offered, IsFor}
+use Rattle.task_model.specs.Terms.Basic.{BasicTerm}
+use Rattle.task_model.specs.Terms.Value.{ValueTerm, value_has}
+use Rattle.task_model.specs.Terms.Env.{SlotTerm}
+use Rattle.task_model.specs.Terms.Task.{BodyTerm}
+use Rattle.task_model.specs.Terms.Tree.{TreeTerm, State}
+use Rattle.task_model.specs.Terms.Input.{ActTerm, set_act, next_act, left_act, right_act}
+use Rattle.task_model.specs.Running.Checked.{CheckedTerm}
+use Rattle.task_model.specs.Running.Plan.{fails, normal, Plan, give, ask, known, plan_work, Derives}
+use Rattle.task_model.specs.Running.Rules.{branch, opened_env, rule_of}
+use Rattle.task_model.specs.Running.Judgements.{IsWithinBudget}
+use Rattle.task_model.specs.Running.Handling.{if_typed, at_editor, rebuilt, rebuilds, unless_failing}
+use Rattle.task_model.specs.Running.Sign.{IsSign, Test}
+use Rattle.task_model.specs.Running.Offer.{OfferKindTerm, set_offer, offered, IsFor}
 use Rattle.task_model.specs.declared.input.Turn.{Turn}
 use Rattle.task_model.specs.declared.widget.Sign.{Sign}
 use Rattle.task_model.specs.declared.widget.Sign.TheVariants as signs

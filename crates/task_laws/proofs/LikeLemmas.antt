@@ -1,10 +1,10 @@
 -- Plans that go alike over two stores: what is derived over the one is derived over the other, in as
 -- many units and as high. Once for all rules.
 use Rattle.std.proofs.Common.{◌≡◌, ◌↔◌, ℕ, zero, suc, List, refl, sym, subst}
-use Rattle.task_model.specs.Value.{ValueTerm}
-use Rattle.task_model.specs.Tree.{State, at}
-use Rattle.task_model.specs.Work.{Work, then_on}
-use Rattle.task_model.specs.Plan.{Judgement, gives_value, evaluates, fails, strides, settles, normal, Derived, Plan, give, stuck, ask, unit, stride_on, after, StrideList, last_stride, more_strides, Parts, plan_work, derives_at}
+use Rattle.task_model.specs.Terms.Value.{ValueTerm}
+use Rattle.task_model.specs.Terms.Tree.{State, at}
+use Rattle.task_model.specs.Running.Work.{Work, then_on}
+use Rattle.task_model.specs.Running.Plan.{Judgement, gives_value, evaluates, fails, strides, settles, normal, Derived, Plan, give, stuck, ask, unit, stride_on, after, StrideList, last_stride, more_strides, Parts, plan_work, derives_at}
 
 -- one and then another, in as many units and as high, where each may be another
 pub in_turn : {A B C D : Type 0} {a : Work A} {b : Work B} {f : A → Work C} {g : B → Work D} {v : C} {w : D} {n h : ℕ}

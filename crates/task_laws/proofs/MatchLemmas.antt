@@ -2,17 +2,17 @@
 use Rattle.std.proofs.Common.{◌≡◌, ◌↔◌, ℕ, List, [], ◌∷◌, ◌++◌, Option, Some, None, refl, sym, subst}
 use Rattle.std.specs.Prelude.{◌⊎◌}
 use mathlib.Core.Logic.{inl, inr}
-use Rattle.task_model.specs.Value.{ValueTerm}
-use Rattle.task_model.specs.Env.{plain_slot}
-use Rattle.task_model.specs.Tree.{LaterTerm, TreeTerm, edit_tree, enter_tree, share_tree, then_tree, next_tree, fail_tree, and_tree, or_tree, xor_tree, State, at}
-use Rattle.task_model.specs.Input.{ActTerm, set_act, next_act, left_act, right_act}
-use Rattle.task_model.specs.Checked.{CheckedTerm}
-use Rattle.task_model.specs.Plan.{Plan, give, after}
-use Rattle.task_model.specs.Rules.{value_of}
-use Rattle.task_model.specs.Handling.{at_editor, rebuilt, rebuilds, stopped, unless_failing, at_step, handled}
-use Rattle.task_model.specs.Outcome.{IsNotOffered}
-use Rattle.task_model.specs.Sign.{IsStepSign}
-use Rattle.task_model.specs.Offer.{OfferTerm, next_offer, left_offer, right_offer, offered, both_offers, AreOffers}
+use Rattle.task_model.specs.Terms.Value.{ValueTerm}
+use Rattle.task_model.specs.Terms.Env.{plain_slot}
+use Rattle.task_model.specs.Terms.Tree.{LaterTerm, TreeTerm, edit_tree, enter_tree, share_tree, then_tree, next_tree, fail_tree, and_tree, or_tree, xor_tree, State, at}
+use Rattle.task_model.specs.Terms.Input.{ActTerm, set_act, next_act, left_act, right_act}
+use Rattle.task_model.specs.Running.Checked.{CheckedTerm}
+use Rattle.task_model.specs.Running.Plan.{Plan, give, after}
+use Rattle.task_model.specs.Running.Rules.{value_of}
+use Rattle.task_model.specs.Running.Handling.{at_editor, rebuilt, rebuilds, stopped, unless_failing, at_step, handled}
+use Rattle.task_model.specs.Running.Outcome.{IsNotOffered}
+use Rattle.task_model.specs.Running.Sign.{IsStepSign}
+use Rattle.task_model.specs.Running.Offer.{OfferTerm, next_offer, left_offer, right_offer, offered, both_offers, AreOffers}
 use Rattle.task_model.specs.declared.input.Turn.{Turn}
 use Rattle.task_model.specs.declared.input.Turn.TheVariants as turns
 use Rattle.task_model.specs.declared.widget.Sign.{Sign}

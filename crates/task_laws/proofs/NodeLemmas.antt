@@ -1,16 +1,16 @@
 -- A parse has as many places of nodes as its term has nodes.
 use Rattle.std.proofs.Common.{◌≡◌, ℕ, suc, ◌+◌, List, [], ◌∷◌, ◌++◌, length, refl, sym, ap, ◌∙◌, subst, arith, length-append, append-nil}
-use Rattle.task_model.specs.Text.{Text}
-use Rattle.task_model.specs.Task.{BodyTerm}
-use Rattle.task_model.specs.Host.{HostTerm, as_exprs}
-use Rattle.task_model.specs.Program.{DefTerm, ProgramTerm}
-use Rattle.task_model.specs.Checked.{param_names}
-use Rattle.task_model.specs.Grammar.{Form, program, parameter, task, expression, comparison, listed, operand, atom, series, enclosed, parameters, arguments, list, choice, chain, either, both, sum, product, internal, external, or, and, plus, minus, join, times, quot, rem, negative, not, fst, snd, len, Parse, no_definitions, more_definitions, function, task_named, value_named, reference_named, task_let, task_if, task_case, task_new, task_put, task_plain, task_then, task_next, task_edit, task_enter, task_share, task_fail, task_call, task_group, let_in, if_then, case_of, plain, uncompared, compared, unlisted, cons, prefixed, unprefixed, digits, quoted, constant, nothing, named, content, call, group, pair, elements, nil, single, joined, empty, full}
-use Rattle.task_model.specs.Meaning.{Meaning, meaning, bodies, bodies_of, program_of}
-use Rattle.task_model.specs.Nodes.{start, places}
-use Rattle.task_model.specs.NodeCounts.{nodes, nodes_all, task_nodes}
-use Rattle.task_model.specs.FullTask.{full_in, full_bodies}
-use Rattle.task_model.specs.TaskDemands.{definition_nodes, bodies_in_place}
+use Rattle.task_model.specs.Terms.Text.{Text}
+use Rattle.task_model.specs.Terms.Task.{BodyTerm}
+use Rattle.task_model.specs.Terms.Host.{HostTerm, as_exprs}
+use Rattle.task_model.specs.Terms.Program.{DefTerm, ProgramTerm}
+use Rattle.task_model.specs.Running.Checked.{param_names}
+use Rattle.task_model.specs.Syntax.Grammar.{Form, program, parameter, task, expression, comparison, listed, operand, atom, series, enclosed, parameters, arguments, list, choice, chain, either, both, sum, product, internal, external, or, and, plus, minus, join, times, quot, rem, negative, not, fst, snd, len, Parse, no_definitions, more_definitions, function, task_named, value_named, reference_named, task_let, task_if, task_case, task_new, task_put, task_plain, task_then, task_next, task_edit, task_enter, task_share, task_fail, task_call, task_group, let_in, if_then, case_of, plain, uncompared, compared, unlisted, cons, prefixed, unprefixed, digits, quoted, constant, nothing, named, content, call, group, pair, elements, nil, single, joined, empty, full}
+use Rattle.task_model.specs.Syntax.Meaning.{Meaning, meaning, bodies, bodies_of, program_of}
+use Rattle.task_model.specs.Syntax.Nodes.{start, places}
+use Rattle.task_model.specs.Checking.NodeCounts.{nodes, nodes_all, task_nodes}
+use Rattle.task_model.specs.Checking.FullTask.{full_in, full_bodies}
+use Rattle.task_model.specs.Checking.TaskDemands.{definition_nodes, bodies_in_place}
 use Rattle.task_model.proofs.BodyCounts.{two, bodies_count}
 use Rattle.task_laws.specs.ProgramNodes.{definitions_nodes}
 use Rattle.task_laws.proofs.ParseLemmas.{IsTask, whole, in_place, places_first, places_second}

@@ -2,8 +2,8 @@
 use Rattle.std.proofs.Common.{◌≡◌, List, [], ◌∷◌, ◌++◌, map, refl, ap}
 use Rattle.std.specs.Prelude.{◌⊎◌}
 use mathlib.Core.Logic.{inl, inr}
-use Rattle.task_model.specs.Input.{ActTerm, next_act}
-use Rattle.task_model.specs.Offer.{OfferKindTerm, set_offer, next_offer, left_offer, right_offer, OfferTerm, offered, turned, both_offers, IsFor, SomeMatches}
+use Rattle.task_model.specs.Terms.Input.{ActTerm, next_act}
+use Rattle.task_model.specs.Running.Offer.{OfferKindTerm, set_offer, next_offer, left_offer, right_offer, OfferTerm, offered, turned, both_offers, IsFor, SomeMatches}
 use Rattle.task_model.specs.declared.input.Turn.{Turn}
 use Rattle.task_model.specs.declared.input.Turn.TheVariants as turns
 use Rattle.task_model.specs.declared.widget.Sign.{Sign}

@@ -2,12 +2,12 @@
 use Rattle.std.proofs.Common.{◌≡◌, ℕ, suc, ◌+◌, ◌≤◌, true, false, List, [], ◌∷◌, ◌++◌, length, refl, ap, ◌∙◌, subst, arith, le_refl, append_assoc}
 use Rattle.std.specs.Prelude.{Option, Some, None, ◌==◌}
 use Rattle.std.proofs.lemmas.Bool.Decides.{nat_tests}
-use Rattle.task_model.specs.Text.{Text}
-use Rattle.task_model.specs.Task.{TaskTerm, share, BodyTerm}
-use Rattle.task_model.specs.Grammar.{Form, task, task_atom, series, choice, chain, internal, external, Parse, task_let, task_if, task_case, task_new, task_put, task_plain, task_then, task_next, task_edit, task_enter, task_share, task_fail, task_call, task_group, single, joined}
-use Rattle.task_model.specs.Meaning.{Meaning, meaning, bodies, bodies_of}
+use Rattle.task_model.specs.Terms.Text.{Text}
+use Rattle.task_model.specs.Terms.Task.{TaskTerm, share, BodyTerm}
+use Rattle.task_model.specs.Syntax.Grammar.{Form, task, task_atom, series, choice, chain, internal, external, Parse, task_let, task_if, task_case, task_new, task_put, task_plain, task_then, task_next, task_edit, task_enter, task_share, task_fail, task_call, task_group, single, joined}
+use Rattle.task_model.specs.Syntax.Meaning.{Meaning, meaning, bodies, bodies_of}
 use Rattle.task_model.proofs.BodyCounts.{bodies_count}
-use Rattle.task_model.specs.FullTask.{FullTask, full_edit, full_enter, full_share, full_fail, full_call, full_step, full_and, full_or, full_xor, full_let, full_if, full_case, full_new, full_put, full_absent, FullBody, full_body_numbered, step_over, sides_of, full_in, full_body, full_bodies}
+use Rattle.task_model.specs.Checking.FullTask.{FullTask, full_edit, full_enter, full_share, full_fail, full_call, full_step, full_and, full_or, full_xor, full_let, full_if, full_case, full_new, full_put, full_absent, FullBody, full_body_numbered, step_over, sides_of, full_in, full_body, full_bodies}
 
 -- the forms of tasks
 abbrev pub IsTask : Form → Type 0

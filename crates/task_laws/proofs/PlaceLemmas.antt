@@ -4,9 +4,9 @@ use Rattle.std.specs.Prelude.{◌==◌, nat_lt, if◌then◌else◌, slice_index
 use Rattle.std.specs.List.{Contains}
 use Rattle.std.specs.List.Sorted.{IsStrictlyIncreasing}
 use Rattle.std.proofs.lemmas.Bool.{eq-eqb, eqb-true, eqb-false, ltb-true, ltb-false}
-use Rattle.task_model.specs.Env.{SlotTerm, plain_slot, place_slot}
-use Rattle.task_model.specs.Tree.{TreeTerm, edit_tree, enter_tree, share_tree, then_tree, next_tree, fail_tree, and_tree, or_tree, xor_tree}
-use Rattle.task_model.specs.Foot.{with_place, with_places, with_foot, foot, among}
+use Rattle.task_model.specs.Terms.Env.{SlotTerm, plain_slot, place_slot}
+use Rattle.task_model.specs.Terms.Tree.{TreeTerm, edit_tree, enter_tree, share_tree, then_tree, next_tree, fail_tree, and_tree, or_tree, xor_tree}
+use Rattle.task_model.specs.Running.Foot.{with_place, with_places, with_foot, foot, among}
 use Rattle.task_laws.specs.TreePlaces.{slot_places, places_in}
 
 -- ---- membership

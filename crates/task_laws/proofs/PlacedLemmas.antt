@@ -2,16 +2,16 @@
 use Rattle.std.proofs.Common.{◌≡◌, ℕ, ◌+◌, List, [], ◌∷◌, ◌++◌, refl, sym, subst, arith, append_assoc, append-nil}
 use Rattle.std.specs.List.{All}
 use Rattle.std.proofs.lemmas.List.Elements.{All-nil, All-push}
-use Rattle.task_model.specs.Text.{Text}
-use Rattle.task_model.specs.Task.{BodyTerm}
-use Rattle.task_model.specs.Program.{DefTerm, ProgramTerm}
-use Rattle.task_model.specs.Checked.{param_names}
-use Rattle.task_model.specs.Grammar.{Form, program, choice, chain, internal, external, Parse, no_definitions, more_definitions, function, task_named, task_let, task_if, task_case, task_new, task_put, task_plain, task_then, task_next, task_edit, task_enter, task_share, task_fail, task_call, task_group, single, joined}
-use Rattle.task_model.specs.Meaning.{meaning, bodies, bodies_of, program_of}
-use Rattle.task_model.specs.FullTask.{full_in}
-use Rattle.task_model.specs.TaskDemands.{bodies_in_place}
-use Rattle.task_model.specs.Placed.{Placed, IsPlacedIn, IsPlaced}
-use Rattle.task_model.specs.Written.{IsWritten}
+use Rattle.task_model.specs.Terms.Text.{Text}
+use Rattle.task_model.specs.Terms.Task.{BodyTerm}
+use Rattle.task_model.specs.Terms.Program.{DefTerm, ProgramTerm}
+use Rattle.task_model.specs.Running.Checked.{param_names}
+use Rattle.task_model.specs.Syntax.Grammar.{Form, program, choice, chain, internal, external, Parse, no_definitions, more_definitions, function, task_named, task_let, task_if, task_case, task_new, task_put, task_plain, task_then, task_next, task_edit, task_enter, task_share, task_fail, task_call, task_group, single, joined}
+use Rattle.task_model.specs.Syntax.Meaning.{meaning, bodies, bodies_of, program_of}
+use Rattle.task_model.specs.Checking.FullTask.{full_in}
+use Rattle.task_model.specs.Checking.TaskDemands.{bodies_in_place}
+use Rattle.task_model.specs.Checking.Placed.{Placed, IsPlacedIn, IsPlaced}
+use Rattle.task_model.specs.Syntax.Written.{IsWritten}
 use Rattle.task_model.proofs.BodyCounts.{bodies_count}
 use Rattle.task_laws.proofs.ParseLemmas.{IsTask, whole, Places, places_first, places_second, in_place}
 

@@ -5,14 +5,14 @@ use Rattle.std.specs.List.{All, AllByRecursion}
 use Rattle.std.proofs.lemmas.Bool.{cases_lt}
 use Rattle.std.proofs.lemmas.Bool.Decides.{eqb_tells}
 use Rattle.std.proofs.lemmas.List.Elements.{All-nil, All-cons, All-push, All-append, recursion_from_All}
-use Rattle.task_model.specs.Text.{Text}
-use Rattle.task_model.specs.Task.{TaskTerm, BodyTerm}
-use Rattle.task_model.specs.Program.{ProgramTerm}
-use Rattle.task_model.specs.Checked.{Start, nodes_in, starts_in, start_of, all_starts, nodes_of, counts_of, counts_from, body_nodes}
-use Rattle.task_model.specs.Grammar.{Form, task, series, choice, chain, internal, external, Parse, task_let, task_if, task_case, task_new, task_put, task_plain, task_then, task_next, task_edit, task_enter, task_share, task_fail, task_call, task_group, single, joined}
-use Rattle.task_model.specs.Meaning.{meaning, bodies, bodies_of}
-use Rattle.task_model.specs.TaskDemands.{bodies_in_place}
-use Rattle.task_model.specs.Placed.{edit_nodes, task_firsts}
+use Rattle.task_model.specs.Terms.Text.{Text}
+use Rattle.task_model.specs.Terms.Task.{TaskTerm, BodyTerm}
+use Rattle.task_model.specs.Terms.Program.{ProgramTerm}
+use Rattle.task_model.specs.Running.Checked.{Start, nodes_in, starts_in, start_of, all_starts, nodes_of, counts_of, counts_from, body_nodes}
+use Rattle.task_model.specs.Syntax.Grammar.{Form, task, series, choice, chain, internal, external, Parse, task_let, task_if, task_case, task_new, task_put, task_plain, task_then, task_next, task_edit, task_enter, task_share, task_fail, task_call, task_group, single, joined}
+use Rattle.task_model.specs.Syntax.Meaning.{meaning, bodies, bodies_of}
+use Rattle.task_model.specs.Checking.TaskDemands.{bodies_in_place}
+use Rattle.task_model.specs.Checking.Placed.{edit_nodes, task_firsts}
 use Rattle.task_model.proofs.BodyCounts.{bodies_count}
 use Rattle.task_laws.proofs.ParseLemmas.{IsTask, term_at, whole, body_of, Places, places_first, places_second, body_passed}
 use Rattle.task_laws.proofs.CountLemmas.{Counts, counts_first, counts_second, count_passed, count_here, counted, firsts_long, Lists, lists_first, lists_second, lists_tail, lists_head, item_passed, Items, items_first, items_second}

@@ -4,15 +4,15 @@ use Rattle.std.specs.Prelude.{Some, slice_get}
 use Rattle.std.specs.List.{All}
 use Rattle.std.proofs.lemmas.List.Elements.{All-nil, All-append, recursion_from_All}
 use Rattle.std.proofs.lemmas.Option.{slice_get_within}
-use Rattle.task_model.specs.Task.{BodyTerm}
-use Rattle.task_model.specs.Program.{DefBodyTerm, DefTerm, ProgramTerm}
-use Rattle.task_model.specs.Checked.{Start, start_of, all_starts, counts_of, what_nodes, defs_nodes, what_starts, defs_starts, body_first, param_names}
-use Rattle.task_model.specs.Grammar as grammar
-use Rattle.task_model.specs.Grammar.{Parse, no_definitions, more_definitions, function, task_named}
-use Rattle.task_model.specs.Meaning.{meaning, bodies, bodies_of, program_of}
-use Rattle.task_model.specs.TaskDemands.{bodies_in_place}
-use Rattle.task_model.specs.Placed.{edit_nodes, task_firsts, what_edits, what_firsts, firsts_in, firsts_of}
-use Rattle.task_model.specs.Written.{IsWritten}
+use Rattle.task_model.specs.Terms.Task.{BodyTerm}
+use Rattle.task_model.specs.Terms.Program.{DefBodyTerm, DefTerm, ProgramTerm}
+use Rattle.task_model.specs.Running.Checked.{Start, start_of, all_starts, counts_of, what_nodes, defs_nodes, what_starts, defs_starts, body_first, param_names}
+use Rattle.task_model.specs.Syntax.Grammar as grammar
+use Rattle.task_model.specs.Syntax.Grammar.{Parse, no_definitions, more_definitions, function, task_named}
+use Rattle.task_model.specs.Syntax.Meaning.{meaning, bodies, bodies_of, program_of}
+use Rattle.task_model.specs.Checking.TaskDemands.{bodies_in_place}
+use Rattle.task_model.specs.Checking.Placed.{edit_nodes, task_firsts, what_edits, what_firsts, firsts_in, firsts_of}
+use Rattle.task_model.specs.Syntax.Written.{IsWritten}
 use Rattle.task_model.proofs.BodyCounts.{bodies_count}
 use Rattle.task_laws.proofs.ParseLemmas.{both, in_place}
 use Rattle.task_laws.proofs.CountLemmas.{counted, firsts_long}

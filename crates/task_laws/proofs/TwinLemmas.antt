@@ -3,12 +3,12 @@ use Rattle.std.proofs.Common.{◌≡◌, ◌↔◌, ◌≤◌, ◌<◌, ℕ, zer
 use Rattle.std.specs.Prelude.{slice_get, slice_set}
 use Rattle.std.specs.Option.{option_or}
 use Rattle.std.proofs.lemmas.List.{length-set, length_push}
-use Rattle.task_model.specs.Text.{Text, same_text}
-use Rattle.task_model.specs.Value.{ValueTerm}
-use Rattle.task_model.specs.Env.{SlotTerm, plain_slot, place_slot}
-use Rattle.task_model.specs.Tree.{TreeTerm, edit_tree, enter_tree, share_tree, then_tree, next_tree, fail_tree, and_tree, or_tree, xor_tree}
-use Rattle.task_model.specs.Checked.{found}
-use Rattle.task_model.specs.Rules.{paired, value_of}
+use Rattle.task_model.specs.Terms.Text.{Text, same_text}
+use Rattle.task_model.specs.Terms.Value.{ValueTerm}
+use Rattle.task_model.specs.Terms.Env.{SlotTerm, plain_slot, place_slot}
+use Rattle.task_model.specs.Terms.Tree.{TreeTerm, edit_tree, enter_tree, share_tree, then_tree, next_tree, fail_tree, and_tree, or_tree, xor_tree}
+use Rattle.task_model.specs.Running.Checked.{found}
+use Rattle.task_model.specs.Running.Rules.{paired, value_of}
 
 -- ---- lists, place by place
 list_by_places : {A : Type 0} (xs ys : List A) → ((n : ℕ) → slice_get xs n ≡ slice_get ys n) → xs ≡ ys

@@ -2,13 +2,13 @@
 use Rattle.std.proofs.Common.{◌≡◌, inl, inr, ℕ, suc, ◌+◌, List, [], ◌∷◌, ◌++◌, refl, subst, arith, append_assoc}
 use Rattle.std.specs.Prelude.{Option, Some, None}
 use Rattle.std.specs.List.{All}
-use Rattle.task_model.specs.Text.{Text}
-use Rattle.task_model.specs.Task.{TaskTerm, BodyTerm}
-use Rattle.task_model.specs.Program.{ProgramTerm}
-use Rattle.task_model.specs.Checked.{Start, starts_in, nodes_of}
-use Rattle.task_model.specs.Grammar.{Form, task, series, choice, chain, internal, external, Parse, task_let, task_if, task_case, task_new, task_put, task_plain, task_then, task_next, task_edit, task_enter, task_share, task_fail, task_call, task_group, single, joined}
-use Rattle.task_model.specs.Meaning.{meaning, bodies, bodies_of}
-use Rattle.task_model.specs.Placed.{edit_nodes, task_firsts}
+use Rattle.task_model.specs.Terms.Text.{Text}
+use Rattle.task_model.specs.Terms.Task.{TaskTerm, BodyTerm}
+use Rattle.task_model.specs.Terms.Program.{ProgramTerm}
+use Rattle.task_model.specs.Running.Checked.{Start, starts_in, nodes_of}
+use Rattle.task_model.specs.Syntax.Grammar.{Form, task, series, choice, chain, internal, external, Parse, task_let, task_if, task_case, task_new, task_put, task_plain, task_then, task_next, task_edit, task_enter, task_share, task_fail, task_call, task_group, single, joined}
+use Rattle.task_model.specs.Syntax.Meaning.{meaning, bodies, bodies_of}
+use Rattle.task_model.specs.Checking.Placed.{edit_nodes, task_firsts}
 use Rattle.task_laws.proofs.ParseLemmas.{IsTask, term_at, whole, body_of}
 use Rattle.task_laws.proofs.CountLemmas.{lists_head}
 use Rattle.task_laws.proofs.StartLemmas.{Known, known_first, known_second, Walked, Right, Stands, stands_tail, halves, parts, sides, right_starts, stay, composed, relisted, passed}

@@ -1,11 +1,11 @@
 -- What it is for an input to act at an address.
 use Rattle.std.specs.Prelude.{◌≡◌, ◌↔◌, ℕ, List, [], Option, Some}
-use Rattle.task_model.specs.Value.{ValueTerm}
-use Rattle.task_model.specs.Tree.{TreeTerm, State, at}
-use Rattle.task_model.specs.Input.{ActTerm}
-use Rattle.task_model.specs.Checked.{CheckedTerm}
-use Rattle.task_model.specs.Handling.{rebuilt, Handled}
-use Rattle.task_model.specs.Address.{Address, node_at, with_node}
+use Rattle.task_model.specs.Terms.Value.{ValueTerm}
+use Rattle.task_model.specs.Terms.Tree.{TreeTerm, State, at}
+use Rattle.task_model.specs.Terms.Input.{ActTerm}
+use Rattle.task_model.specs.Running.Checked.{CheckedTerm}
+use Rattle.task_model.specs.Running.Handling.{rebuilt, Handled}
+use Rattle.task_model.specs.Running.Address.{Address, node_at, with_node}
 use Rattle.task_model.specs.declared.input.Turn.{Turn}
 
 -- There is a node at the address. The act is handled in the tree as it is handled at that node with no turns left, in the same units

@@ -2,8 +2,8 @@
 use Rattle.std.specs.Prelude.{ℕ, suc, Bool, true, false, if◌then◌else◌, List, [], ◌∷◌, ◌++◌, map}
 use Rattle.task_model.specs.declared.keyword.Keyword.TheVariants as words
 use Rattle.task_model.specs.declared.symbol.Symbol.TheVariants as signs
-use Rattle.task_model.specs.Lexemes.{Lexeme, keyword, symbol, name}
-use Rattle.task_model.specs.Grammar.{Form, choice, chain, internal, external, Parse, more_definitions, task_named, task_let, task_if, task_case, task_new, task_put, task_plain, task_then, task_next, task_group, single, joined, operator, tokens}
+use Rattle.task_model.specs.Syntax.Lexemes.{Lexeme, keyword, symbol, name}
+use Rattle.task_model.specs.Syntax.Grammar.{Form, choice, chain, internal, external, Parse, more_definitions, task_named, task_let, task_if, task_case, task_new, task_put, task_plain, task_then, task_next, task_group, single, joined, operator, tokens}
 
 -- whether a token is the word `edit` or `share`
 abbrev pub is_edit_word : Lexeme → Bool

@@ -1,7 +1,7 @@
 -- What the same work does to two stores that agree on some places (docs/RULES.md, "Feet").
 use Rattle.std.specs.Prelude.{◌≡◌, ◌≤◌, ◌<◌, ℕ, true, false, List, length, slice_get}
-use Rattle.task_model.specs.Value.{ValueTerm}
-use Rattle.task_model.specs.Foot.{among}
+use Rattle.task_model.specs.Terms.Value.{ValueTerm}
+use Rattle.task_model.specs.Running.Foot.{among}
 
 -- From σ to σ', and from τ to τ': afterwards both have one length, which is no less, and agree on these places and on all that are new.
 -- At every other place each is as it was.

@@ -1,7 +1,7 @@
 -- The places in a tree, from left to right, each as often as it stands there (docs/RULES.md, "Feet").
 use Rattle.std.specs.Prelude.{ℕ, List, [], ◌∷◌, ◌++◌}
-use Rattle.task_model.specs.Env.{SlotTerm, plain_slot, place_slot}
-use Rattle.task_model.specs.Tree.{TreeTerm, edit_tree, enter_tree, share_tree, then_tree, next_tree, fail_tree, and_tree, or_tree, xor_tree}
+use Rattle.task_model.specs.Terms.Env.{SlotTerm, plain_slot, place_slot}
+use Rattle.task_model.specs.Terms.Tree.{TreeTerm, edit_tree, enter_tree, share_tree, then_tree, next_tree, fail_tree, and_tree, or_tree, xor_tree}
 
 -- those of slots
 abbrev pub slot_places : List SlotTerm → List ℕ

@@ -1,9 +1,9 @@
 -- A parse has as many bodies as it says.
 use Rattle.std.proofs.Common.{◌≡◌, ℕ, suc, ◌+◌, List, [], ◌∷◌, ◌++◌, length, refl, ap, arith, length-append}
 use Rattle.std.specs.Prelude.{None, Some}
-use Rattle.task_model.specs.Text.{Text}
-use Rattle.task_model.specs.Grammar.{parameters, arguments, list, choice, chain, internal, external, Form, Parse, more_definitions, task_named, task_let, task_if, task_case, task_new, task_put, task_plain, task_then, task_next, task_group, single, joined, full}
-use Rattle.task_model.specs.Meaning.{meaning, bodies, bodies_of}
+use Rattle.task_model.specs.Terms.Text.{Text}
+use Rattle.task_model.specs.Syntax.Grammar.{parameters, arguments, list, choice, chain, internal, external, Form, Parse, more_definitions, task_named, task_let, task_if, task_case, task_new, task_put, task_plain, task_then, task_next, task_group, single, joined, full}
+use Rattle.task_model.specs.Syntax.Meaning.{meaning, bodies, bodies_of}
 
 pub two : {A : Type 0} (xs ys : List A) {n m : ℕ} → length xs ≡ n → length ys ≡ m → length (xs ++ ys) ≡ n + m
 two xs ys h k = let e = length-append xs ys in omega (arith, e, h, k)

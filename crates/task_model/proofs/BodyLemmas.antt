@@ -4,7 +4,7 @@ use Rattle.std.proofs.Math.Seq.{take-length}
 use Rattle.std.proofs.lemmas.List.{take-append-drop, length-take-le, length-map, map-append}
 use Rattle.std.specs.Prelude.{◌==◌}
 use Rattle.std.proofs.lemmas.Bool.Decides.{nat_tests}
-use Rattle.task_model.specs.Task.{BodyTerm, body_term}
+use Rattle.task_model.specs.Terms.Task.{BodyTerm, body_term}
 use Rattle.task_model.specs.declared.task.Body.{Body}
 
 -- ---- of the code

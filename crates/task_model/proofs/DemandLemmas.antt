@@ -3,9 +3,9 @@ use Rattle.std.proofs.Common.{◌≡◌, ℕ, ◌≤◌, Bool, true, false, cond
 use Rattle.std.specs.Option.{option_or}
 use Rattle.std.specs.Prelude.{nat_le}
 use Rattle.std.proofs.lemmas.Bool.Decides.{nat_tests}
-use Rattle.task_model.specs.Basic.{BasicTerm, unit_type, bool_type, int_type, text_type, pair_type, list_type}
-use Rattle.task_model.specs.TypeParts.{symbols_of, same_type}
-use Rattle.task_model.specs.TypeFault.{TypeKindTerm, TypeFaultTerm, Demands, met, unmet, ◌⨾◌, IsMet, first_fault, first_unmet, listed, demanded, compared, whole, wanted, sized, mismatch, big_type}
+use Rattle.task_model.specs.Terms.Basic.{BasicTerm, unit_type, bool_type, int_type, text_type, pair_type, list_type}
+use Rattle.task_model.specs.Checking.TypeParts.{symbols_of, same_type}
+use Rattle.task_model.specs.Checking.TypeFault.{TypeKindTerm, TypeFaultTerm, Demands, met, unmet, ◌⨾◌, IsMet, first_fault, first_unmet, listed, demanded, compared, whole, wanted, sized, mismatch, big_type}
 
 both_none : {A : Type 0} (o q : Option A) → o ≡ None → q ≡ None → option_or o q ≡ None
 both_none o q e f = rw e f

@@ -1,11 +1,11 @@
 -- Each tree has exactly one list of offers, and exactly one list of widgets.
 use Rattle.std.proofs.Common.{◌≡◌, ℕ, List, [], ◌∷◌, ◌++◌, refl, sym, ap, ◌∙◌}
-use Rattle.task_model.specs.Value.{ValueTerm}
-use Rattle.task_model.specs.Tree.{TreeTerm, edit_tree, enter_tree, share_tree, then_tree, next_tree, fail_tree, and_tree, or_tree, xor_tree}
-use Rattle.task_model.specs.Checked.{CheckedTerm}
-use Rattle.task_model.specs.Rules.{value_of, side}
-use Rattle.task_model.specs.Offer.{OfferTerm, next_offer, left_offer, right_offer, offered, both_offers, AreOffers}
-use Rattle.task_model.specs.Widget.{WidgetTerm, then_shape, step_shape, and_shape, or_shape, pick_shape, here, both_widgets, AreWidgets}
+use Rattle.task_model.specs.Terms.Value.{ValueTerm}
+use Rattle.task_model.specs.Terms.Tree.{TreeTerm, edit_tree, enter_tree, share_tree, then_tree, next_tree, fail_tree, and_tree, or_tree, xor_tree}
+use Rattle.task_model.specs.Running.Checked.{CheckedTerm}
+use Rattle.task_model.specs.Running.Rules.{value_of, side}
+use Rattle.task_model.specs.Running.Offer.{OfferTerm, next_offer, left_offer, right_offer, offered, both_offers, AreOffers}
+use Rattle.task_model.specs.Showing.Widget.{WidgetTerm, then_shape, step_shape, and_shape, or_shape, pick_shape, here, both_widgets, AreWidgets}
 use Rattle.task_model.proofs.SignLemmas.{sign_exists, sign_once, step_sign_exists, step_sign_once}
 
 both_offers-same : (xs ys us zs : List OfferTerm) → xs ≡ us → ys ≡ zs → both_offers xs ys ≡ both_offers us zs

@@ -1,19 +1,19 @@
 -- Each input has exactly one outcome, and an opening or a history at most one state.
 use Rattle.std.proofs.Common.{◌≡◌, ℕ, ◌+◌, max, List, [], ◌∷◌, ◌++◌, Option, Some, None, refl, sym, ap, ◌∙◌, subst, arith}
-use Rattle.task_model.specs.Tree.{State}
-use Rattle.task_model.specs.Env.{empty_env}
-use Rattle.task_model.specs.Task.{call_task}
-use Rattle.task_model.specs.Input.{InputTerm}
-use Rattle.task_model.specs.Item.{ItemTerm, opened, took}
-use Rattle.task_model.specs.Checked.{CheckedTerm}
-use Rattle.task_model.specs.Plan.{normal, ask, give, plan_work, Derives}
-use Rattle.task_model.specs.Rules.{rule_of}
-use Rattle.task_model.specs.Judgements.{IsWithinBudget}
-use Rattle.task_model.specs.Handling.{handles, settled, interacts, Interacts}
-use Rattle.task_model.specs.Outcome.{Outcome, taken, not_offered, over_budget, IsTaken, IsNotOffered, IsOutcome}
-use Rattle.task_model.specs.Program.{main_name}
-use Rattle.task_model.specs.Accepted.{typed_program}
-use Rattle.task_model.specs.State.{IsOpening, LeadTo, IsReached, IsState}
+use Rattle.task_model.specs.Terms.Tree.{State}
+use Rattle.task_model.specs.Terms.Env.{empty_env}
+use Rattle.task_model.specs.Terms.Task.{call_task}
+use Rattle.task_model.specs.Terms.Input.{InputTerm}
+use Rattle.task_model.specs.Terms.Item.{ItemTerm, opened, took}
+use Rattle.task_model.specs.Running.Checked.{CheckedTerm}
+use Rattle.task_model.specs.Running.Plan.{normal, ask, give, plan_work, Derives}
+use Rattle.task_model.specs.Running.Rules.{rule_of}
+use Rattle.task_model.specs.Running.Judgements.{IsWithinBudget}
+use Rattle.task_model.specs.Running.Handling.{handles, settled, interacts, Interacts}
+use Rattle.task_model.specs.Running.Outcome.{Outcome, taken, not_offered, over_budget, IsTaken, IsNotOffered, IsOutcome}
+use Rattle.task_model.specs.Terms.Program.{main_name}
+use Rattle.task_model.specs.Checking.Accepted.{typed_program}
+use Rattle.task_model.specs.Running.State.{IsOpening, LeadTo, IsReached, IsState}
 use Rattle.task_model.proofs.WorkLemmas.{Agree}
 use Rattle.task_model.proofs.PlanLemmas.{agree_work, at_most_one, work_after, after_work}
 use Rattle.task_model.proofs.DecideLemmas.{Ends, ends, ends_never, plan_ends}

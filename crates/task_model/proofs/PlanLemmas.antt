@@ -1,8 +1,8 @@
 -- Laws of all rules at once.
 use Rattle.std.proofs.Common.{◌≡◌, ℕ, zero, suc, ◌+◌, max, ◌≤◌, refl, sym, ◌∙◌, subst, arith, le_refl}
-use Rattle.task_model.specs.Tree.{State}
-use Rattle.task_model.specs.Work.{Work, never, then_on, rule}
-use Rattle.task_model.specs.Plan.{Judgement, strides, Derived, Plan, give, stuck, ask, unit, stride_on, after, StrideList, last_stride, more_strides, plan_work, derives_at, Derives}
+use Rattle.task_model.specs.Terms.Tree.{State}
+use Rattle.task_model.specs.Running.Work.{Work, never, then_on, rule}
+use Rattle.task_model.specs.Running.Plan.{Judgement, strides, Derived, Plan, give, stuck, ask, unit, stride_on, after, StrideList, last_stride, more_strides, plan_work, derives_at, Derives}
 use Rattle.task_model.proofs.WorkLemmas.{Agree, agree_never, agree_never', agree_gives, agree_then, agree_rule, agree_unit, Low, low_same, low_then, low_unit, Under, under_never, under_gives, under_then, under_unit}
 
 module _ (one one' : State → Work State) (r : (s : State) → Agree (one s) (one' s)) where

@@ -2,14 +2,14 @@
 use Rattle.std.proofs.Common.{◌≡◌, ◌≢◌, ℕ, suc, ◌+◌, ◌≤◌, max, Result, Ok, Err, refl, sym, ap, ◌∙◌, subst, arith, IfOk, IfErr}
 use Rattle.std.specs.Result.{IsErrAnd}
 use Rattle.std.proofs.lemmas.Result.{IfOk-at_ok}
-use Rattle.task_model.specs.Left.{Left}
-use Rattle.task_model.specs.Work.{Work, never, gives, then_on}
-use Rattle.task_model.specs.Spends.{Spends, RunsAtHeight}
-use Rattle.task_model.specs.Tree.{State}
-use Rattle.task_model.specs.Checked.{CheckedTerm}
-use Rattle.task_model.specs.Plan.{Judgement, strides, Derived, Plan, give, ask, unit, stride_on, after, StrideList, last_stride, more_strides, plan_work, derives_at, Derives}
-use Rattle.task_model.specs.Rules.{rule_of}
-use Rattle.task_model.specs.Calls.{RunsJudgement, RunsPlan}
+use Rattle.task_model.specs.Terms.Left.{Left}
+use Rattle.task_model.specs.Running.Work.{Work, never, gives, then_on}
+use Rattle.task_model.specs.Running.Spends.{Spends, RunsAtHeight}
+use Rattle.task_model.specs.Terms.Tree.{State}
+use Rattle.task_model.specs.Running.Checked.{CheckedTerm}
+use Rattle.task_model.specs.Running.Plan.{Judgement, strides, Derived, Plan, give, ask, unit, stride_on, after, StrideList, last_stride, more_strides, plan_work, derives_at, Derives}
+use Rattle.task_model.specs.Running.Rules.{rule_of}
+use Rattle.task_model.specs.Syntax.Calls.{RunsJudgement, RunsPlan}
 use Rattle.task_model.specs.declared.purse.Stop.{Stop}
 use Rattle.task_model.specs.declared.purse.Stop.TheVariants.{Over, Memory}
 use Rattle.task_model.specs.declared.memory.OutOfMemory.{OutOfMemory}

@@ -3,10 +3,10 @@ use Rattle.std.proofs.Common.{◌≡◌, suc, List, [], ◌∷◌, map, length, 
 use mathlib.Core.Former.{Count}
 use Rattle.std.specs.declared.alloc.Global.{Global}
 use Rattle.std.specs.declared.sync.Arc.{Arc}
-use Rattle.task_model.specs.Rowed.{Rowed}
-use Rattle.task_model.specs.Text.{Text}
-use Rattle.task_model.specs.Value.{ValueTerm, list_value, more_values, as_values, value_term, row_values, count_of}
-use Rattle.task_model.specs.Host.{call_expr, list_expr, more_exprs, as_exprs, host_term, row_exprs}
+use Rattle.task_model.specs.Terms.Rowed.{Rowed}
+use Rattle.task_model.specs.Terms.Text.{Text}
+use Rattle.task_model.specs.Terms.Value.{ValueTerm, list_value, more_values, as_values, value_term, row_values, count_of}
+use Rattle.task_model.specs.Terms.Host.{call_expr, list_expr, more_exprs, as_exprs, host_term, row_exprs}
 use Rattle.task_model.specs.declared.value.Value as value
 use Rattle.task_model.specs.declared.host.Host as host
 

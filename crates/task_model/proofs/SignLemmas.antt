@@ -1,12 +1,12 @@
 -- A test within a budget has exactly one sign.
 use Rattle.std.proofs.Common.{◌≡◌, ℕ, Bool, true, false, List, Option, Some, None, refl, sym, ◌∙◌}
-use Rattle.task_model.specs.Value.{ValueTerm}
-use Rattle.task_model.specs.Tree.{LaterTerm}
-use Rattle.task_model.specs.Checked.{CheckedTerm}
-use Rattle.task_model.specs.Plan.{Plan, Derives}
-use Rattle.task_model.specs.Rules.{trial, rule_of}
-use Rattle.task_model.specs.Judgements.{IsWithinBudget}
-use Rattle.task_model.specs.Sign.{IsSign, Test, IsStepSign}
+use Rattle.task_model.specs.Terms.Value.{ValueTerm}
+use Rattle.task_model.specs.Terms.Tree.{LaterTerm}
+use Rattle.task_model.specs.Running.Checked.{CheckedTerm}
+use Rattle.task_model.specs.Running.Plan.{Plan, Derives}
+use Rattle.task_model.specs.Running.Rules.{trial, rule_of}
+use Rattle.task_model.specs.Running.Judgements.{IsWithinBudget}
+use Rattle.task_model.specs.Running.Sign.{IsSign, Test, IsStepSign}
 use Rattle.task_model.specs.declared.widget.Sign.{Sign}
 use Rattle.task_model.specs.declared.widget.Sign.TheVariants as signs
 use Rattle.task_model.proofs.WorkLemmas.{Agree}

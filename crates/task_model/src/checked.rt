@@ -1,6 +1,6 @@
 ghost use Rattle.std.specs.Prelude.{◌≡◌};
-ghost use Rattle.task_model.specs.Checked.{SeenChecked, checked_term};
-ghost use Rattle.task_model.specs.Accepted.{IsAccepted};
+ghost use Rattle.task_model.specs.Running.Checked.{SeenChecked, checked_term};
+ghost use Rattle.task_model.specs.Checking.Accepted.{IsAccepted};
 
 use crate::basic::Basic;
 use crate::program::Program;
@@ -18,8 +18,8 @@ impl Model for Checked {
     ghost use Rattle.std.specs.Coded.{codes};
     ghost use Rattle.task_model.specs.contracts.basic.Basic as basics;
     ghost use Rattle.task_model.specs.contracts.program.Program as programs;
-    ghost use Rattle.task_model.specs.Checked.{SeenChecked, checked_term};
-    ghost use Rattle.task_model.specs.Accepted.{IsAccepted};
+    ghost use Rattle.task_model.specs.Running.Checked.{SeenChecked, checked_term};
+    ghost use Rattle.task_model.specs.Checking.Accepted.{IsAccepted};
 
     ghost Value = { SeenChecked };
 

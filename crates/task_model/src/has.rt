@@ -1,8 +1,8 @@
 ghost use Rattle.std.specs.Prelude.{◌≡◌, true, map};
-ghost use Rattle.task_model.specs.Basic.{basic_term};
-ghost use Rattle.task_model.specs.Value.{value_term, as_values};
-ghost use Rattle.task_model.specs.Held.{IsHeld, AreHeld};
-ghost use Rattle.task_model.specs.Value as values;
+ghost use Rattle.task_model.specs.Terms.Basic.{basic_term};
+ghost use Rattle.task_model.specs.Terms.Value.{value_term, as_values};
+ghost use Rattle.task_model.specs.Terms.Held.{IsHeld, AreHeld};
+ghost use Rattle.task_model.specs.Terms.Value as values;
 
 use crate::basic::Basic;
 use crate::limits::{LIST_ELEMENT_LIMIT, TEXT_BYTE_LIMIT};

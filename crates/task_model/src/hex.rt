@@ -1,6 +1,6 @@
 ghost use Rattle.std.specs.Prelude.{◌≡◌, ◌<◌, MatchOption};
-ghost use Rattle.task_model.specs.Token.{IsHex};
-ghost use Rattle.task_model.specs.Token as tokens;
+ghost use Rattle.task_model.specs.Terms.Token.{IsHex};
+ghost use Rattle.task_model.specs.Terms.Token as tokens;
 
 /// The value of a hexadecimal digit, in either case (docs/FORMATS.md, "Literals").
 pub fn hex_value(digit: char) -> Option<u8>

@@ -1,5 +1,5 @@
 ghost use Rattle.std.specs.Prelude.{◌≡◌, IfOk};
-ghost use Rattle.task_model.specs.Input.{act_term, input_term, entry_term};
+ghost use Rattle.task_model.specs.Terms.Input.{act_term, input_term, entry_term};
 
 use crate::input::{Act, Entry, Input, Path};
 use crate::memory::OutOfMemory;

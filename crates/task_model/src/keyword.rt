@@ -1,5 +1,5 @@
 ghost use Rattle.std.specs.Prelude.{◌≡◌};
-ghost use Rattle.task_model.specs.Spelling.{keyword_spelling};
+ghost use Rattle.task_model.specs.Syntax.Spelling.{keyword_spelling};
 
 /// A word that is no name.
 #[derive(Clone, Copy, Debug, PartialEq, Eq)]

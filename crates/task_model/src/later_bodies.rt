@@ -10,11 +10,11 @@ pub struct LaterBodies<'p> {
 
 impl<'p> LaterBodies<'p> {
     ghost use Rattle.std.specs.Prelude.{◌≡◌, ◌∷◌, ◌++◌, None, Some, List, IfNone, IfSome};
-    ghost use Rattle.task_model.specs.Task.{body_term};
+    ghost use Rattle.task_model.specs.Terms.Task.{body_term};
     ghost use Rattle.task_model.specs.declared.task.Body.{Body};
-    ghost use Rattle.task_model.specs.FullTask.{full_body_numbered, full_body};
-    ghost use Rattle.task_model.specs.Printed.{no_body, body_numbered, body_text};
-    ghost use Rattle.task_model.specs.LaterBodies.{later_bodies, later_texts};
+    ghost use Rattle.task_model.specs.Checking.FullTask.{full_body_numbered, full_body};
+    ghost use Rattle.task_model.specs.Syntax.Printed.{no_body, body_numbered, body_text};
+    ghost use Rattle.task_model.specs.Syntax.LaterBodies.{later_bodies, later_texts};
 
     /// The body of this number, with those that it may name.
     pub fn numbered(&self, number: u32) -> Option<NumberedBody<'p>>

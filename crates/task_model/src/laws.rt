@@ -1,19 +1,19 @@
 ghost use Rattle.std.specs.Prelude.{◌≡◌, ◌↔◌, ℕ, Bool, List, Some};
-ghost use Rattle.task_model.specs.Value.{ValueTerm};
-ghost use Rattle.task_model.specs.Tree.{LaterTerm, TreeTerm, State};
-ghost use Rattle.task_model.specs.Input.{InputTerm};
-ghost use Rattle.task_model.specs.Item.{ItemTerm};
-ghost use Rattle.task_model.specs.Checked.{CheckedTerm};
-ghost use Rattle.task_model.specs.Work.{AtMostOne, rule};
-ghost use Rattle.task_model.specs.Plan.{Judgement, Derived, Plan, plan_work, Derives};
-ghost use Rattle.task_model.specs.Rules.{rule_of};
-ghost use Rattle.task_model.specs.Judgements.{Applies, Side, Trial};
-ghost use Rattle.task_model.specs.Handling.{Handled};
-ghost use Rattle.task_model.specs.Outcome.{Outcome, IsOutcome};
-ghost use Rattle.task_model.specs.Sign.{Test};
-ghost use Rattle.task_model.specs.Offer.{OfferTerm, AreOffers};
-ghost use Rattle.task_model.specs.Widget.{WidgetTerm, AreWidgets};
-ghost use Rattle.task_model.specs.State.{IsState};
+ghost use Rattle.task_model.specs.Terms.Value.{ValueTerm};
+ghost use Rattle.task_model.specs.Terms.Tree.{LaterTerm, TreeTerm, State};
+ghost use Rattle.task_model.specs.Terms.Input.{InputTerm};
+ghost use Rattle.task_model.specs.Terms.Item.{ItemTerm};
+ghost use Rattle.task_model.specs.Running.Checked.{CheckedTerm};
+ghost use Rattle.task_model.specs.Running.Work.{AtMostOne, rule};
+ghost use Rattle.task_model.specs.Running.Plan.{Judgement, Derived, Plan, plan_work, Derives};
+ghost use Rattle.task_model.specs.Running.Rules.{rule_of};
+ghost use Rattle.task_model.specs.Running.Judgements.{Applies, Side, Trial};
+ghost use Rattle.task_model.specs.Running.Handling.{Handled};
+ghost use Rattle.task_model.specs.Running.Outcome.{Outcome, IsOutcome};
+ghost use Rattle.task_model.specs.Running.Sign.{Test};
+ghost use Rattle.task_model.specs.Running.Offer.{OfferTerm, AreOffers};
+ghost use Rattle.task_model.specs.Showing.Widget.{WidgetTerm, AreWidgets};
+ghost use Rattle.task_model.specs.Running.State.{IsState};
 
 /// Every judgement has at most one result, one number of units and one height, and so have tests, a cont applied to a value, sides and
 /// trials with the state that they lead to and whether it is failing, and the handling of inputs.

@@ -1,7 +1,7 @@
 ghost use Rattle.std.specs.Prelude.{◌≡◌, IfOk, map};
-ghost use Rattle.task_model.specs.Host.{host_term};
-ghost use Rattle.task_model.specs.Task.{task_term, body_term};
-ghost use Rattle.task_model.specs.Program.{kind_term, param_term, def_body_term, def_term, program_term};
+ghost use Rattle.task_model.specs.Terms.Host.{host_term};
+ghost use Rattle.task_model.specs.Terms.Task.{task_term, body_term};
+ghost use Rattle.task_model.specs.Terms.Program.{kind_term, param_term, def_body_term, def_term, program_term};
 
 use crate::host::Host;
 use crate::memory::{OutOfMemory, boxed};

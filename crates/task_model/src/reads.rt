@@ -1,5 +1,5 @@
 ghost use Rattle.std.specs.Prelude.{◌≡◌, ◌<◌, List, length, Some, slice_get};
-ghost use Rattle.task_model.specs.Value.{ValueTerm, value_term};
+ghost use Rattle.task_model.specs.Terms.Value.{ValueTerm, value_term};
 
 use crate::value::Value;
 

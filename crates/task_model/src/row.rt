@@ -1,6 +1,6 @@
 ghost use Rattle.std.specs.Prelude.{◌≡◌, [], ◌∷◌, ◌++◌, ◌+◌, ◌-◌, ◌<◌, ◌≤◌, ℕ, length, take, IsOk, OnOk, OnErr};
 ghost use Rattle.std.specs.Borrow.{sem};
-ghost use Rattle.task_model.specs.Loans.{LendsItems};
+ghost use Rattle.task_model.specs.Terms.Loans.{LendsItems};
 
 use crate::OutOfMemory;
 use std::alloc::Global;
@@ -15,7 +15,7 @@ pub struct Row<T> {
 
 impl<T> Model for Row<T> {
     ghost use Rattle.std.specs.Prelude.{◌+◌, ◌≤◌, vec_len, vec_capacity};
-    ghost use Rattle.task_model.specs.Rowed.{Rowed, rowed_code};
+    ghost use Rattle.task_model.specs.Terms.Rowed.{Rowed, rowed_code};
 
     ghost Value = { Rowed T };
 

@@ -1,5 +1,5 @@
 ghost use Rattle.std.specs.Prelude.{◌≡◌, [], ◌∷◌, ◌++◌, IfOk};
-ghost use Rattle.task_model.specs.Scope.{scope_names};
+ghost use Rattle.task_model.specs.Terms.Scope.{scope_names};
 
 use crate::memory::{OutOfMemory, share, shared};
 use crate::row::Row;

@@ -1,5 +1,5 @@
 ghost use Rattle.std.specs.Prelude.{◌≡◌};
-ghost use Rattle.task_model.specs.Spelling.{symbol_spelling};
+ghost use Rattle.task_model.specs.Syntax.Spelling.{symbol_spelling};
 
 /// A sign, named for what it is for.
 #[derive(Clone, Copy, Debug, PartialEq, Eq)]

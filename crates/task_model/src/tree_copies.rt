@@ -1,5 +1,5 @@
 ghost use Rattle.std.specs.Prelude.{◌≡◌, IfOk};
-ghost use Rattle.task_model.specs.Tree.{cont_term, delay_term, tree_term};
+ghost use Rattle.task_model.specs.Terms.Tree.{cont_term, delay_term, tree_term};
 
 use crate::memory::{OutOfMemory, share};
 use crate::tree::{Cont, Delay, Tree};

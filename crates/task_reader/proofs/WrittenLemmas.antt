@@ -1,11 +1,11 @@
 -- What was read was written.
 use Rattle.std.proofs.Common.{List, ℕ, Result, Ok, Err}
 use Rattle.std.specs.Prelude.{IfOk}
-use Rattle.task_model.specs.Text.{Text}
-use Rattle.task_model.specs.Program.{ProgramTerm}
-use Rattle.task_model.specs.ProgramText.{IsProgramText}
-use Rattle.task_model.specs.Written.{IsWritten}
-use Rattle.program_printer.proofs.Reprinted.{written_again}
+use Rattle.task_model.specs.Terms.Text.{Text}
+use Rattle.task_model.specs.Terms.Program.{ProgramTerm}
+use Rattle.task_model.specs.Syntax.ProgramText.{IsProgramText}
+use Rattle.task_model.specs.Syntax.Written.{IsWritten}
+use Rattle.reader_printer.proofs.Reprinted.{written_again}
 
 pub written_result : {R E : Type 0} (source : Text) (program : R → ProgramTerm) (places : R → List ℕ) (result : Result R E)
     → IfOk result (λ r. IsProgramText source (program r) (places r)) → IfOk result (λ r. IsWritten (program r))

@@ -1,8 +1,8 @@
 ghost use Rattle.std.specs.Prelude.{◌≡◌, ◌≤◌, ℕ, List, length, IfOk};
-ghost use Rattle.task_model.specs.Program.{program_term};
-ghost use Rattle.task_model.specs.ProgramText.{IsProgramText};
-ghost use Rattle.task_model.specs.Printed.{program_text};
-ghost use Rattle.task_model.specs.Written.{IsWritten};
+ghost use Rattle.task_model.specs.Terms.Program.{program_term};
+ghost use Rattle.task_model.specs.Syntax.ProgramText.{IsProgramText};
+ghost use Rattle.task_model.specs.Syntax.Printed.{program_text};
+ghost use Rattle.task_model.specs.Syntax.Written.{IsWritten};
 
 use std::alloc::Global;
 use task_model::{OutOfMemory, Program, TaskText};
@@ -14,5 +14,5 @@ pub fn print_program(alloc: Global, program: &Program) -> Result<TaskText, OutOf
     ensures again { IsWritten (program_term program.now)
         → IfOk result (λ t. length t ≤ 1048576 → (places : List ℕ) × IsProgramText t (program_term program.now) places) }
 {
-    program_printer::print_program(alloc, program)
+    reader_printer::print_program(alloc, program)
 }

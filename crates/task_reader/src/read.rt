@@ -1,10 +1,10 @@
 ghost use Rattle.std.specs.Prelude.{◌≡◌, ℕ, List, IfOk, IfErr, MatchResult};
-ghost use Rattle.task_model.specs.Program.{ProgramTerm, program_term};
-ghost use Rattle.task_model.specs.ProgramText.{IsProgramText};
-ghost use Rattle.program_grammar.specs.Faults.{IsReadStop};
-ghost use Rattle.task_model.specs.Written.{IsWritten};
+ghost use Rattle.task_model.specs.Terms.Program.{ProgramTerm, program_term};
+ghost use Rattle.task_model.specs.Syntax.ProgramText.{IsProgramText};
+ghost use Rattle.reader_grammar.specs.Faults.{IsReadStop};
+ghost use Rattle.task_model.specs.Syntax.Written.{IsWritten};
 
-use program_reader::Read;
+use reader_programs::Read;
 use std::alloc::Global;
 use task_syntax::ReadStop;
 
@@ -17,5 +17,5 @@ pub fn read_program(alloc: Global, bytes: &[u8]) -> Result<Read, ReadStop>
     ensures written { IfOk result (λ r. IsWritten (program_term r.program)) }
     ensures fault { IfErr result (IsReadStop bytes.now) }
 {
-    program_reader::read_program(alloc, bytes)
+    reader_programs::read_program(alloc, bytes)
 }

@@ -8,8 +8,8 @@ use Rattle.std.proofs.Math.Seq.{drop-cons}
 use Rattle.std.proofs.Math.Utf8.{scalar}
 use Rattle.std.proofs.lemmas.Bool.Decides.{nat_tests}
 use Rattle.std.proofs.lemmas.Str.{encode_ascii, encode_same, cons_from_encodes, encodes-append}
-use Rattle.task_model.specs.Text.{Text}
-use Rattle.task_model.specs.Token.{AreDigits, IsDigit, number_from}
+use Rattle.task_model.specs.Terms.Text.{Text}
+use Rattle.task_model.specs.Terms.Token.{AreDigits, IsDigit, number_from}
 use Rattle.task_syntax.specs.Runs.{BeginsWithCharacter, IsRun}
 
 -- ---- one character

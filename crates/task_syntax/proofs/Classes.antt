@@ -7,8 +7,8 @@ use Rattle.std.specs.Str.{encode_utf8_all}
 use Rattle.std.proofs.lemmas.Bool.Decides.{nat_tests}
 use Rattle.unicode_ident.specs.Ident.{is_xid_start}
 use Rattle.unicode_ident.proofs.IdentLemmas.{is_xid_start-ascii}
-use Rattle.task_model.specs.Text.{Text}
-use Rattle.task_model.specs.Token.{TokenKindTerm, name_token, keyword_token, number_token, text_token, symbol_token, keywords, symbols, IsBlank, Spells}
+use Rattle.task_model.specs.Terms.Text.{Text}
+use Rattle.task_model.specs.Terms.Token.{TokenKindTerm, name_token, keyword_token, number_token, text_token, symbol_token, keywords, symbols, IsBlank, Spells}
 use Rattle.task_syntax.specs.Runs.{BeginsWithCharacter}
 use Rattle.task_syntax.proofs.Bytes.{low_begins, begins_same, begins_more, digit-is, no_char}
 use Rattle.task_syntax.proofs.Words.{any_same}

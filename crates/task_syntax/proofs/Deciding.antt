@@ -5,8 +5,8 @@ use Rattle.std.specs.Str.{encode_utf8_all, all_scalars, IsUtf8}
 use Rattle.std.proofs.Math.Utf8.{scalar}
 use Rattle.std.proofs.lemmas.Bool.Decides.{nat_tests}
 use Rattle.std.proofs.lemmas.Bool.{cases_lt}
-use Rattle.task_model.specs.Text.{Text}
-use Rattle.task_model.specs.Token.{TextPart, raw, hex, spelled, PartIs, PartsAre, Escapes, quote, backslash, line_feed, tab, carriage_return, IsHex, hex_value, Piece, lexeme, piece_bytes}
+use Rattle.task_model.specs.Terms.Text.{Text}
+use Rattle.task_model.specs.Terms.Token.{TextPart, raw, hex, spelled, PartIs, PartsAre, Escapes, quote, backslash, line_feed, tab, carriage_return, IsHex, hex_value, Piece, lexeme, piece_bytes}
 use Rattle.task_syntax.specs.declared.stop.LexKind.{LexKind}
 use Rattle.task_syntax.specs.declared.stop.LexKind.TheVariants.{BadChar, OpenText, BadEscape, LongText}
 use Rattle.task_syntax.specs.declared.token.TokenKind.{TokenKind}

@@ -2,8 +2,8 @@
 use Rattle.std.proofs.Common.{◌≡◌, ◌≢◌, ◌⊎◌, ℕ, ◌+◌, ◌*◌, ◌<◌, List, [], ◌∷◌, ◌++◌, length, refl, sym, ap, ◌∙◌, subst, arith, inl, inr, append_assoc, length-append}
 use Rattle.std.specs.Prelude.{encode_utf8}
 use Rattle.std.proofs.lemmas.Str.{encode_ascii, length-encode, len_utf8_bounds}
-use Rattle.task_model.specs.Text.{Text}
-use Rattle.task_model.specs.Token.{TextPart, raw, letter, hex, part_spelling, spelled, PartIs, PartsAre, Escapes, quote, backslash, line_feed, tab, carriage_return, IsHex, hex_value}
+use Rattle.task_model.specs.Terms.Text.{Text}
+use Rattle.task_model.specs.Terms.Token.{TextPart, raw, letter, hex, part_spelling, spelled, PartIs, PartsAre, Escapes, quote, backslash, line_feed, tab, carriage_return, IsHex, hex_value}
 use Rattle.task_syntax.specs.declared.stop.LexKind.{LexKind}
 use Rattle.task_syntax.specs.declared.stop.LexKind.TheVariants.{BadChar, OpenText, BadEscape, LongText, WideNumber}
 use Rattle.task_syntax.specs.Runs.{BeginsWithCharacter}

@@ -6,13 +6,13 @@ use Rattle.std.specs.Str.{encode_utf8_all, all_scalars}
 use Rattle.std.proofs.Math.Utf8.{scalar}
 use Rattle.std.proofs.lemmas.Bool.Decides.{nat_tests}
 use Rattle.unicode_ident.specs.Ident.{is_xid_start}
-use Rattle.task_model.specs.Text.{Text}
-use Rattle.task_model.specs.Token.{TokenKindTerm, name_token, keyword_token, number_token, text_token, symbol_token, is_keyword, number_from, SpellsNumber, Spells, IsLongest, spelled}
+use Rattle.task_model.specs.Terms.Text.{Text}
+use Rattle.task_model.specs.Terms.Token.{TokenKindTerm, name_token, keyword_token, number_token, text_token, symbol_token, is_keyword, number_from, SpellsNumber, Spells, IsLongest, spelled}
 use Rattle.task_model.specs.declared.keyword.Keyword.{Keyword}
 use Rattle.task_model.specs.declared.symbol.Symbol.{Symbol}
 use Rattle.task_syntax.specs.declared.token.TokenKind.TheVariants as kinds
 use Rattle.task_syntax.specs.declared.run.Run.TheVariants.{Word, Digits}
-use Rattle.task_model.specs.Spelling.{keyword_spelling, symbol_spelling}
+use Rattle.task_model.specs.Syntax.Spelling.{keyword_spelling, symbol_spelling}
 use Rattle.task_syntax.specs.Runs.{BeginsWithCharacter, IsRun, goes_on, is_blank}
 use Rattle.task_syntax.specs.Front.{Leads}
 use Rattle.task_syntax.specs.TextParts.{TextStands}

@@ -5,8 +5,8 @@ use Rattle.std.specs.List.{list_all}
 use Rattle.std.specs.Str.{encode_utf8_all, IsUtf8}
 use Rattle.std.proofs.lemmas.Bool.Decides.{nat_tests}
 use Rattle.std.proofs.lemmas.Str.{inside_one}
-use Rattle.task_model.specs.Text.{Text}
-use Rattle.task_model.specs.Token.{IsBlank, NoLf, EndsLine}
+use Rattle.task_model.specs.Terms.Text.{Text}
+use Rattle.task_model.specs.Terms.Token.{IsBlank, NoLf, EndsLine}
 use Rattle.task_syntax.specs.declared.run.Run.TheVariants.{Line}
 use Rattle.task_syntax.specs.Runs.{BeginsWithCharacter, goes_on, is_blank}
 use Rattle.task_syntax.proofs.Bytes.{same_head, begins_low}

@@ -3,10 +3,10 @@ use Rattle.std.proofs.Common.{◌≡◌, ◌≢◌, ℕ, ◌≤◌, true, false,
 use Rattle.std.specs.Char.{is_ascii_digit}
 use Rattle.std.specs.Str.{encode_utf8_all}
 use Rattle.unicode_ident.specs.Ident.{is_xid_start, is_xid_continue}
-use Rattle.task_model.specs.Text.{Text}
-use Rattle.task_model.specs.Token.{TokenKindTerm, name_token, keyword_token, number_token, text_token, symbol_token, IsWord, AreDigits, Spells, PartsAre, TextPart, spelled, IsLongest}
+use Rattle.task_model.specs.Terms.Text.{Text}
+use Rattle.task_model.specs.Terms.Token.{TokenKindTerm, name_token, keyword_token, number_token, text_token, symbol_token, IsWord, AreDigits, Spells, PartsAre, TextPart, spelled, IsLongest}
 use Rattle.task_model.specs.declared.symbol.Symbol.{Symbol}
-use Rattle.task_model.specs.Spelling.{symbol_spelling}
+use Rattle.task_model.specs.Syntax.Spelling.{symbol_spelling}
 use Rattle.task_syntax.specs.Runs.{BeginsWithCharacter}
 use Rattle.task_syntax.proofs.Bytes.{run_longest, begins_more, low_begins, digits_bytes, digit-is}
 use Rattle.task_syntax.proofs.Words.{keyword_word, word_all, symbol_of, is_symbol-spelling}

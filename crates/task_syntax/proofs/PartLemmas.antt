@@ -1,8 +1,8 @@
 -- Parts of texts: there is one way to read them.
 use Rattle.std.proofs.Common.{◌≡◌, ◌≢◌, ◌⊎◌, ℕ, ◌+◌, ◌*◌, ◌<◌, List, [], ◌∷◌, ◌++◌, refl, sym, ap, ◌∙◌, arith, inl, inr, append_assoc, append-nil}
 use Rattle.std.specs.Prelude.{encode_utf8, if◌then◌else◌, ◌==◌}
-use Rattle.task_model.specs.Text.{Text}
-use Rattle.task_model.specs.Token.{TextPart, raw, letter, hex, part_spelling, spelled, PartIs, PartsAre, Escapes, quote, backslash, line_feed, tab, carriage_return, IsText, hex_value}
+use Rattle.task_model.specs.Terms.Text.{Text}
+use Rattle.task_model.specs.Terms.Token.{TextPart, raw, letter, hex, part_spelling, spelled, PartIs, PartsAre, Escapes, quote, backslash, line_feed, tab, carriage_return, IsText, hex_value}
 use Rattle.task_syntax.specs.Fault.{IsNotRaw, IsNoEscape}
 use Rattle.task_syntax.proofs.Bytes.{same_head, begins_same, begins_byte, no_char}
 

@@ -1,8 +1,8 @@
 -- What was read of a source so far.
 use Rattle.std.proofs.Common.{◌≡◌, ◌≢◌, ℕ, ◌+◌, ◌-◌, ◌<◌, ◌≤◌, List, [], ◌∷◌, ◌++◌, length, take, drop, refl, sym, ap, ◌∙◌, subst, arith, append-nil, length-append, slice_range}
 use Rattle.std.specs.Str.{IsUtf8}
-use Rattle.task_model.specs.Text.{Text}
-use Rattle.task_model.specs.Token.{TokenTerm, IsLongest, IsBlank, NoLf, EndsLine, Piece, blank, comment, lexeme, piece_bytes, bytes_of, AreRight, tokens_from, HasTokens}
+use Rattle.task_model.specs.Terms.Text.{Text}
+use Rattle.task_model.specs.Terms.Token.{TokenTerm, IsLongest, IsBlank, NoLf, EndsLine, Piece, blank, comment, lexeme, piece_bytes, bytes_of, AreRight, tokens_from, HasTokens}
 use Rattle.task_syntax.specs.declared.token.Token.{Token}
 use Rattle.task_syntax.specs.declared.stop.LexKind.{LexKind}
 use Rattle.task_syntax.specs.Tokens.{IsToken, AreTokens, AreSpans}

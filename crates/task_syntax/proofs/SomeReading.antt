@@ -8,13 +8,13 @@ use Rattle.std.proofs.lemmas.Bool.Decides.{nat_tests}
 use Rattle.std.proofs.lemmas.Bool.{cases_lt}
 use Rattle.std.proofs.lemmas.Str.{IsUtf8-past_char}
 use Rattle.unicode_ident.specs.Ident.{is_xid_start}
-use Rattle.task_model.specs.Text.{Text}
-use Rattle.task_model.specs.Token.{TokenTerm, is_keyword, symbols, number_from, Piece, blank, comment, bytes_of, tokens_from, HasTokens}
+use Rattle.task_model.specs.Terms.Text.{Text}
+use Rattle.task_model.specs.Terms.Token.{TokenTerm, is_keyword, symbols, number_from, Piece, blank, comment, bytes_of, tokens_from, HasTokens}
 use Rattle.task_syntax.specs.declared.stop.LexKind.{LexKind}
 use Rattle.task_syntax.specs.declared.stop.LexKind.TheVariants.{BadChar, WideNumber}
 use Rattle.task_syntax.specs.declared.run.Run.TheVariants.{Line, Word, Digits}
 use Rattle.task_model.specs.declared.symbol.Symbol.{Symbol}
-use Rattle.task_model.specs.Spelling.{symbol_spelling}
+use Rattle.task_model.specs.Syntax.Spelling.{symbol_spelling}
 use Rattle.task_syntax.specs.Runs.{IsRun, goes_on, is_blank}
 use Rattle.task_syntax.specs.Fault.{AreRightBefore, HasFault}
 use Rattle.task_syntax.specs.Table.{NoneBegins, FirstBegins, symbols_with}

@@ -10,13 +10,13 @@ use Rattle.std.proofs.lemmas.Bool.Decides.{nat_tests}
 use Rattle.std.proofs.lemmas.Str.{encode_ascii}
 use Rattle.unicode_ident.specs.Ident.{is_xid_continue}
 use Rattle.unicode_ident.proofs.IdentLemmas.{is_xid_start-ascii, is_xid_continue-ascii, is_xid_start-is_xid_continue}
-use Rattle.task_model.specs.Text.{Text}
-use Rattle.task_model.specs.Token.{IsWord, AllContinue, keywords, is_keyword, is_symbol}
+use Rattle.task_model.specs.Terms.Text.{Text}
+use Rattle.task_model.specs.Terms.Token.{IsWord, AllContinue, keywords, is_keyword, is_symbol}
 use Rattle.task_model.specs.declared.keyword.Keyword.{Keyword}
 use Rattle.task_model.specs.declared.keyword.Keyword.TheVariants as words
 use Rattle.task_model.specs.declared.symbol.Symbol.{Symbol}
 use Rattle.task_model.specs.declared.symbol.Symbol.TheVariants as signs
-use Rattle.task_model.specs.Spelling.{keyword_spelling, symbol_spelling}
+use Rattle.task_model.specs.Syntax.Spelling.{keyword_spelling, symbol_spelling}
 
 -- ---- texts in a list
 -- a test that each of some texts passes

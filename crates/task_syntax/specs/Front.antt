@@ -1,7 +1,7 @@
 -- What stands first in the rest of a source.
 use Rattle.std.specs.Prelude.{◌≡◌, ℕ, ◌+◌, ◌++◌, length}
-use Rattle.task_model.specs.Text.{Text}
-use Rattle.task_model.specs.Token.{TokenKindTerm, Spells, IsWithinTokenLimits, IsLongest}
+use Rattle.task_model.specs.Terms.Text.{Text}
+use Rattle.task_model.specs.Terms.Token.{TokenKindTerm, Spells, IsWithinTokenLimits, IsLongest}
 use Rattle.task_syntax.specs.declared.token.TokenKind.{TokenKind}
 use Rattle.task_syntax.specs.declared.stop.Stop.{Stop}
 use Rattle.task_syntax.specs.declared.stop.Stop.TheVariants as stops

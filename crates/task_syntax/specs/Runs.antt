@@ -4,7 +4,7 @@ use Rattle.std.specs.Char.{is_ascii_digit}
 use Rattle.std.specs.List.{list_all}
 use Rattle.std.specs.Str.{encode_utf8_all, all_scalars}
 use Rattle.unicode_ident.specs.Ident.{is_xid_continue}
-use Rattle.task_model.specs.Text.{Text}
+use Rattle.task_model.specs.Terms.Text.{Text}
 use Rattle.task_syntax.specs.declared.run.Run.{Run}
 use Rattle.task_syntax.specs.declared.run.Run.TheVariants.{Line, Word, Digits}
 

@@ -1,6 +1,6 @@
 -- The first of some texts that another begins with, and the symbols by their first character.
 use Rattle.std.specs.Prelude.{ℕ, ◌==◌, if◌then◌else◌, ◌≡◌, List, [], ◌∷◌, ◌++◌}
-use Rattle.task_model.specs.Text.{Text}
+use Rattle.task_model.specs.Terms.Text.{Text}
 use Rattle.task_model.specs.declared.symbol.Symbol.{Symbol}
 use Rattle.task_model.specs.declared.symbol.Symbol.TheVariants as signs
 

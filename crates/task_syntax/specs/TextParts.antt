@@ -1,7 +1,7 @@
 -- What stands first inside a text.
 use Rattle.std.specs.Prelude.{◌≡◌, ℕ, ◌≤◌, List, ◌∷◌, ◌++◌, length, encode_utf8}
-use Rattle.task_model.specs.Text.{Text}
-use Rattle.task_model.specs.Token.{TextPart, PartIs, PartsAre, part_spelling, spelled}
+use Rattle.task_model.specs.Terms.Text.{Text}
+use Rattle.task_model.specs.Terms.Token.{TextPart, PartIs, PartsAre, part_spelling, spelled}
 use Rattle.task_syntax.specs.declared.stop.LexKind.{LexKind}
 use Rattle.task_syntax.specs.declared.stop.LexKind.TheVariants.{BadChar, OpenText, BadEscape, LongText, WideNumber}
 use Rattle.task_syntax.specs.Fault.{IsNotRaw, IsNoEscape}

@@ -1,11 +1,11 @@
 -- The tokens of the code, as the tokens of a source.
 use Rattle.std.specs.Prelude.{◌≡◌, ℕ, pos, ◌+◌, ◌<◌, ◌≤◌, List, [], ◌∷◌, length, slice_range}
-use Rattle.task_model.specs.Text.{Text}
-use Rattle.task_model.specs.Token.{TokenKindTerm, TokenTerm, name_token, keyword_token, number_token, text_token, symbol_token}
+use Rattle.task_model.specs.Terms.Text.{Text}
+use Rattle.task_model.specs.Terms.Token.{TokenKindTerm, TokenTerm, name_token, keyword_token, number_token, text_token, symbol_token}
 use Rattle.task_syntax.specs.declared.token.TokenKind.{TokenKind}
 use Rattle.task_syntax.specs.declared.token.TokenKind.TheVariants as kinds
 use Rattle.task_syntax.specs.declared.token.Token.{Token}
-use Rattle.task_model.specs.Spelling.{keyword_spelling, symbol_spelling}
+use Rattle.task_model.specs.Syntax.Spelling.{keyword_spelling, symbol_spelling}
 
 -- a kind of the code is this kind of the source, with these bytes
 abbrev pub IsKind : TokenKind → TokenKindTerm → Text → Type 0

@@ -1,8 +1,8 @@
 ghost use Rattle.std.specs.Prelude.{◌≡◌, MatchOption, false, map};
 ghost use Rattle.std.specs.List.{list_any};
-ghost use Rattle.task_model.specs.Text.{same_text};
-ghost use Rattle.task_model.specs.Token.{is_keyword};
-ghost use Rattle.task_model.specs.Spelling.{keyword_spelling};
+ghost use Rattle.task_model.specs.Terms.Text.{same_text};
+ghost use Rattle.task_model.specs.Terms.Token.{is_keyword};
+ghost use Rattle.task_model.specs.Syntax.Spelling.{keyword_spelling};
 
 use task_model::Keyword;
 

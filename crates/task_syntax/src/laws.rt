@@ -1,6 +1,6 @@
 ghost use Rattle.std.specs.Prelude.{◌≡◌, ◌⊎◌, ℕ, List, IsUtf8};
-ghost use Rattle.task_model.specs.Text.{Text};
-ghost use Rattle.task_model.specs.Token.{TokenTerm, HasTokens};
+ghost use Rattle.task_model.specs.Terms.Text.{Text};
+ghost use Rattle.task_model.specs.Terms.Token.{TokenTerm, HasTokens};
 ghost use Rattle.task_syntax.specs.declared.stop.LexKind.{LexKind};
 ghost use Rattle.task_syntax.specs.Fault.{HasFault};
 

@@ -1,6 +1,6 @@
 ghost use Rattle.std.specs.Prelude.{◌≡◌, ◌≢◌, ◌+◌, ◌≤◌, [], ◌∷◌, false, ℕ, List, length, MatchResult, IfOk, IfErr};
-ghost use Rattle.task_model.specs.Text.{Text};
-ghost use Rattle.task_model.specs.Token.{TokenTerm, HasTokens};
+ghost use Rattle.task_model.specs.Terms.Text.{Text};
+ghost use Rattle.task_model.specs.Terms.Token.{TokenTerm, HasTokens};
 ghost use Rattle.task_syntax.specs.Fault.{IsLexStop};
 ghost use Rattle.task_syntax.specs.Front.{Leads, LexStopsAt};
 ghost use Rattle.task_syntax.specs.Runs as runs;

@@ -1,7 +1,7 @@
 ghost use Rattle.std.specs.Prelude.{◌≡◌, ◌≤◌, ◌<◌, ℕ, true, MatchOption};
 ghost use Rattle.std.specs.Char.{is_ascii_digit};
 ghost use Rattle.std.specs.List.{list_all};
-ghost use Rattle.task_model.specs.Token.{number_from};
+ghost use Rattle.task_model.specs.Terms.Token.{number_from};
 
 const LIMIT: u64 = 9_223_372_036_854_775_807;
 

@@ -1,6 +1,6 @@
 ghost use Rattle.std.specs.Prelude.{◌≡◌, ◌++◌, ◌<◌, ◌≤◌, ℕ, List, length, MatchOption, IfSome};
 ghost use Rattle.std.specs.Prelude.{map};
-ghost use Rattle.task_model.specs.Spelling.{symbol_spelling};
+ghost use Rattle.task_model.specs.Syntax.Spelling.{symbol_spelling};
 ghost use Rattle.task_syntax.specs.Runs.{BeginsWithCharacter};
 ghost use Rattle.task_syntax.specs.Table.{NoneBegins, FirstBegins, symbols_with};
 

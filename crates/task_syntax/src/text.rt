@@ -1,7 +1,7 @@
 ghost use Rattle.std.specs.Prelude.{◌≡◌, ◌≢◌, ◌∷◌, ◌++◌, ◌<◌, [], true, ℕ, List, MatchOption, MatchResult, encode_utf8};
 ghost use Rattle.std.specs.Str.{all_scalars};
-ghost use Rattle.task_model.specs.Text.{Text};
-ghost use Rattle.task_model.specs.Token.{hex, PartIs};
+ghost use Rattle.task_model.specs.Terms.Text.{Text};
+ghost use Rattle.task_model.specs.Terms.Token.{hex, PartIs};
 ghost use Rattle.task_syntax.specs.Fault.{IsNoEscape};
 ghost use Rattle.task_syntax.specs.Front.{LexStopsAt};
 ghost use Rattle.task_syntax.specs.TextParts.{PartStands, PartFails, TextStands};

@@ -1,6 +1,6 @@
 -- Addresses of the code as plain terms (docs/RULES.md, "Inputs").
 use Rattle.std.specs.Prelude.{List, map}
-use Rattle.task_model.specs.Address.{DownTerm, into_left, into_first, into_second, Address}
+use Rattle.task_model.specs.Running.Address.{DownTerm, into_left, into_first, into_second, Address}
 use Rattle.task_tree.specs.declared.down.Down.{Down}
 use Rattle.task_tree.specs.declared.down.Down.TheVariants as downs
 

@@ -1,7 +1,7 @@
 ghost use Rattle.std.specs.Prelude.{◌≡◌, ◌↔◌, IsTrue, map};
-ghost use Rattle.task_model.specs.Value.{value_term};
-ghost use Rattle.task_model.specs.Env.{slot_term};
-ghost use Rattle.task_model.specs.Tree.{cont_term, delay_term, tree_term};
+ghost use Rattle.task_model.specs.Terms.Value.{value_term};
+ghost use Rattle.task_model.specs.Terms.Env.{slot_term};
+ghost use Rattle.task_model.specs.Terms.Tree.{cont_term, delay_term, tree_term};
 
 use host_eval::same_value;
 use host_types::same_basic;

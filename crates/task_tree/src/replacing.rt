@@ -1,8 +1,8 @@
 ghost use Rattle.std.specs.Prelude.{◌≡◌, IfOk, IsSome};
 ghost use Rattle.std.specs.Option.{option_map};
-ghost use Rattle.task_model.specs.Tree.{tree_term};
-ghost use Rattle.task_model.specs.Address.{with_node};
-ghost use Rattle.task_model.specs.Address as addresses;
+ghost use Rattle.task_model.specs.Terms.Tree.{tree_term};
+ghost use Rattle.task_model.specs.Running.Address.{with_node};
+ghost use Rattle.task_model.specs.Running.Address as addresses;
 ghost use Rattle.task_tree.specs.Down.{address_term};
 
 use crate::down::Down;

@@ -1,9 +1,9 @@
 ghost use Rattle.std.specs.Prelude.{◌≡◌, slice_get, IfOk};
 ghost use Rattle.std.specs.Option.{is_some, option_map};
-ghost use Rattle.task_model.specs.Value as terms;
-ghost use Rattle.task_model.specs.Value.{value_term};
-ghost use Rattle.task_model.specs.Tree.{tree_term};
-ghost use Rattle.task_model.specs.Rules as rules;
+ghost use Rattle.task_model.specs.Terms.Value as terms;
+ghost use Rattle.task_model.specs.Terms.Value.{value_term};
+ghost use Rattle.task_model.specs.Terms.Tree.{tree_term};
+ghost use Rattle.task_model.specs.Running.Rules as rules;
 
 use std::alloc::Global;
 use task_model::{OutOfMemory, Reads, Tree, Value, copy_value, shared};

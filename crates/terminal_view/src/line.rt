@@ -1,9 +1,9 @@
 ghost use Rattle.std.specs.Prelude.{◌≡◌, ◌++◌, codes, IfOk, OnOk, string_bytes};
-ghost use Rattle.task_model.specs.Basic.{basic_term};
-ghost use Rattle.task_model.specs.Value.{value_term};
-ghost use Rattle.task_model.specs.Literal.{basic_text, value_text};
-ghost use Rattle.task_model.specs.Widget.{shape_term, widget_term};
-ghost use Rattle.task_model.specs.Page as model;
+ghost use Rattle.task_model.specs.Terms.Basic.{basic_term};
+ghost use Rattle.task_model.specs.Terms.Value.{value_term};
+ghost use Rattle.task_model.specs.Syntax.Literal.{basic_text, value_text};
+ghost use Rattle.task_model.specs.Showing.Widget.{shape_term, widget_term};
+ghost use Rattle.task_model.specs.Showing.Page as model;
 
 use crate::writing::{push, push_path};
 use literal_text::{print_basic, print_value};

@@ -1,6 +1,6 @@
 ghost use Rattle.std.specs.Prelude.{◌≡◌, ◌++◌, map, IfOk, OnOk, string_bytes};
-ghost use Rattle.task_model.specs.Widget.{widget_term};
-ghost use Rattle.task_model.specs.Page as model;
+ghost use Rattle.task_model.specs.Showing.Widget.{widget_term};
+ghost use Rattle.task_model.specs.Showing.Page as model;
 
 use crate::line::push_line;
 use crate::writing::push;

@@ -1,5 +1,5 @@
 ghost use Rattle.std.specs.Prelude.{◌≡◌, ◌++◌, ◌∷◌, [], OnOk, string_bytes};
-ghost use Rattle.task_model.specs.Page as model;
+ghost use Rattle.task_model.specs.Showing.Page as model;
 
 use task_model::{OutOfMemory, Turn};
 

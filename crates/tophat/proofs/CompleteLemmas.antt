@@ -1,9 +1,9 @@
 -- Where every line is in the grammar, all of them are answered.
 use Rattle.std.proofs.Common.{◌≡◌, ℕ, ◌+◌, ◌≤◌, List, [], ◌∷◌, length, Option, None, Some, ◌⊎◌, inl, inr, refl, sym, ◌∙◌, ap, subst, arith}
 use Rattle.outer_io.specs.Causes.{Rose}
-use Rattle.task_model.specs.Text.{Text}
-use Rattle.task_model.specs.Tree.{State}
-use Rattle.task_model.specs.Checked.{CheckedTerm}
+use Rattle.task_model.specs.Terms.Text.{Text}
+use Rattle.task_model.specs.Terms.Tree.{State}
+use Rattle.task_model.specs.Running.Checked.{CheckedTerm}
 use Rattle.task_model.proofs.OutcomeLemmas.{opening_once}
 use Rattle.world_core.specs.World.{WorldTerm}
 use Rattle.line_frame.specs.Told.{Told}

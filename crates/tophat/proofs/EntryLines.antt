@@ -3,13 +3,13 @@ use Rattle.std.proofs.Common.{◌≡◌, ◌≢◌, ℕ, suc, ◌+◌, ◌/◌, 
 use Rattle.std.specs.Prelude.{codes, decimal, pos, negsuc, ◌==◌, nat_lt, if◌then◌else◌}
 use Rattle.std.proofs.lemmas.Fmt.{decimal_by_steps}
 use Rattle.std.proofs.lemmas.Bool.Decides.{eqb_tells}
-use Rattle.task_model.specs.Text.{Text}
-use Rattle.task_model.specs.Value.{ValueTerm, unit_value, bool_value, int_value, text_value, pair_value, list_value, ValueTerms, no_values, more_values}
-use Rattle.task_model.specs.Literal.{hex_digit, escaped, escaped_all, value_text, rest_text}
-use Rattle.task_model.specs.Held.{IsHeld, AreHeld, IsHeldAct}
-use Rattle.task_model.specs.Input.{ActTerm, set_act, next_act, left_act, right_act, EntryTerm}
-use Rattle.task_model.specs.Page.{path_text, turns_text}
-use Rattle.task_model.specs.State.{IsSeat, IsEntry}
+use Rattle.task_model.specs.Terms.Text.{Text}
+use Rattle.task_model.specs.Terms.Value.{ValueTerm, unit_value, bool_value, int_value, text_value, pair_value, list_value, ValueTerms, no_values, more_values}
+use Rattle.task_model.specs.Syntax.Literal.{hex_digit, escaped, escaped_all, value_text, rest_text}
+use Rattle.task_model.specs.Terms.Held.{IsHeld, AreHeld, IsHeldAct}
+use Rattle.task_model.specs.Terms.Input.{ActTerm, set_act, next_act, left_act, right_act, EntryTerm}
+use Rattle.task_model.specs.Showing.Page.{path_text, turns_text}
+use Rattle.task_model.specs.Running.State.{IsSeat, IsEntry}
 use Rattle.task_model.specs.declared.input.Turn.{Turn}
 use Rattle.task_model.specs.declared.input.Turn.TheVariants as turns
 use Rattle.line_frame.specs.RanOut.{IsLine}

@@ -1,9 +1,9 @@
 -- What bytes are opened to.
 use Rattle.std.proofs.Common.{◌≡◌, ℕ, [], ◌∷◌, Some, None, refl, sym, ◌∙◌, ap, subst}
 use Rattle.std.specs.Prelude.{Result, Ok, Err}
-use Rattle.task_model.specs.Text.{Text}
-use Rattle.task_model.specs.Item.{opened}
-use Rattle.task_model.specs.Checked.{CheckedTerm}
+use Rattle.task_model.specs.Terms.Text.{Text}
+use Rattle.task_model.specs.Terms.Item.{opened}
+use Rattle.task_model.specs.Running.Checked.{CheckedTerm}
 use Rattle.world_core.specs.World.{SeenWorld, WorldTerm}
 use Rattle.tophat.specs.declared.no_world.NoWorld.{NoWorld}
 use Rattle.tophat.specs.declared.no_world.NoWorld.TheVariants.{Refused, OverBudget, Memory}

@@ -4,7 +4,7 @@ use Rattle.std.specs.Prelude.{MatchOption, Result, Ok, Err, IfOk, IfErr}
 use Rattle.std.specs.Io.KnownBytes.{Appends}
 use Rattle.outer_io.specs.Sink.{IsStart}
 use Rattle.line_frame.specs.declared.finish.Finish.TheVariants as finishes
-use Rattle.task_model.specs.Text.{Text}
+use Rattle.task_model.specs.Terms.Text.{Text}
 use Rattle.tophat.specs.declared.ending.Ending.{Ending}
 use Rattle.tophat.specs.declared.ending.Ending.TheVariants.{Usage, FileFault, Unopened, Ran, WriteFault}
 use Rattle.tophat.specs.declared.no_world.NoWorld.TheVariants.{Memory}

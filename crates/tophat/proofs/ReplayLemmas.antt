@@ -1,18 +1,18 @@
 -- The printed entries of a history are taken again, and its page is shown.
 use Rattle.std.proofs.Common.{◌≡◌, ℕ, suc, ◌+◌, ◌≤◌, List, [], ◌∷◌, ◌++◌, length, Some, inl, refl, sym, ◌∙◌, ap, subst, arith, append_assoc, append-nil, length-append}
 use Rattle.std.specs.Prelude.{codes, decimal, false}
-use Rattle.task_model.specs.Text.{Text}
-use Rattle.task_model.specs.Tree.{State}
-use Rattle.task_model.specs.Input.{EntryTerm}
-use Rattle.task_model.specs.Item.{ItemTerm, opened, took}
-use Rattle.task_model.specs.Outcome.{taken}
-use Rattle.task_model.specs.Page.{page_text}
-use Rattle.task_model.specs.Accepted.{IsAccepted, typed_program}
-use Rattle.task_model.specs.Program.{ProgramTerm}
-use Rattle.task_model.specs.Printed.{program_text}
+use Rattle.task_model.specs.Terms.Text.{Text}
+use Rattle.task_model.specs.Terms.Tree.{State}
+use Rattle.task_model.specs.Terms.Input.{EntryTerm}
+use Rattle.task_model.specs.Terms.Item.{ItemTerm, opened, took}
+use Rattle.task_model.specs.Running.Outcome.{taken}
+use Rattle.task_model.specs.Showing.Page.{page_text}
+use Rattle.task_model.specs.Checking.Accepted.{IsAccepted, typed_program}
+use Rattle.task_model.specs.Terms.Program.{ProgramTerm}
+use Rattle.task_model.specs.Syntax.Printed.{program_text}
 use Rattle.task_model.specs.declared.widget.Face.TheVariants as faces
-use Rattle.task_model.specs.Widget.{WidgetTerm, AreWidgets}
-use Rattle.task_model.specs.State.{IsSeat, AreEntries, IsPage, LeadTo, version_of}
+use Rattle.task_model.specs.Showing.Widget.{WidgetTerm, AreWidgets}
+use Rattle.task_model.specs.Running.State.{IsSeat, AreEntries, IsPage, LeadTo, version_of}
 use Rattle.world_core.specs.World.{WorldTerm, with_entry}
 use Rattle.line_frame.specs.Told.{Told}
 use Rattle.line_frame.specs.Script.{TellsScript, lines_in, end_of}

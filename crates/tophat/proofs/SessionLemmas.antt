@@ -2,12 +2,12 @@
 use Rattle.std.proofs.Common.{◌≡◌, ℕ, ◌+◌, ◌≤◌, List, [], ◌∷◌, ◌++◌, length, take, Ok, Err, refl, sym, ap, ◌∙◌, subst, ◌⊎◌, inl, inr, arith, length-take}
 use Rattle.std.specs.Prelude.{codes, decimal}
 use Rattle.std.proofs.lemmas.List.{take_all}
-use Rattle.task_model.specs.Text.{Text}
-use Rattle.task_model.specs.Input.{EntryTerm}
-use Rattle.task_model.specs.Outcome.{taken, not_offered, over_budget}
-use Rattle.task_model.specs.Page.{page_text}
+use Rattle.task_model.specs.Terms.Text.{Text}
+use Rattle.task_model.specs.Terms.Input.{EntryTerm}
+use Rattle.task_model.specs.Running.Outcome.{taken, not_offered, over_budget}
+use Rattle.task_model.specs.Showing.Page.{page_text}
 use Rattle.task_model.specs.declared.widget.Face.TheVariants as faces
-use Rattle.task_model.specs.State.{version_of}
+use Rattle.task_model.specs.Running.State.{version_of}
 use Rattle.task_model.proofs.OutcomeLemmas.{outcome_exists, outcome_once}
 use Rattle.task_model.proofs.OfferLemmas.{widgets_exist, widgets_once}
 use Rattle.task_model.specs.declared.stops.ActStop.TheVariants.{NotOffered, Over}

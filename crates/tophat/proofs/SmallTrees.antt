@@ -1,34 +1,34 @@
 -- The values that the entries of a legal history set have types of at most 64 symbols, so that their printed lines ask for them again.
 use Rattle.std.proofs.Common.{◌≡◌, ℕ, zero, suc, Bool, true, false, List, [], ◌∷◌, ◌++◌, Option, Some, None, refl, sym, subst}
 use Rattle.std.specs.Prelude.{slice_get}
-use Rattle.task_model.specs.Basic.{BasicTerm}
-use Rattle.task_model.specs.Text.{Text}
-use Rattle.task_model.specs.Value.{ValueTerm, bool_value, list_value, no_values, more_values, value_has}
-use Rattle.task_model.specs.Literal.{value_text}
-use Rattle.task_model.specs.Env.{SlotTerm, plain_slot, place_slot, EnvTerm, empty_env}
-use Rattle.task_model.specs.Host.{HostTerm}
-use Rattle.task_model.specs.Task.{TaskTerm, edit, enter, share, fail, call_task, then_task, next_task, and_task, or_task, xor_task, let_task, if_task, case_task, new_task, put_task, BodyTerm}
-use Rattle.task_model.specs.Tree.{LaterTerm, TreeTerm, edit_tree, enter_tree, share_tree, then_tree, next_tree, fail_tree, and_tree, or_tree, xor_tree, State}
-use Rattle.task_model.specs.Program.{KindTerm, plain_kind, ref_kind, ParamTerm, ProgramTerm, main_name}
-use Rattle.task_model.specs.Checked.{CheckedTerm, slot_of, task_named}
-use Rattle.task_model.specs.Plan.{Judgement, gives_value, evaluates, fails, strides, settles, normal, Derived, Plan, give, stuck, ask, unit, stride_on, after, known, StrideList, last_stride, more_strides, Parts, plan_work, derives_at, Derives}
-use Rattle.task_model.specs.Rules.{as_place, branch, chosen, matched, bare_name, slot_for, slots_for, value_of, with_value, or_of, applied, tested, fired, evaluate_rule, stride_rule, rule_of}
-use Rattle.task_model.specs.Input.{ActTerm, set_act, next_act, left_act, right_act, InputTerm}
-use Rattle.task_model.specs.Held.{IsHeldAct}
-use Rattle.task_model.specs.Item.{ItemTerm, opened, took}
-use Rattle.task_model.specs.Handling.{if_typed, at_editor, rebuilt, rebuilds, stopped, at_step, handled, handles, settled, interacts}
-use Rattle.task_model.specs.Outcome.{IsTaken}
-use Rattle.task_model.specs.State.{IsOpening, LeadTo, AreEntries, IsLegal}
-use Rattle.task_model.specs.Accepted.{IsAccepted, typed_program}
-use Rattle.task_model.specs.Limits.{IsSmall}
-use Rattle.task_model.specs.FullTask.{FullTask, FullBody, full_body_numbered, step_with, step_over, sides_of}
-use Rattle.task_model.specs.TaskDemands.{bodies_in_place}
+use Rattle.task_model.specs.Terms.Basic.{BasicTerm}
+use Rattle.task_model.specs.Terms.Text.{Text}
+use Rattle.task_model.specs.Terms.Value.{ValueTerm, bool_value, list_value, no_values, more_values, value_has}
+use Rattle.task_model.specs.Syntax.Literal.{value_text}
+use Rattle.task_model.specs.Terms.Env.{SlotTerm, plain_slot, place_slot, EnvTerm, empty_env}
+use Rattle.task_model.specs.Terms.Host.{HostTerm}
+use Rattle.task_model.specs.Terms.Task.{TaskTerm, edit, enter, share, fail, call_task, then_task, next_task, and_task, or_task, xor_task, let_task, if_task, case_task, new_task, put_task, BodyTerm}
+use Rattle.task_model.specs.Terms.Tree.{LaterTerm, TreeTerm, edit_tree, enter_tree, share_tree, then_tree, next_tree, fail_tree, and_tree, or_tree, xor_tree, State}
+use Rattle.task_model.specs.Terms.Program.{KindTerm, plain_kind, ref_kind, ParamTerm, ProgramTerm, main_name}
+use Rattle.task_model.specs.Running.Checked.{CheckedTerm, slot_of, task_named}
+use Rattle.task_model.specs.Running.Plan.{Judgement, gives_value, evaluates, fails, strides, settles, normal, Derived, Plan, give, stuck, ask, unit, stride_on, after, known, StrideList, last_stride, more_strides, Parts, plan_work, derives_at, Derives}
+use Rattle.task_model.specs.Running.Rules.{as_place, branch, chosen, matched, bare_name, slot_for, slots_for, value_of, with_value, or_of, applied, tested, fired, evaluate_rule, stride_rule, rule_of}
+use Rattle.task_model.specs.Terms.Input.{ActTerm, set_act, next_act, left_act, right_act, InputTerm}
+use Rattle.task_model.specs.Terms.Held.{IsHeldAct}
+use Rattle.task_model.specs.Terms.Item.{ItemTerm, opened, took}
+use Rattle.task_model.specs.Running.Handling.{if_typed, at_editor, rebuilt, rebuilds, stopped, at_step, handled, handles, settled, interacts}
+use Rattle.task_model.specs.Running.Outcome.{IsTaken}
+use Rattle.task_model.specs.Running.State.{IsOpening, LeadTo, AreEntries, IsLegal}
+use Rattle.task_model.specs.Checking.Accepted.{IsAccepted, typed_program}
+use Rattle.task_model.specs.Checking.Limits.{IsSmall}
+use Rattle.task_model.specs.Checking.FullTask.{FullTask, FullBody, full_body_numbered, step_with, step_over, sides_of}
+use Rattle.task_model.specs.Checking.TaskDemands.{bodies_in_place}
 use Rattle.task_model.specs.declared.input.Turn.{Turn}
 use Rattle.task_model.specs.declared.input.Turn.TheVariants as turns
 use Rattle.literal_text.proofs.PrintLemmas.{printed_typed}
 use Rattle.input_lines.specs.EntryText.{HasLiteral}
 use Rattle.input_lines.proofs.EntryLemmas.{entry_again}
-use Rattle.typing_laws.specs.Supposed.{task_in_place}
+use Rattle.typing_laws.specs.Assumed.{task_in_place}
 use Rattle.typing_laws.proofs.ProgramLemmas.{facts_of}
 use Rattle.tophat.specs.Replay.{AskAgain}
 use Rattle.tophat.proofs.SmallTypes.{SmallTask, SmallParts, parts_small, small_at}

@@ -2,23 +2,23 @@
 use Rattle.std.proofs.Common.{◌≡◌, ℕ, zero, suc, ◌+◌, Bool, true, false, cond, List, [], ◌∷◌, ◌++◌, Option, Some, None, sym, ap, subst, arith, append-nil, append_assoc}
 use Rattle.std.specs.Prelude.{slice_get}
 use Rattle.std.specs.Option.{option_or}
-use Rattle.task_model.specs.Text.{Text, same_text}
-use Rattle.task_model.specs.Basic.{BasicTerm, unit_type, bool_type, int_type, text_type, pair_type, list_type}
-use Rattle.task_model.specs.Task.{TaskTerm}
-use Rattle.task_model.specs.Program.{KindTerm, ParamTerm, DefBodyTerm, fun_body, task_body, DefTerm, ProgramTerm}
-use Rattle.task_model.specs.TypeParts.{item_part}
-use Rattle.task_model.specs.Limits.{IsSmall}
-use Rattle.task_model.specs.Names.{kind_in, bind_value, bind_place, basic_of, named_type, CallsTerm, all_open}
-use Rattle.task_model.specs.TypeFault.{IsMet}
-use Rattle.task_model.specs.FullTask.{FullTask, full_edit, full_enter, full_share, full_fail, full_call, full_step, full_and, full_or, full_xor, full_let, full_if, full_case, full_new, full_put, full_absent}
-use Rattle.task_model.specs.NodeCounts.{nodes, task_nodes}
-use Rattle.task_model.specs.TypeOf.{type_of, task_type, listed_types}
-use Rattle.task_model.specs.TaskDemands.{task_demands, body_demands, from_parameters, definitions, what_types, types_in, calls_at}
-use Rattle.task_model.specs.Checked.{CheckedTerm, Callee, def_in, callee_of, what_nodes, task_named}
-use Rattle.task_model.specs.Accepted.{IsAccepted}
+use Rattle.task_model.specs.Terms.Text.{Text, same_text}
+use Rattle.task_model.specs.Terms.Basic.{BasicTerm, unit_type, bool_type, int_type, text_type, pair_type, list_type}
+use Rattle.task_model.specs.Terms.Task.{TaskTerm}
+use Rattle.task_model.specs.Terms.Program.{KindTerm, ParamTerm, DefBodyTerm, fun_body, task_body, DefTerm, ProgramTerm}
+use Rattle.task_model.specs.Checking.TypeParts.{item_part}
+use Rattle.task_model.specs.Checking.Limits.{IsSmall}
+use Rattle.task_model.specs.Checking.Names.{kind_in, bind_value, bind_place, basic_of, named_type, CallsTerm, all_open}
+use Rattle.task_model.specs.Checking.TypeFault.{IsMet}
+use Rattle.task_model.specs.Checking.FullTask.{FullTask, full_edit, full_enter, full_share, full_fail, full_call, full_step, full_and, full_or, full_xor, full_let, full_if, full_case, full_new, full_put, full_absent}
+use Rattle.task_model.specs.Checking.NodeCounts.{nodes, task_nodes}
+use Rattle.task_model.specs.Checking.TypeOf.{type_of, task_type, listed_types}
+use Rattle.task_model.specs.Checking.TaskDemands.{task_demands, body_demands, from_parameters, definitions, what_types, types_in, calls_at}
+use Rattle.task_model.specs.Running.Checked.{CheckedTerm, Callee, def_in, callee_of, what_nodes, task_named}
+use Rattle.task_model.specs.Checking.Accepted.{IsAccepted}
 use Rattle.host_types.proofs.TypingLemmas.{first, second, no_unmet}
 use Rattle.host_types.proofs.WithinLemmas.{small}
-use Rattle.typing_laws.specs.Supposed.{task_in_place}
+use Rattle.typing_laws.specs.Assumed.{task_in_place}
 use Rattle.typing_laws.proofs.ProgramLemmas.{all_met}
 
 -- ---- lists and scopes

@@ -4,13 +4,13 @@ use Rattle.std.proofs.Common.{List, [], ◌++◌, map, Option}
 use Rattle.std.specs.Prelude.{slice_get, unwrap_or, option_map}
 use Rattle.std.proofs.lemmas.Option.{slice_get-map}
 use Rattle.std.proofs.lemmas.List.{append_assoc}
-use Rattle.task_model.specs.Text.{Text}
-use Rattle.task_model.specs.Value.{value_term, unit_value}
+use Rattle.task_model.specs.Terms.Text.{Text}
+use Rattle.task_model.specs.Terms.Value.{value_term, unit_value}
 use Rattle.task_model.specs.declared.value.Value.{Value}
-use Rattle.task_model.specs.Widget.{stored}
+use Rattle.task_model.specs.Showing.Widget.{stored}
 use Rattle.task_model.proofs.OutcomeLemmas.{outcome_exists, outcome_once}
-use Rattle.task_model.specs.Input.{EntryTerm}
-use Rattle.task_model.specs.Outcome.{Outcome, IsOutcome, taken, not_offered, over_budget}
+use Rattle.task_model.specs.Terms.Input.{EntryTerm}
+use Rattle.task_model.specs.Running.Outcome.{Outcome, IsOutcome, taken, not_offered, over_budget}
 use Rattle.world_core.specs.World.{WorldTerm}
 use Rattle.input_lines.specs.Soak.{soak_next, soak_entry_of}
 use Rattle.tophat.specs.Session.{world_after}

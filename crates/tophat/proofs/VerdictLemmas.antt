@@ -1,14 +1,14 @@
 -- The one verdict on bytes.
 use Rattle.std.proofs.Common.{◌≡◌, ℕ, List, Option, Some, None, refl, sym, ◌∙◌, ap, subst}
-use Rattle.task_model.specs.Text.{Text}
-use Rattle.task_model.specs.Program.{ProgramTerm}
-use Rattle.task_model.specs.Checked.{CheckedTerm}
-use Rattle.task_model.specs.TypeFault.{TypeFaultTerm}
-use Rattle.task_model.specs.TaskDemands.{fault_of}
-use Rattle.task_model.specs.Accepted.{IsAccepted, typed_program}
-use Rattle.task_model.specs.ProgramText.{IsProgramText}
-use Rattle.program_grammar.specs.Faults.{IsFaultOf}
-use Rattle.program_grammar.proofs.ReadingLemmas.{fault_once, fault_apart}
+use Rattle.task_model.specs.Terms.Text.{Text}
+use Rattle.task_model.specs.Terms.Program.{ProgramTerm}
+use Rattle.task_model.specs.Running.Checked.{CheckedTerm}
+use Rattle.task_model.specs.Checking.TypeFault.{TypeFaultTerm}
+use Rattle.task_model.specs.Checking.TaskDemands.{fault_of}
+use Rattle.task_model.specs.Checking.Accepted.{IsAccepted, typed_program}
+use Rattle.task_model.specs.Syntax.ProgramText.{IsProgramText}
+use Rattle.reader_grammar.specs.Faults.{IsFaultOf}
+use Rattle.reader_grammar.proofs.ReadingLemmas.{fault_once, fault_apart}
 use Rattle.task_syntax.specs.declared.stop.ReadKind.{ReadKind}
 use Rattle.tophat.specs.declared.refusal.Refusal.TheVariants.{Read, Typed}
 use Rattle.tophat.specs.TypeFaultText.{type_fault_text}

@@ -12,8 +12,8 @@ use Rattle.outer_io.specs.declared.files.FileAnswer.TheVariants.{Bytes, TooLong}
 use Rattle.outer_io.specs.declared.files.FileAnswer.TheVariants as answers
 use Rattle.outer_io.specs.declared.sink.Written.{Written}
 use Rattle.outer_io.specs.declared.sink.Written.TheVariants.{Whole, Failed}
-use Rattle.task_model.specs.Rowed.{Rowed}
-use Rattle.task_model.specs.Text.{Text}
+use Rattle.task_model.specs.Terms.Rowed.{Rowed}
+use Rattle.task_model.specs.Terms.Text.{Text}
 use Rattle.task_syntax.specs.declared.stop.ReadKind.TheVariants as reads
 use Rattle.world_core.specs.World.{WorldTerm, SeenWorld, world_term}
 use Rattle.line_frame.specs.Told.{Told, Comes}
@@ -31,8 +31,8 @@ use Rattle.command_words.specs.declared.stop.WordStop.{WordStop}
 use Rattle.command_words.specs.declared.stop.WordStop.TheVariants as words
 use Rattle.input_lines.specs.Soak.{soak_text}
 use Rattle.tophat.specs.Ending.{status_of}
-use Rattle.task_model.specs.Checked.{CheckedTerm}
-use Rattle.task_model.specs.Printed.{program_text}
+use Rattle.task_model.specs.Running.Checked.{CheckedTerm}
+use Rattle.task_model.specs.Syntax.Printed.{program_text}
 use Rattle.tophat.specs.Verdict.{Verdict, accepted, refused, IsVerdict, IsOnlyVerdict, Judges, IsVerdictOf, HasVerdict}
 use Rattle.tophat.specs.Session.{Tells}
 use Rattle.tophat.specs.Top.{Limits, limits, Report, ends, writes, reported, source_of, soak_budget, Opened, world, none, checks, ReportsFile, ReportsOpened, ReportsVerdict, ReportsTold, Reports}

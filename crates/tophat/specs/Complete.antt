@@ -1,9 +1,9 @@
 -- What a run comes to where its program is accepted and opens, and every line of its script is in the grammar.
 use Rattle.std.specs.Prelude.{ℕ, ◌≡◌, ◌≤◌, ◌⊎◌, List, [], ◌∷◌, ◌++◌, length, Option, Some, ⊤}
-use Rattle.task_model.specs.Text.{Text}
-use Rattle.task_model.specs.Tree.{State}
-use Rattle.task_model.specs.Checked.{CheckedTerm}
-use Rattle.task_model.specs.State.{IsOpening}
+use Rattle.task_model.specs.Terms.Text.{Text}
+use Rattle.task_model.specs.Terms.Tree.{State}
+use Rattle.task_model.specs.Running.Checked.{CheckedTerm}
+use Rattle.task_model.specs.Running.State.{IsOpening}
 use Rattle.world_core.specs.World.{WorldTerm}
 use Rattle.line_frame.specs.Script.{cut_of, all_lines}
 use Rattle.line_frame.specs.declared.finish.Finish.TheVariants.{Done}

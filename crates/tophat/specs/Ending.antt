@@ -1,6 +1,6 @@
 -- The status of each end, and its text on the error sink (docs/FORMATS.md, "Statuses").
 use Rattle.std.specs.Prelude.{ℕ, [], ◌++◌, codes, decimal}
-use Rattle.task_model.specs.Text.{Text}
+use Rattle.task_model.specs.Terms.Text.{Text}
 use Rattle.line_frame.specs.declared.finish.Finish.{Finish}
 use Rattle.line_frame.specs.declared.finish.Finish.TheVariants as finishes
 use Rattle.tophat.specs.declared.ending.Ending.{Ending}

@@ -1,7 +1,7 @@
 -- The promise of the top call where the objects tell their bytes.
 use Rattle.std.specs.Prelude.{ℕ, ◌≡◌, ◌⊎◌, ◌++◌, Option, Some, ⊤}
 use Rattle.outer_io.specs.Sink.{IsStart}
-use Rattle.task_model.specs.Text.{Text}
+use Rattle.task_model.specs.Terms.Text.{Text}
 use Rattle.command_words.specs.Commands.{CommandTerm}
 use Rattle.tophat.specs.Ending.{status_of}
 use Rattle.tophat.specs.Verdict.{Verdict, IsVerdictOf, HasVerdict}

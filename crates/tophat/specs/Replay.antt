@@ -1,10 +1,10 @@
 -- The script that gives a history's entries again, and what it comes to.
 use Rattle.std.specs.Prelude.{ℕ, zero, suc, ◌≤◌, List, [], ◌∷◌, ◌++◌, length, codes, decimal}
-use Rattle.task_model.specs.Text.{Text}
-use Rattle.task_model.specs.Item.{ItemTerm, opened, took}
-use Rattle.task_model.specs.Program.{ProgramTerm}
-use Rattle.task_model.specs.Printed.{program_text}
-use Rattle.task_model.specs.State.{IsSeat, IsLegal, version_of}
+use Rattle.task_model.specs.Terms.Text.{Text}
+use Rattle.task_model.specs.Terms.Item.{ItemTerm, opened, took}
+use Rattle.task_model.specs.Terms.Program.{ProgramTerm}
+use Rattle.task_model.specs.Syntax.Printed.{program_text}
+use Rattle.task_model.specs.Running.State.{IsSeat, IsLegal, version_of}
 use Rattle.line_frame.specs.declared.finish.Finish.TheVariants.{Done}
 use Rattle.input_lines.specs.ScriptLines.{IsScriptLine, gives}
 use Rattle.input_lines.specs.EntryText.{entry_line, entry_text}

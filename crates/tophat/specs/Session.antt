@@ -1,9 +1,9 @@
 -- What is told of the lines of a script, line by line (docs/FORMATS.md, "Answers").
 use Rattle.std.specs.Prelude.{ℕ, ◌≡◌, ◌+◌, ◌≤◌, ◌⊎◌, List, [], ◌∷◌, ◌++◌, length, codes, decimal}
-use Rattle.task_model.specs.Text.{Text}
-use Rattle.task_model.specs.Input.{EntryTerm}
-use Rattle.task_model.specs.Outcome.{Outcome, IsOutcome, taken, not_offered, over_budget}
-use Rattle.task_model.specs.State.{version_of}
+use Rattle.task_model.specs.Terms.Text.{Text}
+use Rattle.task_model.specs.Terms.Input.{EntryTerm}
+use Rattle.task_model.specs.Running.Outcome.{Outcome, IsOutcome, taken, not_offered, over_budget}
+use Rattle.task_model.specs.Running.State.{version_of}
 use Rattle.task_model.specs.declared.widget.Face.TheVariants as faces
 use Rattle.world_core.specs.World.{WorldTerm, with_entry}
 use Rattle.world_core.specs.Pages.{IsWorldPage}

@@ -1,10 +1,10 @@
 -- What `soak` reports (docs/FORMATS.md, "The soak generator").
 use Rattle.std.specs.Prelude.{ℕ, zero, suc, ◌+◌, ◌≡◌, ◌++◌, codes, decimal}
-use Rattle.task_model.specs.Text.{Text}
-use Rattle.task_model.specs.Literal.{value_text}
-use Rattle.task_model.specs.Widget.{stored}
-use Rattle.task_model.specs.Input.{EntryTerm}
-use Rattle.task_model.specs.Outcome.{Outcome, IsOutcome, taken, not_offered, over_budget}
+use Rattle.task_model.specs.Terms.Text.{Text}
+use Rattle.task_model.specs.Syntax.Literal.{value_text}
+use Rattle.task_model.specs.Showing.Widget.{stored}
+use Rattle.task_model.specs.Terms.Input.{EntryTerm}
+use Rattle.task_model.specs.Running.Outcome.{Outcome, IsOutcome, taken, not_offered, over_budget}
 use Rattle.world_core.specs.World.{WorldTerm}
 use Rattle.world_core.specs.TreeNodes.{tree_nodes}
 use Rattle.input_lines.specs.Soak.{soak_next, soak_entry_of}

@@ -2,8 +2,8 @@
 use Rattle.std.specs.Prelude.{ℕ, ◌≡◌, ◌<◌, ◌≤◌, length, Option, None, Some, Result, Ok, Err, ⊤}
 use Rattle.std.specs.Io.KnownBytes.{Appends}
 use Rattle.outer_io.specs.Sink.{IsStart}
-use Rattle.task_model.specs.Text.{Text}
-use Rattle.task_model.specs.Rowed.{Rowed}
+use Rattle.task_model.specs.Terms.Text.{Text}
+use Rattle.task_model.specs.Terms.Rowed.{Rowed}
 use Rattle.input_lines.specs.Soak.{soak_text}
 use Rattle.tophat.specs.declared.ending.Ending.{Ending}
 use Rattle.tophat.specs.declared.ending.Ending.TheVariants.{Absent, FileTooLong, FileFault, Unopened, Wrote, WriteFault}

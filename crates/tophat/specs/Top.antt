@@ -1,11 +1,11 @@
 -- What a command reports: what it writes and how it ends, by its file, the verdict on what it reads, and the script.
 use Rattle.std.specs.Prelude.{ℕ, ◌≡◌, ◌<◌, ◌≤◌, ◌⊎◌, List, [], ◌∷◌, length, Option, None, Some}
-use Rattle.task_model.specs.Text.{Text}
-use Rattle.task_model.specs.Tree.{State}
-use Rattle.task_model.specs.Item.{opened}
-use Rattle.task_model.specs.Checked.{CheckedTerm}
-use Rattle.task_model.specs.Printed.{program_text}
-use Rattle.task_model.specs.State.{IsOpening}
+use Rattle.task_model.specs.Terms.Text.{Text}
+use Rattle.task_model.specs.Terms.Tree.{State}
+use Rattle.task_model.specs.Terms.Item.{opened}
+use Rattle.task_model.specs.Running.Checked.{CheckedTerm}
+use Rattle.task_model.specs.Syntax.Printed.{program_text}
+use Rattle.task_model.specs.Running.State.{IsOpening}
 use Rattle.world_core.specs.World.{WorldTerm}
 use Rattle.line_frame.specs.Told.{Told}
 use Rattle.line_frame.specs.Script.{TellsScript, cut_of}

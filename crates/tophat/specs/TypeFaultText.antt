@@ -1,8 +1,8 @@
 -- What is wrong with the types of a program, as it is told (docs/FORMATS.md, "Statuses").
 use Rattle.std.specs.Prelude.{◌++◌, codes, decimal}
-use Rattle.task_model.specs.Text.{Text}
-use Rattle.task_model.specs.Literal.{basic_text}
-use Rattle.task_model.specs.TypeFault.{TypeKindTerm, unknown_name, duplicate, mismatch, not_pair, not_list, not_ref, ref_in_value, arity, later_call, unguarded, too_many_names, big_type, no_main}
+use Rattle.task_model.specs.Terms.Text.{Text}
+use Rattle.task_model.specs.Syntax.Literal.{basic_text}
+use Rattle.task_model.specs.Checking.TypeFault.{TypeKindTerm, unknown_name, duplicate, mismatch, not_pair, not_list, not_ref, ref_in_value, arity, later_call, unguarded, too_many_names, big_type, no_main}
 
 abbrev pub type_fault_text : TypeKindTerm → Text
 type_fault_text unknown_name = codes "UnknownName"

@@ -1,13 +1,13 @@
 -- What bytes are read as: a program that is accepted, or a refusal.
 use Rattle.std.specs.Prelude.{◌≡◌, ℕ, List, length, Option, None, Some, Result, Ok, Err, slice_get, unwrap_or}
-use Rattle.task_model.specs.Text.{Text}
-use Rattle.task_model.specs.Program.{ProgramTerm}
-use Rattle.task_model.specs.Checked.{CheckedTerm, SeenChecked, checked_term}
-use Rattle.task_model.specs.TypeFault.{TypeFaultTerm, TypeKindTerm}
-use Rattle.task_model.specs.TaskDemands.{fault_of}
-use Rattle.task_model.specs.Accepted.{IsAccepted}
-use Rattle.task_model.specs.ProgramText.{IsProgramText}
-use Rattle.program_grammar.specs.Faults.{IsFaultOf}
+use Rattle.task_model.specs.Terms.Text.{Text}
+use Rattle.task_model.specs.Terms.Program.{ProgramTerm}
+use Rattle.task_model.specs.Running.Checked.{CheckedTerm, SeenChecked, checked_term}
+use Rattle.task_model.specs.Checking.TypeFault.{TypeFaultTerm, TypeKindTerm}
+use Rattle.task_model.specs.Checking.TaskDemands.{fault_of}
+use Rattle.task_model.specs.Checking.Accepted.{IsAccepted}
+use Rattle.task_model.specs.Syntax.ProgramText.{IsProgramText}
+use Rattle.reader_grammar.specs.Faults.{IsFaultOf}
 use Rattle.tophat.specs.declared.refusal.Refusal.{Refusal}
 use Rattle.tophat.specs.declared.refusal.Refusal.TheVariants.{Read, Typed}
 use Rattle.tophat.specs.declared.no_world.NoWorld.{NoWorld}

@@ -3,7 +3,7 @@ use Rattle.std.specs.Prelude.{ℕ, ◌≡◌, ◌≢◌, ◌⊎◌, Option, ⊤}
 use Rattle.std.specs.Io.KnownBytes.{Appends}
 use Rattle.outer_io.specs.Causes.{Rose, next_count}
 use Rattle.outer_io.specs.Sink.{IsStart}
-use Rattle.task_model.specs.Text.{Text}
+use Rattle.task_model.specs.Terms.Text.{Text}
 use Rattle.line_frame.specs.RunFaults.{read_faults_after_run, write_faults_after_run}
 use Rattle.line_frame.specs.declared.finish.Finish.TheVariants.{ReadFault, WriteFault}
 use Rattle.tophat.specs.declared.ending.Ending.{Ending}

@@ -2,7 +2,7 @@
 use Rattle.std.specs.Prelude.{ℕ, ◌≡◌, List, Option, None, Some, Result, Ok, Err, ⊤}
 use Rattle.std.specs.Io.KnownBytes.{Appends, Consumes}
 use Rattle.outer_io.specs.Sink.{IsStart}
-use Rattle.task_model.specs.Text.{Text}
+use Rattle.task_model.specs.Terms.Text.{Text}
 use Rattle.world_core.specs.World.{SeenWorld, world_term}
 use Rattle.line_frame.specs.RanOut.{RanOut}
 use Rattle.line_frame.specs.Drove.{Drove, IsRead, IsTold}

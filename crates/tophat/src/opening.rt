@@ -1,7 +1,7 @@
 ghost use Rattle.std.specs.Prelude.{◌≡◌, IfOk, None};
-ghost use Rattle.task_model.specs.State.{IsBudget};
-ghost use Rattle.task_model.specs.Checked.{checked_term};
-ghost use Rattle.task_model.specs.Accepted.{IsAccepted};
+ghost use Rattle.task_model.specs.Running.State.{IsBudget};
+ghost use Rattle.task_model.specs.Running.Checked.{checked_term};
+ghost use Rattle.task_model.specs.Checking.Accepted.{IsAccepted};
 ghost use Rattle.tophat.specs.Verdict.{accepted};
 ghost use Rattle.tophat.specs.Worked.{Opens, OpensBytes, HasVerdictAfter};
 

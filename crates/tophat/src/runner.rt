@@ -1,6 +1,6 @@
 ghost use Rattle.std.specs.Prelude.{◌≡◌, ◌++◌, IfOk, IsNone, codes, decimal};
-ghost use Rattle.task_model.specs.Input.{entry_term};
-ghost use Rattle.task_model.specs.State.{IsSeat};
+ghost use Rattle.task_model.specs.Terms.Input.{entry_term};
+ghost use Rattle.task_model.specs.Running.State.{IsSeat};
 ghost use Rattle.world_core.specs.World.{world_term};
 ghost use Rattle.input_lines.specs.ScriptLines.{HasSeat, gives, shows, line_term};
 ghost use Rattle.tophat.specs.Session.{Answers};

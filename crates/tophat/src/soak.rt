@@ -1,10 +1,10 @@
 ghost use Rattle.std.specs.Prelude.{◌≡◌, ◌<◌, ◌^◌, ◌-◌, ◌++◌, IfOk, OnOk, None, decimal, string_bytes};
-ghost use Rattle.task_model.specs.Literal.{value_text};
-ghost use Rattle.task_model.specs.Widget.{stored};
+ghost use Rattle.task_model.specs.Syntax.Literal.{value_text};
+ghost use Rattle.task_model.specs.Showing.Widget.{stored};
 ghost use Rattle.world_core.specs.World.{world_term};
 ghost use Rattle.input_lines.specs.Soak.{soak_text};
-ghost use Rattle.task_model.specs.Input.{entry_term};
-ghost use Rattle.task_model.specs.State.{IsSeat};
+ghost use Rattle.task_model.specs.Terms.Input.{entry_term};
+ghost use Rattle.task_model.specs.Running.State.{IsSeat};
 ghost use Rattle.tophat.specs.SoakReport.{tally_term, no_inputs, all_inputs, CountsInput, Soaks, summary_text, IsSummary};
 ghost use Rattle.tophat.specs.Sources.{TellsText, ReportsInputs};
 ghost use Rattle.tophat.specs.Worked.{HasVerdictAfter};

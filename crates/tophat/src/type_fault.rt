@@ -1,7 +1,7 @@
 ghost use Rattle.std.specs.Prelude.{◌≡◌, ◌++◌, IfOk, OnOk, codes, decimal, string_bytes};
-ghost use Rattle.task_model.specs.Basic.{basic_term};
-ghost use Rattle.task_model.specs.TypeKind.{type_kind_term};
-ghost use Rattle.task_model.specs.TypeFault.{mismatch, arity};
+ghost use Rattle.task_model.specs.Terms.Basic.{basic_term};
+ghost use Rattle.task_model.specs.Checking.TypeKind.{type_kind_term};
+ghost use Rattle.task_model.specs.Checking.TypeFault.{mismatch, arity};
 ghost use Rattle.tophat.specs.TypeFaultText.{type_fault_text};
 
 use itoa::Buffer;

@@ -1,8 +1,8 @@
 ghost use Rattle.std.specs.Prelude.{◌≡◌, ℕ, List};
-ghost use Rattle.task_model.specs.Program.{ProgramTerm, program_term};
-ghost use Rattle.task_model.specs.ProgramText.{IsProgramText};
-ghost use Rattle.task_model.specs.Written.{IsWritten};
-ghost use Rattle.task_model.specs.TypeKind.{type_kind_term};
+ghost use Rattle.task_model.specs.Terms.Program.{ProgramTerm, program_term};
+ghost use Rattle.task_model.specs.Syntax.ProgramText.{IsProgramText};
+ghost use Rattle.task_model.specs.Syntax.Written.{IsWritten};
+ghost use Rattle.task_model.specs.Checking.TypeKind.{type_kind_term};
 ghost use Rattle.tophat.specs.Verdict.{Judges, Refuses, node_place};
 
 use crate::no_world::NoWorld;

@@ -1,12 +1,12 @@
 ghost use Rattle.std.specs.Prelude.{◌≡◌, ◌<◌, Some, Ok, Err, Option, IfErr, IfOk, MatchResult};
 ghost use Rattle.outer_io.specs.Causes.{Rose};
-ghost use Rattle.task_model.specs.State.{IsBudget};
+ghost use Rattle.task_model.specs.Running.State.{IsBudget};
 ghost use Rattle.command_words.specs.Commands.{CommandTerm, command_term, run, check, soak, IsAsked, IsInRange};
 ghost use Rattle.command_words.specs.declared.stop.WordStop.TheVariants as stops;
 ghost use Rattle.tophat.specs.Top.{limits, named};
 ghost use Rattle.tophat.specs.Worked.{Worked, IfNotRun, IfSilent, RunsBytes, HasVerdictAfter, IsTextEnd, IsRunEnd, word_ending};
 ghost use Rattle.tophat.specs.Sources.{FindsFile, WritesText, TellsText, ReportsCheck};
-ghost use Rattle.task_model.specs.Text.{Text};
+ghost use Rattle.task_model.specs.Terms.Text.{Text};
 ghost use Rattle.tophat.specs.Went.{IsWriteFault, file_faults_after, input_faults_after, output_faults_after};
 ghost use Rattle.line_frame.specs.RunFaults.{read_faults_after_run, write_faults_after_run};
 ghost use Rattle.line_frame.specs.declared.finish.Finish.TheVariants as finishes;

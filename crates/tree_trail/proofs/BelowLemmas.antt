@@ -1,8 +1,8 @@
 -- Paths below other paths.
 use Rattle.std.proofs.Common.{◌≡◌, ◌<◌, ◌-◌, List, [], ◌∷◌, ◌++◌, map, length, length-append, take, refl, sym, ap, ◌∙◌, append_assoc, append-nil, arith}
 use Rattle.std.proofs.Math.Seq.{take-append_seam}
-use Rattle.task_model.specs.Offer.{OfferTerm, turned, both_offers}
-use Rattle.task_model.specs.Widget.{WidgetTerm, shifted, both_widgets}
+use Rattle.task_model.specs.Running.Offer.{OfferTerm, turned, both_offers}
+use Rattle.task_model.specs.Showing.Widget.{WidgetTerm, shifted, both_widgets}
 use Rattle.task_model.specs.declared.input.Turn.{Turn}
 use Rattle.task_model.specs.declared.input.Turn.TheVariants as turns
 use Rattle.tree_trail.specs.Below.{offer_below, widget_below, IsInto}

@@ -1,7 +1,7 @@
 -- Offers and widgets of a part of a tree at their paths in the whole tree (docs/RULES.md, "Offers", "Interfaces").
 use Rattle.std.specs.Prelude.{◌≡◌, List, ◌++◌}
-use Rattle.task_model.specs.Offer.{OfferTerm}
-use Rattle.task_model.specs.Widget.{WidgetTerm}
+use Rattle.task_model.specs.Running.Offer.{OfferTerm}
+use Rattle.task_model.specs.Showing.Widget.{WidgetTerm}
 use Rattle.task_model.specs.declared.input.Turn.{Turn}
 
 -- an offer of the part that a path leads to

@@ -1,17 +1,17 @@
--- What calls within an evaluation may suppose: a judgement that may be asked has a rule that goes well, and so does what follows from each
+-- What calls within an evaluation may assume: a judgement that may be asked has a rule that goes well, and so does what follows from each
 -- result. With these a `requires` that says `Well` of a plan is answered along the plan.
 use Rattle.std.proofs.Common.{◌≡◌, ℕ, Bool, Option, None, Some, Ok, refl, subst}
-use Rattle.task_model.specs.Left.{Left}
-use Rattle.task_model.specs.Value.{ValueTerm, bool_value, ValueTerms, list_value}
-use Rattle.task_model.specs.Env.{SlotTerm, plain_slot, place_slot}
-use Rattle.task_model.specs.Checked.{CheckedTerm}
-use Rattle.task_model.specs.Tree.{State}
-use Rattle.task_model.specs.Fits.{Fits}
-use Rattle.task_model.specs.Plan.{Judgement, fails, strides, settles, Derived, Plan, ask, unit, stride_on, after, known}
-use Rattle.task_model.specs.Rules.{as_value, as_place, branch, chosen, matched, rule_of}
-use Rattle.task_model.specs.Calls.{RunsJudgement, RunsPlan}
-use Rattle.task_model.specs.Accepted.{IsAccepted}
-use Rattle.typing_laws.specs.Supposed.{Supposed, Assured}
+use Rattle.task_model.specs.Terms.Left.{Left}
+use Rattle.task_model.specs.Terms.Value.{ValueTerm, bool_value, ValueTerms, list_value}
+use Rattle.task_model.specs.Terms.Env.{SlotTerm, plain_slot, place_slot}
+use Rattle.task_model.specs.Running.Checked.{CheckedTerm}
+use Rattle.task_model.specs.Terms.Tree.{State}
+use Rattle.task_model.specs.Checking.Fits.{Fits}
+use Rattle.task_model.specs.Running.Plan.{Judgement, fails, strides, settles, Derived, Plan, ask, unit, stride_on, after, known}
+use Rattle.task_model.specs.Running.Rules.{as_value, as_place, branch, chosen, matched, rule_of}
+use Rattle.task_model.specs.Syntax.Calls.{RunsJudgement, RunsPlan}
+use Rattle.task_model.specs.Checking.Accepted.{IsAccepted}
+use Rattle.typing_laws.specs.Assumed.{Assumed, Guaranteed}
 use Rattle.typing_laws.specs.Well.{MayAsk, Well}
 use Rattle.typing_laws.proofs.GoodLemmas.{good_any, good_first, work_keeps}
 use Rattle.typing_laws.proofs.RuleLemmas.{rule_good, chains, derives_typed}
@@ -19,12 +19,12 @@ use Rattle.typing_laws.proofs.RuleLemmas.{rule_good, chains, derives_typed}
 -- a judgement that may be asked has a rule that goes well
 pub well_rule : {c : CheckedTerm} {q : Judgement} → IsAccepted c → MayAsk c q → Well c (rule_of c q)
 well_rule {c} {q} accepted m = record {
-  good = good_any (Supposed c) (Assured c) (rule_of c q) (Assured c m.typing q) (rule_good c accepted m.typing q m.supposed);
+  good = good_any (Assumed c) (Guaranteed c) (rule_of c q) (Guaranteed c m.typing q) (rule_good c accepted m.typing q m.assumed);
 }
 
 -- what a plan asks for may be asked
 pub well_ask : {A : Type 0} {c : CheckedTerm} {q : Judgement} {f : Derived q → Plan A} → Well c (ask q f) → MayAsk c q
-well_ask w = record { typing = w.good.0; supposed = w.good.1 }
+well_ask w = record { typing = w.good.0; assumed = w.good.1 }
 
 -- and what follows from its result goes well
 pub well_next : {A X : Type 0} {c : CheckedTerm} {q : Judgement} {f : Derived q → Plan A} {view : X → Derived q} {old new : Left} {x : X}
@@ -40,15 +40,15 @@ well_unit w = record { good = w.good }
 -- the first of two plans goes well
 pub well_first : {A B : Type 0} {c : CheckedTerm} (p : Plan A) (f : A → Plan B) → Well c (after p f) → Well c p
 well_first {c = c} p f w = record {
-  good = good_any (Supposed c) (Assured c) p _ (good_first (Supposed c) (Assured c) p f (λ x. Unit {0}) w.good);
+  good = good_any (Assumed c) (Guaranteed c) p _ (good_first (Assumed c) (Guaranteed c) p f (λ x. Unit {0}) w.good);
 }
 
 -- and so does the second, at what the first gave
 pub well_after : {A B X : Type 0} {c : CheckedTerm} (p : Plan A) (f : A → Plan B) {view : X → A} {old new : Left} {x : X}
     → IsAccepted c → Well c (after p f) → RunsPlan c p view old new (Ok x) → Well c (f (view x))
 well_after {c = c} p f {view = view} {old = old} {x = x} accepted w a = record {
-  good = work_keeps (Supposed c) (Assured c) (chains c) _ (λ i q g v n h d. derives_typed c accepted old.height i q g v n h d) p _
-      (good_first (Supposed c) (Assured c) p f (λ x. Unit {0}) w.good) (view x) a.runs.0 a.runs.1 a.runs.2;
+  good = work_keeps (Assumed c) (Guaranteed c) (chains c) _ (λ i q g v n h d. derives_typed c accepted old.height i q g v n h d) p _
+      (good_first (Assumed c) (Guaranteed c) p f (λ x. Unit {0}) w.good) (view x) a.runs.0 a.runs.1 a.runs.2;
 }
 
 -- what is known is there
@@ -86,7 +86,7 @@ well_matched v a f w = absurd w.good
 -- ---- strides
 -- a state that strides on may stride
 pub well_stride : {A : Type 0} {c : CheckedTerm} {s : State} {f : State → Plan A} → Well c (stride_on s f) → MayAsk c (strides s)
-well_stride w = record { typing = w.good.0; supposed = w.good.1 }
+well_stride w = record { typing = w.good.0; assumed = w.good.1 }
 
 -- after a stride more may follow
 pub well_on : {A X : Type 0} {c : CheckedTerm} {s : State} {f : State → Plan A} {view : X → State} {old new : Left} {x : X} → IsAccepted c
@@ -107,10 +107,10 @@ well_last {c = c} {s = s} {view = view} {old = old} {x = x} accepted w a =
 
 -- ---- what fits may be asked
 pub fits_fails : {c : CheckedTerm} {s : State} → Fits c s → MayAsk c (fails s)
-fits_fails f = record { typing = record { places = f.0; type = f.1 }; supposed = f.2 }
+fits_fails f = record { typing = record { places = f.0; type = f.1 }; assumed = f.2 }
 
 pub fits_strides : {c : CheckedTerm} {s : State} → Fits c s → MayAsk c (strides s)
-fits_strides f = record { typing = record { places = f.0; type = f.1 }; supposed = f.2 }
+fits_strides f = record { typing = record { places = f.0; type = f.1 }; assumed = f.2 }
 
 pub fits_settles : {c : CheckedTerm} {s : State} → Fits c s → MayAsk c (settles s)
-fits_settles f = record { typing = record { places = f.0; type = f.1 }; supposed = f.2 }
+fits_settles f = record { typing = record { places = f.0; type = f.1 }; assumed = f.2 }

@@ -4,23 +4,23 @@ use Rattle.std.specs.List.{All}
 use Rattle.std.proofs.lemmas.List.{drop-drop}
 use Rattle.std.proofs.Math.Seq.{drop-append_seam}
 use Rattle.std.proofs.lemmas.List.Elements.{All-head, All-tail}
-use Rattle.task_model.specs.Text.{Text, same_text}
-use Rattle.task_model.specs.Basic.{BasicTerm}
-use Rattle.task_model.specs.Host.{HostTerm}
-use Rattle.task_model.specs.Task.{TaskTerm}
-use Rattle.task_model.specs.Program.{ParamTerm, DefBodyTerm, fun_body, task_body, DefTerm, ProgramTerm}
-use Rattle.task_model.specs.Checked.{what_nodes, what_starts, defs_starts, Callee, def_in, function_of, callee_of, param_names}
-use Rattle.task_model.specs.Names.{bind_value, bind_place, Numbered, first_named, CallsTerm, all_open}
-use Rattle.task_model.specs.FullTask.{FullTask, full_edit, full_enter, full_share, full_fail, full_call, full_step, full_and, full_or, full_xor, full_let, full_if, full_case, full_new, full_put, full_absent}
-use Rattle.task_model.specs.TypeFault.{IsMet}
-use Rattle.task_model.specs.TypeOf.{type_of, task_type}
-use Rattle.task_model.specs.TaskDemands.{calls_at, body_demands, from_parameters, definitions, what_types, types_in}
-use Rattle.task_model.specs.Typing.{HasType}
-use Rattle.task_model.specs.TaskTyping.{HasTask}
-use Rattle.task_model.specs.Placed.{IsPlacedIn}
+use Rattle.task_model.specs.Terms.Text.{Text, same_text}
+use Rattle.task_model.specs.Terms.Basic.{BasicTerm}
+use Rattle.task_model.specs.Terms.Host.{HostTerm}
+use Rattle.task_model.specs.Terms.Task.{TaskTerm}
+use Rattle.task_model.specs.Terms.Program.{ParamTerm, DefBodyTerm, fun_body, task_body, DefTerm, ProgramTerm}
+use Rattle.task_model.specs.Running.Checked.{what_nodes, what_starts, defs_starts, Callee, def_in, function_of, callee_of, param_names}
+use Rattle.task_model.specs.Checking.Names.{bind_value, bind_place, Numbered, first_named, CallsTerm, all_open}
+use Rattle.task_model.specs.Checking.FullTask.{FullTask, full_edit, full_enter, full_share, full_fail, full_call, full_step, full_and, full_or, full_xor, full_let, full_if, full_case, full_new, full_put, full_absent}
+use Rattle.task_model.specs.Checking.TypeFault.{IsMet}
+use Rattle.task_model.specs.Checking.TypeOf.{type_of, task_type}
+use Rattle.task_model.specs.Checking.TaskDemands.{calls_at, body_demands, from_parameters, definitions, what_types, types_in}
+use Rattle.task_model.specs.Checking.Typing.{HasType}
+use Rattle.task_model.specs.Checking.TaskTyping.{HasTask}
+use Rattle.task_model.specs.Checking.Placed.{IsPlacedIn}
 use Rattle.host_types.proofs.TypingLemmas.{first, second, compared_is, typed}
 use Rattle.host_types.proofs.TaskTypingLemmas.{task_typed}
-use Rattle.typing_laws.specs.Supposed.{task_in_place, IsListed}
+use Rattle.typing_laws.specs.Assumed.{task_in_place, IsListed}
 use Rattle.typing_laws.proofs.PartLemmas.{all_first, all_second, types_are}
 
 -- ---- what may be called everywhere

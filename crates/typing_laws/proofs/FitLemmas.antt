@@ -3,17 +3,17 @@ use Rattle.std.proofs.Common.{◌≡◌, ℕ, zero, suc, Bool, true, false, List
 use Rattle.std.proofs.lemmas.List.{map-append}
 use Rattle.std.specs.Prelude.{slice_get, slice_set}
 use Rattle.std.specs.Option.{option_or}
-use Rattle.task_model.specs.Text.{Text, same_text}
-use Rattle.task_model.specs.Basic.{BasicTerm}
-use Rattle.task_model.specs.Value.{ValueTerm}
-use Rattle.task_model.specs.Env.{SlotTerm, plain_slot, place_slot, EnvTerm}
-use Rattle.task_model.specs.Tree.{LaterTerm, TreeTerm, edit_tree, enter_tree, share_tree, then_tree, next_tree, fail_tree, and_tree, or_tree, xor_tree}
-use Rattle.task_model.specs.Program.{KindTerm, plain_kind, ref_kind, ParamTerm}
-use Rattle.task_model.specs.Checked.{CheckedTerm, found, slot_of, param_names}
-use Rattle.task_model.specs.Names.{kind_in}
-use Rattle.task_model.specs.Rules.{bound}
-use Rattle.task_model.specs.Fits.{StoreHas, SlotHas, SlotsHave, EnvHas, LaterHas, TreeHas}
-use Rattle.typing_laws.specs.Supposed.{Grows}
+use Rattle.task_model.specs.Terms.Text.{Text, same_text}
+use Rattle.task_model.specs.Terms.Basic.{BasicTerm}
+use Rattle.task_model.specs.Terms.Value.{ValueTerm}
+use Rattle.task_model.specs.Terms.Env.{SlotTerm, plain_slot, place_slot, EnvTerm}
+use Rattle.task_model.specs.Terms.Tree.{LaterTerm, TreeTerm, edit_tree, enter_tree, share_tree, then_tree, next_tree, fail_tree, and_tree, or_tree, xor_tree}
+use Rattle.task_model.specs.Terms.Program.{KindTerm, plain_kind, ref_kind, ParamTerm}
+use Rattle.task_model.specs.Running.Checked.{CheckedTerm, found, slot_of, param_names}
+use Rattle.task_model.specs.Checking.Names.{kind_in}
+use Rattle.task_model.specs.Running.Rules.{bound}
+use Rattle.task_model.specs.Checking.Fits.{StoreHas, SlotHas, SlotsHave, EnvHas, LaterHas, TreeHas}
+use Rattle.typing_laws.specs.Assumed.{Grows}
 use Rattle.typing_laws.proofs.OperatorLemmas.{Has, SomeHas}
 
 -- ---- the list of types

@@ -1,7 +1,7 @@
--- What is assured of plans, every derivation keeps: once for all rules.
+-- What is guaranteed of plans, every derivation keeps: once for all rules.
 use Rattle.std.proofs.Common.{ℕ, zero, suc, sym, subst}
-use Rattle.task_model.specs.Tree.{State}
-use Rattle.task_model.specs.Plan.{Judgement, strides, Derived, Plan, give, stuck, ask, unit, stride_on, after, StrideList, last_stride, more_strides, Parts, plan_work, derives_at}
+use Rattle.task_model.specs.Terms.Tree.{State}
+use Rattle.task_model.specs.Running.Plan.{Judgement, strides, Derived, Plan, give, stuck, ask, unit, stride_on, after, StrideList, last_stride, more_strides, Parts, plan_work, derives_at}
 use Rattle.typing_laws.specs.Good.{Good, Chains}
 
 module _ {I : Type 0} (Pre : I → Judgement → Type 0) (Post : I → (q : Judgement) → Derived q → Type 0) where
@@ -21,7 +21,7 @@ module _ {I : Type 0} (Pre : I → Judgement → Type 0) (Post : I → (q : Judg
   good_any (unit p) P g = good_any p P g
   good_any (stride_on s f) P g = (g.0, g.1, λ t h. good_any (f t) P (g.2 t h))
 
-  -- what a first plan gives is supposed of the second alone
+  -- what a first plan gives is assumed of the second alone
   pub good_first : {A B : Type 0} (p : Plan A) (f : A → Plan B) (Q : B → Type 0) → Good Pre Post (after p f) Q
       → Good Pre Post p (λ x. Good Pre Post (f x) Q)
   good_first (give x) f Q g = g

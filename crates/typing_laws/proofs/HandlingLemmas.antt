@@ -1,19 +1,19 @@
 -- Handling an input keeps types, and so does what it settles to.
 use Rattle.std.proofs.Common.{◌≡◌, ℕ, Bool, true, false, List, [], ◌∷◌, Option, Some, None, refl, sym, subst}
 use Rattle.std.specs.Prelude.{slice_set}
-use Rattle.task_model.specs.Basic.{BasicTerm}
-use Rattle.task_model.specs.Value.{ValueTerm, value_has}
-use Rattle.task_model.specs.Tree.{LaterTerm, TreeTerm, edit_tree, enter_tree, share_tree, then_tree, next_tree, fail_tree, and_tree, or_tree, xor_tree, State}
-use Rattle.task_model.specs.Input.{ActTerm, set_act, next_act, left_act, right_act, InputTerm}
-use Rattle.task_model.specs.Checked.{CheckedTerm}
-use Rattle.task_model.specs.Plan.{Plan, plan_work, Derives}
-use Rattle.task_model.specs.Rules.{value_of, rule_of}
-use Rattle.task_model.specs.Handling.{if_typed, at_editor, rebuilt, rebuilds, stopped, unless_failing, at_step, handled, handles, settled, interacts, Handled, Interacts}
+use Rattle.task_model.specs.Terms.Basic.{BasicTerm}
+use Rattle.task_model.specs.Terms.Value.{ValueTerm, value_has}
+use Rattle.task_model.specs.Terms.Tree.{LaterTerm, TreeTerm, edit_tree, enter_tree, share_tree, then_tree, next_tree, fail_tree, and_tree, or_tree, xor_tree, State}
+use Rattle.task_model.specs.Terms.Input.{ActTerm, set_act, next_act, left_act, right_act, InputTerm}
+use Rattle.task_model.specs.Running.Checked.{CheckedTerm}
+use Rattle.task_model.specs.Running.Plan.{Plan, plan_work, Derives}
+use Rattle.task_model.specs.Running.Rules.{value_of, rule_of}
+use Rattle.task_model.specs.Running.Handling.{if_typed, at_editor, rebuilt, rebuilds, stopped, unless_failing, at_step, handled, handles, settled, interacts, Handled, Interacts}
 use Rattle.task_model.specs.declared.input.Turn.{Turn}
 use Rattle.task_model.specs.declared.input.Turn.TheVariants as turns
-use Rattle.task_model.specs.Accepted.{IsAccepted}
-use Rattle.task_model.specs.Fits.{StoreHas, LaterHas, TreeHas, StateHas}
-use Rattle.typing_laws.specs.Supposed.{Grows, Kept, Supposed, Assured}
+use Rattle.task_model.specs.Checking.Accepted.{IsAccepted}
+use Rattle.task_model.specs.Checking.Fits.{StoreHas, LaterHas, TreeHas, StateHas}
+use Rattle.typing_laws.specs.Assumed.{Grows, Kept, Assumed, Guaranteed}
 use Rattle.typing_laws.specs.ProgramFacts.{ProgramFacts}
 use Rattle.typing_laws.proofs.GoodLemmas.{good_after, work_keeps}
 use Rattle.typing_laws.proofs.OperatorLemmas.{Has}
@@ -42,7 +42,7 @@ module _ (c : CheckedTerm) where
   good_rebuilt : (Σ : List BasicTerm) (a b : BasicTerm) (f : TreeTerm → TreeTerm) (p : Plan (Option State))
       → ((Σ' : List BasicTerm) → Grows Σ Σ' → (t : TreeTerm) → TreeHas c Σ' t a → TreeHas c Σ' (f t) b) → Goes c p (KeptIf Σ a)
       → Goes c (rebuilds p f) (KeptIf Σ b)
-  good_rebuilt Σ a b f p h g = good_after (Supposed c) (Assured c) p _ (KeptIf Σ a) (KeptIf Σ b) g by_result
+  good_rebuilt Σ a b f p h g = good_after (Assumed c) (Guaranteed c) p _ (KeptIf Σ a) (KeptIf Σ b) g by_result
     where
       by_result : (r : Option State) → KeptIf Σ a r → KeptIf Σ b (rebuilt f r)
       by_result None k = tt
@@ -120,15 +120,15 @@ module _ (c : CheckedTerm) where
     pub interacts_good : (Σ : List BasicTerm) (b : BasicTerm) (s : State) (i : InputTerm) → StateHas c Σ s b
         → Goes c (interacts c s i) (KeptIf Σ b)
     interacts_good Σ b s i h =
-        good_after (Supposed c) (Assured c) (handles c s i) _ (KeptIf Σ b) (KeptIf Σ b)
+        good_after (Assumed c) (Guaranteed c) (handles c s i) _ (KeptIf Σ b) (KeptIf Σ b)
         (handled_good s.tree s.store i.path i.act Σ b h.store h.tree) (good_settled Σ b)
 
   module _ (accepted : IsAccepted c) where
-    -- what a plan leads to has what is assured of it
+    -- what a plan leads to has what is guaranteed of it
     pub works_typed : {A : Type 0} (p : Plan A) (P : A → Type 0) → Goes c p P → (v : A) (n h : ℕ)
         → plan_work (Derives (rule_of c)) p v n h → P v
     works_typed p P g v n h d =
-        work_keeps (Supposed c) (Assured c) (chains c) (Derives (rule_of c))
+        work_keeps (Assumed c) (Guaranteed c) (chains c) (Derives (rule_of c))
         (λ i q s r m k e. derives_typed c accepted e.0 i q s r m k e.1) p P g
         v n h d
 

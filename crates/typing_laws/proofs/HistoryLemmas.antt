@@ -3,25 +3,25 @@ use Rattle.std.proofs.Common.{◌≡◌, ℕ, suc, Bool, true, false, cond, List
 use Rattle.std.specs.Prelude.{◌==◌}
 use Rattle.std.proofs.lemmas.Bool.Decides.{nat_tests}
 use Rattle.std.proofs.lemmas.List.Elements.{All-nil}
-use Rattle.task_model.specs.Text.{same_text}
-use Rattle.task_model.specs.Basic.{BasicTerm}
-use Rattle.task_model.specs.Env.{empty_env}
-use Rattle.task_model.specs.Task.{TaskTerm, call_task}
-use Rattle.task_model.specs.Tree.{State}
-use Rattle.task_model.specs.Program.{ParamTerm, DefBodyTerm, fun_body, task_body, DefTerm, ProgramTerm, main_name}
-use Rattle.task_model.specs.Item.{ItemTerm, opened, took}
-use Rattle.task_model.specs.Checked.{CheckedTerm}
-use Rattle.task_model.specs.Names.{Numbered, first_named, result_of}
-use Rattle.task_model.specs.TypeFault.{IsMet, arity}
-use Rattle.task_model.specs.TaskDemands.{main_parameters, main_what, main_kind, from_parameters, definitions}
-use Rattle.task_model.specs.Host.{no_exprs}
-use Rattle.task_model.specs.Plan.{normal}
-use Rattle.task_model.specs.Typing.{HaveTypes}
-use Rattle.task_model.specs.State.{IsOpening, LeadTo, IsReached}
-use Rattle.task_model.specs.Accepted.{IsAccepted}
-use Rattle.task_model.specs.Fits.{any_call, StateHas}
+use Rattle.task_model.specs.Terms.Text.{same_text}
+use Rattle.task_model.specs.Terms.Basic.{BasicTerm}
+use Rattle.task_model.specs.Terms.Env.{empty_env}
+use Rattle.task_model.specs.Terms.Task.{TaskTerm, call_task}
+use Rattle.task_model.specs.Terms.Tree.{State}
+use Rattle.task_model.specs.Terms.Program.{ParamTerm, DefBodyTerm, fun_body, task_body, DefTerm, ProgramTerm, main_name}
+use Rattle.task_model.specs.Terms.Item.{ItemTerm, opened, took}
+use Rattle.task_model.specs.Running.Checked.{CheckedTerm}
+use Rattle.task_model.specs.Checking.Names.{Numbered, first_named, result_of}
+use Rattle.task_model.specs.Checking.TypeFault.{IsMet, arity}
+use Rattle.task_model.specs.Checking.TaskDemands.{main_parameters, main_what, main_kind, from_parameters, definitions}
+use Rattle.task_model.specs.Terms.Host.{no_exprs}
+use Rattle.task_model.specs.Running.Plan.{normal}
+use Rattle.task_model.specs.Checking.Typing.{HaveTypes}
+use Rattle.task_model.specs.Running.State.{IsOpening, LeadTo, IsReached}
+use Rattle.task_model.specs.Checking.Accepted.{IsAccepted}
+use Rattle.task_model.specs.Checking.Fits.{any_call, StateHas}
 use Rattle.host_types.proofs.TypingLemmas.{first, second, no_unmet, demanded_true}
-use Rattle.typing_laws.specs.Supposed.{IsListed, EvaluationFits, main_type}
+use Rattle.typing_laws.specs.Assumed.{IsListed, EvaluationFits, main_type}
 use Rattle.typing_laws.proofs.ValueLemmas.{types_at}
 use Rattle.typing_laws.proofs.TaskLemmas.{Keeps}
 use Rattle.typing_laws.proofs.RuleLemmas.{derives_typed}

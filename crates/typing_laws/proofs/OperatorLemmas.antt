@@ -3,13 +3,13 @@ use Rattle.std.proofs.Common.{◌≡◌, ℕ, zero, suc, ℤ, ◌-◌, ◌≤◌
 use Rattle.std.specs.Prelude.{nat_le, pos, int_div, int_rem}
 use Rattle.std.specs.Ordering.{int_eq}
 use Rattle.std.proofs.lemmas.Bool.{le-leb, leb-true}
-use Rattle.task_model.specs.Text.{Text}
-use Rattle.task_model.specs.Basic.{BasicTerm, unit_type, bool_type, int_type, text_type, pair_type, list_type}
-use Rattle.task_model.specs.Value.{ValueTerm, unit_value, bool_value, int_value, text_value, pair_value, list_value, ValueTerms, no_values, more_values, as_values, count_of, value_has, values_have}
-use Rattle.task_model.specs.Characters.{characters_of, fitting, cut_text}
-use Rattle.task_model.specs.Operators.{elements_of, list_of, on_ints, operated, negated, opposite, first_of, second_of, length_of, int_of}
-use Rattle.task_model.specs.Typing.{Operates, HasLength}
-use Rattle.task_model.specs.TypeOf.{operator_type}
+use Rattle.task_model.specs.Terms.Text.{Text}
+use Rattle.task_model.specs.Terms.Basic.{BasicTerm, unit_type, bool_type, int_type, text_type, pair_type, list_type}
+use Rattle.task_model.specs.Terms.Value.{ValueTerm, unit_value, bool_value, int_value, text_value, pair_value, list_value, ValueTerms, no_values, more_values, as_values, count_of, value_has, values_have}
+use Rattle.task_model.specs.Syntax.Characters.{characters_of, fitting, cut_text}
+use Rattle.task_model.specs.Running.Operators.{elements_of, list_of, on_ints, operated, negated, opposite, first_of, second_of, length_of, int_of}
+use Rattle.task_model.specs.Checking.Typing.{Operates, HasLength}
+use Rattle.task_model.specs.Checking.TypeOf.{operator_type}
 use Rattle.task_model.specs.declared.host.Op.{Op}
 use Rattle.task_model.specs.declared.host.Op.TheVariants as ops
 

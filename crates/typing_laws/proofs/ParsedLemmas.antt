@@ -5,17 +5,17 @@ use Rattle.std.proofs.lemmas.Bool.Decides.{nat_tests}
 use Rattle.std.specs.List.{All}
 use Rattle.std.proofs.lemmas.Bool.{cases_lt}
 use Rattle.std.proofs.lemmas.List.Elements.{All-nil, All-push}
-use Rattle.task_model.specs.Text.{Text}
-use Rattle.task_model.specs.Task.{BodyTerm}
-use Rattle.task_model.specs.Program.{DefBodyTerm, fun_body, task_body, DefTerm, ProgramTerm}
-use Rattle.task_model.specs.Checked.{starts_in, param_names, names_with, body_first}
-use Rattle.task_model.specs.Grammar as grammar
-use Rattle.task_model.specs.Grammar.{Form, task, task_atom, series, choice, chain, internal, external, Parse, no_definitions, more_definitions, function, task_named, task_let, task_if, task_case, task_new, task_put, task_plain, task_then, task_next, task_edit, task_enter, task_share, task_fail, task_call, task_group, single, joined, tokens}
-use Rattle.task_model.specs.Meaning.{Meaning, meaning, bodies, bodies_of, program_of}
-use Rattle.task_model.specs.FullTask.{FullBody, full_body_numbered, full_in, full_body, full_bodies}
-use Rattle.task_model.specs.TaskDemands.{bodies_in_place}
-use Rattle.task_model.specs.Placed.{Placed, edit_nodes, task_firsts, what_firsts, firsts_in, firsts_of}
-use Rattle.task_model.specs.Written.{IsWritten}
+use Rattle.task_model.specs.Terms.Text.{Text}
+use Rattle.task_model.specs.Terms.Task.{BodyTerm}
+use Rattle.task_model.specs.Terms.Program.{DefBodyTerm, fun_body, task_body, DefTerm, ProgramTerm}
+use Rattle.task_model.specs.Running.Checked.{starts_in, param_names, names_with, body_first}
+use Rattle.task_model.specs.Syntax.Grammar as grammar
+use Rattle.task_model.specs.Syntax.Grammar.{Form, task, task_atom, series, choice, chain, internal, external, Parse, no_definitions, more_definitions, function, task_named, task_let, task_if, task_case, task_new, task_put, task_plain, task_then, task_next, task_edit, task_enter, task_share, task_fail, task_call, task_group, single, joined, tokens}
+use Rattle.task_model.specs.Syntax.Meaning.{Meaning, meaning, bodies, bodies_of, program_of}
+use Rattle.task_model.specs.Checking.FullTask.{FullBody, full_body_numbered, full_in, full_body, full_bodies}
+use Rattle.task_model.specs.Checking.TaskDemands.{bodies_in_place}
+use Rattle.task_model.specs.Checking.Placed.{Placed, edit_nodes, task_firsts, what_firsts, firsts_in, firsts_of}
+use Rattle.task_model.specs.Syntax.Written.{IsWritten}
 use Rattle.task_model.proofs.BodyCounts.{bodies_count}
 use Rattle.task_laws.proofs.ParseLemmas.{IsTask, term_at, whole, body_of, body_here, in_place}
 use Rattle.task_laws.proofs.CountLemmas.{lists_head, items_head}
@@ -23,7 +23,7 @@ use Rattle.task_laws.proofs.StartLemmas.{Stands, stands_first, stands_second, st
 use Rattle.task_laws.proofs.PlacedLemmas.{placed_whole}
 use Rattle.task_laws.proofs.TableLemmas.{all_edits, firsts_more, program_starts, stands_whole, nodes_before}
 use Rattle.typing_laws.specs.Texts.{HasShortTexts, TaskTextsAreShort}
-use Rattle.typing_laws.specs.Supposed.{task_in_place, IsListed, BindsNothing, SidesBindNothing}
+use Rattle.typing_laws.specs.Assumed.{task_in_place, IsListed, BindsNothing, SidesBindNothing}
 use Rattle.typing_laws.specs.ProgramFacts.{BodyStands}
 use Rattle.typing_laws.proofs.PartLemmas.{recursion_first, recursion_second}
 use Rattle.typing_laws.proofs.TextLemmas.{Within, AllWithin, IsShort, two, three, short, tokens_within}

@@ -7,13 +7,13 @@ use Rattle.std.proofs.lemmas.Bool.Decides.{nat_tests}
 use Rattle.std.proofs.lemmas.List.{drop-drop}
 use Rattle.std.proofs.Math.Seq.{drop-append_seam}
 use Rattle.std.proofs.lemmas.List.Elements.{All-from_recursion, recursion_from_All}
-use Rattle.task_model.specs.Text.{Text}
-use Rattle.task_model.specs.Task.{TaskTerm, edit, enter, share, fail, call_task, then_task, next_task, and_task, or_task, xor_task, let_task, if_task, case_task, new_task, put_task, BodyTerm}
-use Rattle.task_model.specs.Program.{ParamTerm, ProgramTerm}
-use Rattle.task_model.specs.Checked.{nodes_in, body_nodes, counts_from, nodes_of}
-use Rattle.task_model.specs.FullTask.{FullTask, full_step, FullBody, full_body_numbered, step_with, step_over, sides_of, full_in, full_body, full_bodies}
-use Rattle.task_model.specs.TypeOf.{listed_types}
-use Rattle.task_model.specs.Placed.{Placed, edit_nodes}
+use Rattle.task_model.specs.Terms.Text.{Text}
+use Rattle.task_model.specs.Terms.Task.{TaskTerm, edit, enter, share, fail, call_task, then_task, next_task, and_task, or_task, xor_task, let_task, if_task, case_task, new_task, put_task, BodyTerm}
+use Rattle.task_model.specs.Terms.Program.{ParamTerm, ProgramTerm}
+use Rattle.task_model.specs.Running.Checked.{nodes_in, body_nodes, counts_from, nodes_of}
+use Rattle.task_model.specs.Checking.FullTask.{FullTask, full_step, FullBody, full_body_numbered, step_with, step_over, sides_of, full_in, full_body, full_bodies}
+use Rattle.task_model.specs.Checking.TypeOf.{listed_types}
+use Rattle.task_model.specs.Checking.Placed.{Placed, edit_nodes}
 use Rattle.task_laws.proofs.ParseLemmas.{both, body_passed}
 use Rattle.task_laws.proofs.CountLemmas.{count_passed, count_here}
 use Rattle.host_types.proofs.CountLemmas.{counted}

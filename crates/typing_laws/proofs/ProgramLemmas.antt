@@ -2,20 +2,20 @@
 use Rattle.std.proofs.Common.{◌≡◌, ℕ, suc, Bool, true, false, cond, List, [], ◌∷◌, ◌++◌, Some, sym, ap, ◌∙◌, subst}
 use Rattle.std.specs.List.{All}
 use Rattle.std.proofs.lemmas.List.Elements.{All-head, All-tail}
-use Rattle.task_model.specs.Text.{Text, same_text}
-use Rattle.task_model.specs.Host.{HostTerm}
-use Rattle.task_model.specs.Task.{TaskTerm}
-use Rattle.task_model.specs.Program.{fun_body, task_body, DefTerm}
-use Rattle.task_model.specs.Checked.{CheckedTerm, what_starts, param_names}
-use Rattle.task_model.specs.Names.{Numbered, first_named}
-use Rattle.task_model.specs.TypeFault.{IsMet}
-use Rattle.task_model.specs.TaskDemands.{body_demands, demands_of, what_types}
-use Rattle.task_model.specs.Placed.{IsPlacedIn}
-use Rattle.task_model.specs.Accepted.{IsAccepted}
+use Rattle.task_model.specs.Terms.Text.{Text, same_text}
+use Rattle.task_model.specs.Terms.Host.{HostTerm}
+use Rattle.task_model.specs.Terms.Task.{TaskTerm}
+use Rattle.task_model.specs.Terms.Program.{fun_body, task_body, DefTerm}
+use Rattle.task_model.specs.Running.Checked.{CheckedTerm, what_starts, param_names}
+use Rattle.task_model.specs.Checking.Names.{Numbered, first_named}
+use Rattle.task_model.specs.Checking.TypeFault.{IsMet}
+use Rattle.task_model.specs.Checking.TaskDemands.{body_demands, demands_of, what_types}
+use Rattle.task_model.specs.Checking.Placed.{IsPlacedIn}
+use Rattle.task_model.specs.Checking.Accepted.{IsAccepted}
 use Rattle.task_model.proofs.DemandLemmas.{first_unmet-listed}
 use Rattle.task_laws.proofs.PlacedLemmas.{written_placed}
 use Rattle.task_laws.proofs.TableLemmas.{starts_there}
-use Rattle.typing_laws.specs.Supposed.{IsListed}
+use Rattle.typing_laws.specs.Assumed.{IsListed}
 use Rattle.typing_laws.specs.ProgramFacts.{FunctionStands, CalleeStands, ProgramFacts}
 use Rattle.typing_laws.proofs.DefinitionLemmas.{definition_met, function_typed, body_typed, function_found, task_found}
 use Rattle.typing_laws.proofs.ParsedLemmas.{WhatStands, written_definitions, written_bodies}

@@ -3,25 +3,25 @@ use Rattle.std.proofs.Common.{◌≡◌, ℕ, ◌+◌, List, [], ◌∷◌, ◌+
 use Rattle.std.specs.List.{All}
 use Rattle.std.proofs.lemmas.List.{map-append}
 use Rattle.std.proofs.lemmas.List.Elements.{All-head, All-tail}
-use Rattle.task_model.specs.Text.{Text}
-use Rattle.task_model.specs.Basic.{BasicTerm}
-use Rattle.task_model.specs.Value.{ValueTerm}
-use Rattle.task_model.specs.Env.{SlotTerm, plain_slot, EnvTerm}
-use Rattle.task_model.specs.Task.{TaskTerm, xor_task}
-use Rattle.task_model.specs.Program.{plain_kind, ParamTerm}
-use Rattle.task_model.specs.Checked.{CheckedTerm, Start, starts_in, nodes_of, body_nodes, counts_of, param_names, names_with}
-use Rattle.task_model.specs.Names.{bind_value}
-use Rattle.task_model.specs.Rules.{later}
-use Rattle.task_model.specs.FullTask.{FullTask, full_body_numbered, step_over, sides_of}
-use Rattle.task_model.specs.TypeOf.{listed_types, task_type}
-use Rattle.task_model.specs.TaskDemands.{bodies_in_place}
-use Rattle.task_model.specs.TaskTyping.{HasTask}
-use Rattle.task_model.specs.Placed.{Placed}
-use Rattle.task_model.specs.Fits.{StoreHas, SlotsHave, EnvHas, any_call, TaskFits, BindsAs, LaterHas}
+use Rattle.task_model.specs.Terms.Text.{Text}
+use Rattle.task_model.specs.Terms.Basic.{BasicTerm}
+use Rattle.task_model.specs.Terms.Value.{ValueTerm}
+use Rattle.task_model.specs.Terms.Env.{SlotTerm, plain_slot, EnvTerm}
+use Rattle.task_model.specs.Terms.Task.{TaskTerm, xor_task}
+use Rattle.task_model.specs.Terms.Program.{plain_kind, ParamTerm}
+use Rattle.task_model.specs.Running.Checked.{CheckedTerm, Start, starts_in, nodes_of, body_nodes, counts_of, param_names, names_with}
+use Rattle.task_model.specs.Checking.Names.{bind_value}
+use Rattle.task_model.specs.Running.Rules.{later}
+use Rattle.task_model.specs.Checking.FullTask.{FullTask, full_body_numbered, step_over, sides_of}
+use Rattle.task_model.specs.Checking.TypeOf.{listed_types, task_type}
+use Rattle.task_model.specs.Checking.TaskDemands.{bodies_in_place}
+use Rattle.task_model.specs.Checking.TaskTyping.{HasTask}
+use Rattle.task_model.specs.Checking.Placed.{Placed}
+use Rattle.task_model.specs.Checking.Fits.{StoreHas, SlotsHave, EnvHas, any_call, TaskFits, BindsAs, LaterHas}
 use Rattle.task_laws.proofs.ParseLemmas.{both}
 use Rattle.host_types.proofs.CountLemmas.{counted}
 use Rattle.typing_laws.specs.Texts.{TaskTextsAreShort}
-use Rattle.typing_laws.specs.Supposed.{task_in_place, IsListed, SidesBindNothing, StandsIn, EvaluationFits}
+use Rattle.typing_laws.specs.Assumed.{task_in_place, IsListed, SidesBindNothing, StandsIn, EvaluationFits}
 use Rattle.typing_laws.proofs.OperatorLemmas.{Has}
 use Rattle.typing_laws.proofs.FitLemmas.{slots_push}
 use Rattle.typing_laws.proofs.UniqueLemmas.{task_type_is}

@@ -1,20 +1,20 @@
 -- Tasks: the tree has the task's type over the store that is left, and no plan gets stuck, by a case for each form.
 use Rattle.std.proofs.Common.{◌≡◌, ℕ, ◌+◌, List, [], ◌∷◌, ◌++◌, length, drop, Some, None, refl, sym, ap, subst}
 use Rattle.std.specs.Prelude.{slice_get, slice_set}
-use Rattle.task_model.specs.Basic.{BasicTerm, bool_type}
-use Rattle.task_model.specs.Value.{ValueTerm}
-use Rattle.task_model.specs.Env.{plain_slot, place_slot, EnvTerm}
-use Rattle.task_model.specs.Host.{HostTerm, as_exprs}
-use Rattle.task_model.specs.Task.{TaskTerm, edit, enter, share, fail, call_task, then_task, next_task, and_task, or_task, xor_task, let_task, if_task, case_task, new_task, put_task}
-use Rattle.task_model.specs.Tree.{TreeTerm, edit_tree, enter_tree, share_tree, then_tree, next_tree, fail_tree, and_tree, or_tree, xor_tree, State, at}
-use Rattle.task_model.specs.Program.{plain_kind, ref_kind, ParamTerm}
-use Rattle.task_model.specs.Checked.{CheckedTerm, slot_of, nodes_of, task_named, param_names}
-use Rattle.task_model.specs.Names.{bind_value, bind_place, kind_in, named_type}
-use Rattle.task_model.specs.Plan.{give, ask, evaluates}
-use Rattle.task_model.specs.Rules.{later, later_by, bound, exprs_of, slots_for, evaluate_rule}
-use Rattle.task_model.specs.TypeOf.{type_of}
-use Rattle.task_model.specs.Fits.{StoreHas, SlotsHave, EnvHas, any_call, TaskFits, TreeHas}
-use Rattle.typing_laws.specs.Supposed.{Typing, Grows, Kept, StandsIn, EvaluationFits, Supposed, Assured}
+use Rattle.task_model.specs.Terms.Basic.{BasicTerm, bool_type}
+use Rattle.task_model.specs.Terms.Value.{ValueTerm}
+use Rattle.task_model.specs.Terms.Env.{plain_slot, place_slot, EnvTerm}
+use Rattle.task_model.specs.Terms.Host.{HostTerm, as_exprs}
+use Rattle.task_model.specs.Terms.Task.{TaskTerm, edit, enter, share, fail, call_task, then_task, next_task, and_task, or_task, xor_task, let_task, if_task, case_task, new_task, put_task}
+use Rattle.task_model.specs.Terms.Tree.{TreeTerm, edit_tree, enter_tree, share_tree, then_tree, next_tree, fail_tree, and_tree, or_tree, xor_tree, State, at}
+use Rattle.task_model.specs.Terms.Program.{plain_kind, ref_kind, ParamTerm}
+use Rattle.task_model.specs.Running.Checked.{CheckedTerm, slot_of, nodes_of, task_named, param_names}
+use Rattle.task_model.specs.Checking.Names.{bind_value, bind_place, kind_in, named_type}
+use Rattle.task_model.specs.Running.Plan.{give, ask, evaluates}
+use Rattle.task_model.specs.Running.Rules.{later, later_by, bound, exprs_of, slots_for, evaluate_rule}
+use Rattle.task_model.specs.Checking.TypeOf.{type_of}
+use Rattle.task_model.specs.Checking.Fits.{StoreHas, SlotsHave, EnvHas, any_call, TaskFits, TreeHas}
+use Rattle.typing_laws.specs.Assumed.{Typing, Grows, Kept, StandsIn, EvaluationFits, Assumed, Guaranteed}
 use Rattle.typing_laws.specs.ProgramFacts.{ProgramFacts}
 use Rattle.typing_laws.proofs.GoodLemmas.{good_after}
 use Rattle.typing_laws.proofs.OperatorLemmas.{Has}
@@ -101,7 +101,7 @@ module _ (c : CheckedTerm) where
         let there = facts.tasks f d calls.body calls.first calls.task in
         good_known c (task_named c.program f) (record { params = d.def.params; task = calls.body; first = there.first }) _
         (Kept c i) there.named
-        (good_after (Supposed c) (Assured c) (slots_for env σ [] es d.def.params) _ _ (Kept c i)
+        (good_after (Assumed c) (Guaranteed c) (slots_for env σ [] es d.def.params) _ _ (Kept c i)
         (subst (λ z. Goes c (slots_for env σ [] z d.def.params) (λ vs. SlotsHave i.places vs d.def.params)) (exprs_are es)
         (good_slots c i.places env σ None h.scope h.names h.store (as_exprs es) [] [] d.def.params h.fits.typed.3 h.stands.texts tt))
         (λ vs hv. (

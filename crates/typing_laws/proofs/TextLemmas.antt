@@ -1,13 +1,13 @@
 -- The texts of what is written are within the limit, since its tokens are.
 use Rattle.std.proofs.Common.{◌≡◌, ℕ, ◌+◌, List, [], ◌∷◌, ◌++◌, length, sym, ◌∙◌, subst}
 use Rattle.std.specs.List.{AllByRecursion}
-use Rattle.task_model.specs.Text.{Text}
-use Rattle.task_model.specs.Host.{HostTerm, as_exprs}
-use Rattle.task_model.specs.Program.{DefBodyTerm, fun_body, task_body}
-use Rattle.task_model.specs.Token.{TokenTerm, HasTokens, Piece, blank, comment, lexeme, AreRight, IsWithinTokenLimits, tokens_from}
-use Rattle.task_model.specs.Lexemes.{Lexeme, token_term, token_terms}
-use Rattle.task_model.specs.Grammar.{parameters, arguments, list, choice, chain, either, both, sum, product, Form, program, definition, parameter, basic, task, task_atom, expression, comparison, listed, operand, atom, series, enclosed, internal, external, or, and, plus, minus, join, times, quot, rem, Prefix, negative, not, fst, snd, len, Parse, no_definitions, more_definitions, function, task_named, value_named, reference_named, scalar_type, pair_type, list_type, task_let, task_if, task_case, task_new, task_put, task_plain, task_then, task_next, task_edit, task_enter, task_share, task_fail, task_call, task_group, let_in, if_then, case_of, plain, uncompared, compared, unlisted, cons, prefixed, unprefixed, digits, quoted, constant, nothing, named, content, call, group, pair, elements, nil, single, joined, empty, full, tokens}
-use Rattle.task_model.specs.Meaning.{Meaning, meaning, bodies, unary_expression}
+use Rattle.task_model.specs.Terms.Text.{Text}
+use Rattle.task_model.specs.Terms.Host.{HostTerm, as_exprs}
+use Rattle.task_model.specs.Terms.Program.{DefBodyTerm, fun_body, task_body}
+use Rattle.task_model.specs.Terms.Token.{TokenTerm, HasTokens, Piece, blank, comment, lexeme, AreRight, IsWithinTokenLimits, tokens_from}
+use Rattle.task_model.specs.Syntax.Lexemes.{Lexeme, token_term, token_terms}
+use Rattle.task_model.specs.Syntax.Grammar.{parameters, arguments, list, choice, chain, either, both, sum, product, Form, program, definition, parameter, basic, task, task_atom, expression, comparison, listed, operand, atom, series, enclosed, internal, external, or, and, plus, minus, join, times, quot, rem, Prefix, negative, not, fst, snd, len, Parse, no_definitions, more_definitions, function, task_named, value_named, reference_named, scalar_type, pair_type, list_type, task_let, task_if, task_case, task_new, task_put, task_plain, task_then, task_next, task_edit, task_enter, task_share, task_fail, task_call, task_group, let_in, if_then, case_of, plain, uncompared, compared, unlisted, cons, prefixed, unprefixed, digits, quoted, constant, nothing, named, content, call, group, pair, elements, nil, single, joined, empty, full, tokens}
+use Rattle.task_model.specs.Syntax.Meaning.{Meaning, meaning, bodies, unary_expression}
 use Rattle.typing_laws.specs.Texts.{HasShortTexts, HaveShortTexts, TaskTextsAreShort}
 use Rattle.typing_laws.proofs.PartLemmas.{recursion_first, recursion_second}
 

@@ -2,16 +2,16 @@
 use Rattle.std.proofs.Common.{◌≡◌, Bool, false, List, [], ◌∷◌, ◌++◌, Option, Some, None, sym, ◌∙◌, subst}
 use Rattle.std.specs.Prelude.{slice_get}
 use Rattle.std.specs.Option.{option_or}
-use Rattle.task_model.specs.Basic.{BasicTerm, pair_type}
-use Rattle.task_model.specs.Value.{ValueTerm}
-use Rattle.task_model.specs.Env.{SlotTerm, plain_slot}
-use Rattle.task_model.specs.Task.{BodyTerm}
-use Rattle.task_model.specs.Tree.{LaterTerm, TreeTerm, edit_tree, enter_tree, share_tree, then_tree, next_tree, fail_tree, and_tree, or_tree, xor_tree, State, at}
-use Rattle.task_model.specs.Checked.{CheckedTerm, body_first}
-use Rattle.task_model.specs.Plan.{Plan, give, ask, fails, known}
-use Rattle.task_model.specs.Rules.{branch, paired, value_of, with_value, or_of, opened_env, applied, tested, side, fail_rule, fired, stride_rule}
-use Rattle.task_model.specs.Fits.{StoreHas, SlotsHave, BindsAs, TaskFits, LaterHas, TreeHas, StateHas}
-use Rattle.typing_laws.specs.Supposed.{Grows, EvaluationFits, Supposed, Assured}
+use Rattle.task_model.specs.Terms.Basic.{BasicTerm, pair_type}
+use Rattle.task_model.specs.Terms.Value.{ValueTerm}
+use Rattle.task_model.specs.Terms.Env.{SlotTerm, plain_slot}
+use Rattle.task_model.specs.Terms.Task.{BodyTerm}
+use Rattle.task_model.specs.Terms.Tree.{LaterTerm, TreeTerm, edit_tree, enter_tree, share_tree, then_tree, next_tree, fail_tree, and_tree, or_tree, xor_tree, State, at}
+use Rattle.task_model.specs.Running.Checked.{CheckedTerm, body_first}
+use Rattle.task_model.specs.Running.Plan.{Plan, give, ask, fails, known}
+use Rattle.task_model.specs.Running.Rules.{branch, paired, value_of, with_value, or_of, opened_env, applied, tested, side, fail_rule, fired, stride_rule}
+use Rattle.task_model.specs.Checking.Fits.{StoreHas, SlotsHave, BindsAs, TaskFits, LaterHas, TreeHas, StateHas}
+use Rattle.typing_laws.specs.Assumed.{Grows, EvaluationFits, Assumed, Guaranteed}
 use Rattle.typing_laws.specs.ProgramFacts.{ProgramFacts}
 use Rattle.typing_laws.proofs.GoodLemmas.{good_after}
 use Rattle.typing_laws.proofs.OperatorLemmas.{Has, SomeHas, pair_has}
@@ -129,7 +129,7 @@ module _ (c : CheckedTerm) where
     fail_good (and_tree t u) σ Σ b s h = good_fails t u σ Σ h.0 h.1 s h.3 h.4
     fail_good (or_tree t u) σ Σ b s h = good_fails t u σ Σ b b s h.0 h.1
     fail_good (xor_tree j k) σ Σ b s h =
-        good_after (Supposed c) (Assured c) (side c j σ) _ (λ x. Unit {0}) (λ x. Unit {0})
+        good_after (Assumed c) (Guaranteed c) (side c j σ) _ (λ x. Unit {0}) (λ x. Unit {0})
         (good_side Σ j σ b _ (λ x. Unit {0}) h.0 s (λ t no ht. tt))
         (λ no hn. good_branch c no _ _ (λ x. Unit {0}) (good_side Σ k σ b _ (λ x. Unit {0}) h.1 s (λ t no ht. tt)) tt)
 

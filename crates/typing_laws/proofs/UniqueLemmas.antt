@@ -1,17 +1,17 @@
 -- An expression and a task have one type alone, in a scope: the one that is listed.
 use Rattle.std.proofs.Common.{◌≡◌, List, sym, ap, ◌∙◌, subst}
-use Rattle.task_model.specs.Text.{Text}
-use Rattle.task_model.specs.Basic.{BasicTerm, pair_type, list_type}
-use Rattle.task_model.specs.Host.{HostTerm, unit_expr, bool_expr, int_expr, text_expr, name_expr, read_expr, call_expr, pair_expr, list_expr, nil_expr, neg_expr, not_expr, fst_expr, snd_expr, len_expr, op_expr, let_expr, if_expr, case_expr, no_exprs, more_exprs}
-use Rattle.task_model.specs.Program.{ParamTerm}
+use Rattle.task_model.specs.Terms.Text.{Text}
+use Rattle.task_model.specs.Terms.Basic.{BasicTerm, pair_type, list_type}
+use Rattle.task_model.specs.Terms.Host.{HostTerm, unit_expr, bool_expr, int_expr, text_expr, name_expr, read_expr, call_expr, pair_expr, list_expr, nil_expr, neg_expr, not_expr, fst_expr, snd_expr, len_expr, op_expr, let_expr, if_expr, case_expr, no_exprs, more_exprs}
+use Rattle.task_model.specs.Terms.Program.{ParamTerm}
 use Rattle.task_model.specs.declared.host.Op.{Op}
 use Rattle.task_model.specs.declared.host.Op.TheVariants as ops
-use Rattle.task_model.specs.TypeParts.{first_part, second_part, item_part}
-use Rattle.task_model.specs.Names.{bind_value, bind_place, named_type, result_of, CallsTerm, all_open}
-use Rattle.task_model.specs.FullTask.{FullTask, full_edit, full_enter, full_share, full_fail, full_call, full_step, full_and, full_or, full_xor, full_let, full_if, full_case, full_new, full_put, full_absent}
-use Rattle.task_model.specs.TypeOf.{operator_type, type_of, task_type}
-use Rattle.task_model.specs.Typing.{Operates, HasType}
-use Rattle.task_model.specs.TaskTyping.{HasTask}
+use Rattle.task_model.specs.Checking.TypeParts.{first_part, second_part, item_part}
+use Rattle.task_model.specs.Checking.Names.{bind_value, bind_place, named_type, result_of, CallsTerm, all_open}
+use Rattle.task_model.specs.Checking.FullTask.{FullTask, full_edit, full_enter, full_share, full_fail, full_call, full_step, full_and, full_or, full_xor, full_let, full_if, full_case, full_new, full_put, full_absent}
+use Rattle.task_model.specs.Checking.TypeOf.{operator_type, type_of, task_type}
+use Rattle.task_model.specs.Checking.Typing.{Operates, HasType}
+use Rattle.task_model.specs.Checking.TaskTyping.{HasTask}
 
 operates_is : (o : Op) (a c b : BasicTerm) → Operates o a c b → b ≡ operator_type o c
 operates_is ops.Eq a c b h = h.1

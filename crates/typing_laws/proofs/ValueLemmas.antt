@@ -1,23 +1,23 @@
 -- Expressions: each value has its type, and no plan gets stuck, by a case for each form.
 use Rattle.std.proofs.Common.{◌≡◌, ℕ, Bool, true, false, List, [], ◌∷◌, ◌++◌, Option, Some, None, refl, sym, ◌∙◌, subst, append-nil, append_assoc}
 use Rattle.std.specs.Prelude.{slice_get}
-use Rattle.task_model.specs.Text.{Text}
-use Rattle.task_model.specs.Basic.{BasicTerm, bool_type, int_type, pair_type, list_type}
-use Rattle.task_model.specs.Value.{ValueTerm, unit_value, bool_value, int_value, text_value, pair_value, list_value, no_values, more_values, as_values, values_have}
-use Rattle.task_model.specs.Env.{SlotTerm, plain_slot, place_slot, EnvTerm}
-use Rattle.task_model.specs.Host.{HostTerm, HostTerms, unit_expr, bool_expr, int_expr, text_expr, name_expr, read_expr, call_expr, pair_expr, list_expr, nil_expr, neg_expr, not_expr, fst_expr, snd_expr, len_expr, op_expr, let_expr, if_expr, case_expr, no_exprs, more_exprs}
-use Rattle.task_model.specs.Program.{KindTerm, plain_kind, ref_kind, ParamTerm}
+use Rattle.task_model.specs.Terms.Text.{Text}
+use Rattle.task_model.specs.Terms.Basic.{BasicTerm, bool_type, int_type, pair_type, list_type}
+use Rattle.task_model.specs.Terms.Value.{ValueTerm, unit_value, bool_value, int_value, text_value, pair_value, list_value, no_values, more_values, as_values, values_have}
+use Rattle.task_model.specs.Terms.Env.{SlotTerm, plain_slot, place_slot, EnvTerm}
+use Rattle.task_model.specs.Terms.Host.{HostTerm, HostTerms, unit_expr, bool_expr, int_expr, text_expr, name_expr, read_expr, call_expr, pair_expr, list_expr, nil_expr, neg_expr, not_expr, fst_expr, snd_expr, len_expr, op_expr, let_expr, if_expr, case_expr, no_exprs, more_exprs}
+use Rattle.task_model.specs.Terms.Program.{KindTerm, plain_kind, ref_kind, ParamTerm}
 use Rattle.task_model.specs.declared.host.Op.{Op}
 use Rattle.task_model.specs.declared.host.Op.TheVariants as ops
-use Rattle.task_model.specs.Checked.{CheckedTerm, slot_of, fun_named, param_names}
-use Rattle.task_model.specs.Names.{bind_value}
-use Rattle.task_model.specs.Plan.{Plan, give, ask, gives_value, known}
-use Rattle.task_model.specs.Operators.{negated, opposite, first_of, second_of, length_of, operated, list_of}
-use Rattle.task_model.specs.Rules.{as_value, as_place, bare_name, branch, chosen, matched, exprs_of, slot_for, slots_for, values_for, op_rule, value_rule}
-use Rattle.task_model.specs.Typing.{HasType, HaveTypes, AllHave, IsReference, OfKind, Operates}
-use Rattle.task_model.specs.Fits.{StoreHas, SlotHas, SlotsHave, EnvHas}
+use Rattle.task_model.specs.Running.Checked.{CheckedTerm, slot_of, fun_named, param_names}
+use Rattle.task_model.specs.Checking.Names.{bind_value}
+use Rattle.task_model.specs.Running.Plan.{Plan, give, ask, gives_value, known}
+use Rattle.task_model.specs.Running.Operators.{negated, opposite, first_of, second_of, length_of, operated, list_of}
+use Rattle.task_model.specs.Running.Rules.{as_value, as_place, bare_name, branch, chosen, matched, exprs_of, slot_for, slots_for, values_for, op_rule, value_rule}
+use Rattle.task_model.specs.Checking.Typing.{HasType, HaveTypes, AllHave, IsReference, OfKind, Operates}
+use Rattle.task_model.specs.Checking.Fits.{StoreHas, SlotHas, SlotsHave, EnvHas}
 use Rattle.typing_laws.specs.Texts.{HasShortTexts, HaveShortTexts}
-use Rattle.typing_laws.specs.Supposed.{Typing, calls_below, ExpressionFits, Supposed, Assured}
+use Rattle.typing_laws.specs.Assumed.{Typing, calls_below, ExpressionFits, Assumed, Guaranteed}
 use Rattle.typing_laws.specs.ProgramFacts.{ProgramFacts}
 use Rattle.typing_laws.specs.Good.{Good}
 use Rattle.typing_laws.proofs.GoodLemmas.{good_after}
@@ -30,7 +30,7 @@ types_at Σ b = record { places = Σ; type = b }
 module _ (c : CheckedTerm) where
   -- the plan goes well, and its result has P
   abbrev pub Goes : {A : Type 0} → Plan A → (A → Type 0) → Type 0
-  Goes p P = Good (Supposed c) (Assured c) p P
+  Goes p P = Good (Assumed c) (Guaranteed c) p P
 
   -- ---- what a rule makes of what there is
   pub good_known : {X A : Type 0} (o : Option X) (x : X) (f : X → Plan A) (P : A → Type 0) → o ≡ Some x → Goes (f x) P → Goes (known o f) P
@@ -170,7 +170,7 @@ module _ (c : CheckedTerm) where
         let calls = h.typed.1 in
         let there = facts.functions f d calls.body calls.first calls.function in
         good_known (fun_named c.program f) (record { params = d.def.params; expr = calls.body }) _ (λ v. Has v i.type) there.named
-        (good_after (Supposed c) (Assured c) (slots_for env σ [] (exprs_of es) d.def.params) _ _ (λ v. Has v i.type)
+        (good_after (Assumed c) (Guaranteed c) (slots_for env σ [] (exprs_of es) d.def.params) _ _ (λ v. Has v i.type)
         (good_slots i.places env σ h.below h.scope h.names h.store es [] [] d.def.params h.typed.3 h.texts tt)
         (λ vs hv. (
           types_at i.places d.def.result,
@@ -190,7 +190,7 @@ module _ (c : CheckedTerm) where
     )
     value_good i (list_expr no_exprs) env σ h = subst (Has (list_of [])) (sym h.typed) refl
     value_good i (list_expr (more_exprs e es)) env σ h =
-        good_after (Supposed c) (Assured c) (values_for env σ [] (more_exprs e es)) _ _ (λ v. Has v i.type)
+        good_after (Assumed c) (Guaranteed c) (values_for env σ [] (more_exprs e es)) _ _ (λ v. Has v i.type)
         (good_values i.places env σ h.below h.scope h.names h.store (more_exprs e es) [] h.typed.0 (h.typed.2, h.typed.3) h.texts refl)
         (λ vs hv. subst (Has (list_of vs)) (sym h.typed.1) (list_has vs h.typed.0 hv))
     value_good i (nil_expr a) env σ h = subst (Has (list_value no_values)) (sym h.typed) refl

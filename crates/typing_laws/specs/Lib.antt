@@ -1,5 +1,5 @@
 pub mod Texts
-pub mod Supposed
+pub mod Assumed
 pub mod Good
 pub mod Well
 pub mod ProgramFacts

@@ -1,18 +1,18 @@
 -- What the laws use of an accepted program: its functions, tasks and bodies, each as it stands in the program.
 use Rattle.std.specs.Prelude.{◌≡◌, ℕ, Option, Some, slice_get}
-use Rattle.task_model.specs.Text.{Text}
-use Rattle.task_model.specs.Host.{HostTerm}
-use Rattle.task_model.specs.Task.{TaskTerm, BodyTerm}
-use Rattle.task_model.specs.Program.{fun_body, task_body, ProgramTerm}
-use Rattle.task_model.specs.Checked.{CheckedTerm, fun_named, task_named, param_names, names_with, body_first}
-use Rattle.task_model.specs.Names.{Numbered, first_named}
-use Rattle.task_model.specs.FullTask.{FullBody, full_body_numbered}
-use Rattle.task_model.specs.TaskDemands.{bodies_in_place}
-use Rattle.task_model.specs.Typing.{HasType}
-use Rattle.task_model.specs.Placed.{firsts_of}
-use Rattle.task_model.specs.Fits.{TaskFits}
+use Rattle.task_model.specs.Terms.Text.{Text}
+use Rattle.task_model.specs.Terms.Host.{HostTerm}
+use Rattle.task_model.specs.Terms.Task.{TaskTerm, BodyTerm}
+use Rattle.task_model.specs.Terms.Program.{fun_body, task_body, ProgramTerm}
+use Rattle.task_model.specs.Running.Checked.{CheckedTerm, fun_named, task_named, param_names, names_with, body_first}
+use Rattle.task_model.specs.Checking.Names.{Numbered, first_named}
+use Rattle.task_model.specs.Checking.FullTask.{FullBody, full_body_numbered}
+use Rattle.task_model.specs.Checking.TaskDemands.{bodies_in_place}
+use Rattle.task_model.specs.Checking.Typing.{HasType}
+use Rattle.task_model.specs.Checking.Placed.{firsts_of}
+use Rattle.task_model.specs.Checking.Fits.{TaskFits}
 use Rattle.typing_laws.specs.Texts.{HasShortTexts}
-use Rattle.typing_laws.specs.Supposed.{calls_below, task_in_place, StandsIn}
+use Rattle.typing_laws.specs.Assumed.{calls_below, task_in_place, StandsIn}
 
 -- A function is found by its name, its body has its result type where its parameters are in scope, and its texts are within the limit.
 pub record FunctionStands (c : CheckedTerm) (f : Text) (d : Numbered) (e : HostTerm) : Type 0 where

@@ -1,7 +1,7 @@
 -- Expressions and tasks whose texts are within the limit: a text has at most 65,536 bytes (docs/LANGUAGE.md, "Tokens").
 use Rattle.std.specs.Prelude.{◌≤◌, length}
-use Rattle.task_model.specs.Host.{HostTerm, HostTerms, text_expr, call_expr, pair_expr, list_expr, neg_expr, not_expr, fst_expr, snd_expr, len_expr, op_expr, let_expr, if_expr, case_expr, no_exprs, more_exprs, as_exprs}
-use Rattle.task_model.specs.Task.{TaskTerm, edit, call_task, then_task, next_task, and_task, or_task, let_task, if_task, case_task, new_task, put_task}
+use Rattle.task_model.specs.Terms.Host.{HostTerm, HostTerms, text_expr, call_expr, pair_expr, list_expr, neg_expr, not_expr, fst_expr, snd_expr, len_expr, op_expr, let_expr, if_expr, case_expr, no_exprs, more_exprs, as_exprs}
+use Rattle.task_model.specs.Terms.Task.{TaskTerm, edit, call_task, then_task, next_task, and_task, or_task, let_task, if_task, case_task, new_task, put_task}
 
 abbrev mutual
   -- each text of an expression is within the limit

@@ -4,15 +4,15 @@ use Rattle.std.specs.Prelude.{OnErr, IfOk}
 use Rattle.std.specs.Option.{is_some}
 use Rattle.std.proofs.lemmas.List.{map-append, length-map}
 use Rattle.std.proofs.lemmas.Result.{IfOk-weaker}
-use Rattle.task_model.specs.Rowed.{Rowed}
-use Rattle.task_model.specs.Value.{ValueTerm, value_term}
-use Rattle.task_model.specs.Tree.{tree_term, State, at}
-use Rattle.task_model.specs.Input.{InputTerm, EntryTerm}
-use Rattle.task_model.specs.Item.{took, item_term, history_term}
-use Rattle.task_model.specs.Checked.{SeenChecked, CheckedTerm, checked_term}
-use Rattle.task_model.specs.Widget.{WidgetTerm, AreWidgets}
-use Rattle.task_model.specs.Fits.{Fits}
-use Rattle.task_model.specs.State.{IsEntry, version_of}
+use Rattle.task_model.specs.Terms.Rowed.{Rowed}
+use Rattle.task_model.specs.Terms.Value.{ValueTerm, value_term}
+use Rattle.task_model.specs.Terms.Tree.{tree_term, State, at}
+use Rattle.task_model.specs.Terms.Input.{InputTerm, EntryTerm}
+use Rattle.task_model.specs.Terms.Item.{took, item_term, history_term}
+use Rattle.task_model.specs.Running.Checked.{SeenChecked, CheckedTerm, checked_term}
+use Rattle.task_model.specs.Showing.Widget.{WidgetTerm, AreWidgets}
+use Rattle.task_model.specs.Checking.Fits.{Fits}
+use Rattle.task_model.specs.Running.State.{IsEntry, version_of}
 use Rattle.task_model.specs.declared.widget.Face.{Face}
 use Rattle.task_model.specs.declared.tree.Tree.{Tree}
 use Rattle.task_model.specs.declared.value.Value.{Value}

@@ -3,9 +3,9 @@ use Rattle.std.proofs.Common.{◌≡◌, ℕ, zero, suc, ◌+◌, ◌<◌, List,
 use Rattle.std.specs.Prelude.{IsSome}
 use Rattle.std.specs.Option.{option_map}
 use Rattle.std.proofs.lemmas.List.{map-append}
-use Rattle.task_model.specs.Input.{EntryTerm, entry_term}
+use Rattle.task_model.specs.Terms.Input.{EntryTerm, entry_term}
 use Rattle.task_model.specs.declared.input.Entry.{Entry}
-use Rattle.task_model.specs.Item.{took}
+use Rattle.task_model.specs.Terms.Item.{took}
 use Rattle.task_model.specs.declared.stops.ActStop.{ActStop}
 use Rattle.task_model.specs.declared.stops.ActStop.TheVariants as acts
 use Rattle.world_core.specs.World.{SeenNext, SeenWorld, next_term, NextTerm, WorldTerm, world_term, with_item, Prepares, Commits, Replies}

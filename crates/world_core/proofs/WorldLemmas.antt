@@ -1,28 +1,28 @@
 -- A world's history grows by one entry, and what follows from that.
 use Rattle.std.proofs.Common.{◌≡◌, ℕ, suc, List, [], ◌∷◌, ◌++◌, length, Option, Some, None, Result, Ok, Err, refl, sym, ap, ◌∙◌, subst, arith}
-use Rattle.task_model.specs.Left.{Left}
-use Rattle.task_model.specs.Text.{Text}
-use Rattle.task_model.specs.Value.{ValueTerm}
-use Rattle.task_model.specs.Env.{EnvTerm, empty_env}
-use Rattle.task_model.specs.Task.{TaskTerm, call_task}
-use Rattle.task_model.specs.Tree.{State}
-use Rattle.task_model.specs.Input.{EntryTerm}
-use Rattle.task_model.specs.Item.{ItemTerm, opened, took}
-use Rattle.task_model.specs.Checked.{CheckedTerm}
-use Rattle.task_model.specs.Judgements.{Normal}
-use Rattle.task_model.specs.Plan.{normal}
-use Rattle.task_model.specs.Spends.{Spends}
-use Rattle.task_model.specs.Widget.{WidgetTerm, AreWidgets}
-use Rattle.task_model.specs.Program.{main_name}
-use Rattle.task_model.specs.Accepted.{IsAccepted, typed_program}
-use Rattle.task_model.specs.Fits.{Fits}
-use Rattle.task_model.specs.State.{IsOpening, IsReached, IsState, IsLegal, IsPage, HasWidgets, IsEntry, AreEntries, version_of}
+use Rattle.task_model.specs.Terms.Left.{Left}
+use Rattle.task_model.specs.Terms.Text.{Text}
+use Rattle.task_model.specs.Terms.Value.{ValueTerm}
+use Rattle.task_model.specs.Terms.Env.{EnvTerm, empty_env}
+use Rattle.task_model.specs.Terms.Task.{TaskTerm, call_task}
+use Rattle.task_model.specs.Terms.Tree.{State}
+use Rattle.task_model.specs.Terms.Input.{EntryTerm}
+use Rattle.task_model.specs.Terms.Item.{ItemTerm, opened, took}
+use Rattle.task_model.specs.Running.Checked.{CheckedTerm}
+use Rattle.task_model.specs.Running.Judgements.{Normal}
+use Rattle.task_model.specs.Running.Plan.{normal}
+use Rattle.task_model.specs.Running.Spends.{Spends}
+use Rattle.task_model.specs.Showing.Widget.{WidgetTerm, AreWidgets}
+use Rattle.task_model.specs.Terms.Program.{main_name}
+use Rattle.task_model.specs.Checking.Accepted.{IsAccepted, typed_program}
+use Rattle.task_model.specs.Checking.Fits.{Fits}
+use Rattle.task_model.specs.Running.State.{IsOpening, IsReached, IsState, IsLegal, IsPage, HasWidgets, IsEntry, AreEntries, version_of}
 use Rattle.task_model.specs.declared.widget.Face.{Face}
 use Rattle.task_model.specs.declared.widget.Face.TheVariants as faces
 use Rattle.task_model.specs.declared.purse.Stop.{Stop}
 use Rattle.task_model.specs.declared.purse.Stop.TheVariants.{Over}
 use Rattle.task_model.proofs.OutcomeLemmas.{lead_to_more}
-use Rattle.typing_laws.specs.Supposed.{main_type}
+use Rattle.typing_laws.specs.Assumed.{main_type}
 use Rattle.typing_laws.specs.Well.{MayAsk}
 use Rattle.typing_laws.proofs.HistoryLemmas.{main_fits, reached_kept}
 use Rattle.html_pages.specs.Fragments.{face_text}
@@ -79,7 +79,7 @@ pub opening_may : (c : CheckedTerm) (t : TaskTerm) (env : EnvTerm) (σ : List Va
     → env ≡ empty_env → σ ≡ [] → MayAsk c (normal t env σ)
 opening_may c t env σ accepted a b d = rw (a, b, d) (record {
   typing = record { places = []; type = main_type c.program };
-  supposed = main_fits c accepted;
+  assumed = main_fits c accepted;
 })
 
 module _ {X : Type 0} (view : X → State) (c : CheckedTerm) (budget : ℕ) (t : TaskTerm) (env : EnvTerm) (σ : List ValueTerm) (old new : Left)

@@ -1,7 +1,7 @@
 -- How a world's fields hold what contracts see of it.
 use Rattle.std.specs.Prelude.{◌≡◌, ℕ, ◌<◌, List, [], ◌∷◌, Option, None, Some}
-use Rattle.task_model.specs.Rowed.{Rowed}
-use Rattle.task_model.specs.Checked.{SeenChecked}
+use Rattle.task_model.specs.Terms.Rowed.{Rowed}
+use Rattle.task_model.specs.Running.Checked.{SeenChecked}
 use Rattle.task_model.specs.declared.value.Value.{Value}
 use Rattle.task_model.specs.declared.tree.Tree.{Tree}
 use Rattle.task_model.specs.declared.item.Item.{Item}

@@ -1,8 +1,8 @@
 -- The pages of a world (docs/FORMATS.md, "Pages" and "HTML pages").
 use Rattle.std.specs.Prelude.{ℕ, ◌≡◌, List}
-use Rattle.task_model.specs.Text.{Text}
-use Rattle.task_model.specs.Widget.{WidgetTerm, AreWidgets}
-use Rattle.task_model.specs.State.{version_of}
+use Rattle.task_model.specs.Terms.Text.{Text}
+use Rattle.task_model.specs.Showing.Widget.{WidgetTerm, AreWidgets}
+use Rattle.task_model.specs.Running.State.{version_of}
 use Rattle.task_model.specs.declared.widget.Face.{Face}
 use Rattle.html_pages.specs.Fragments.{face_text}
 use Rattle.world_core.specs.World.{WorldTerm}

@@ -1,7 +1,7 @@
 -- What becomes of several entries, one after the other.
 use Rattle.std.specs.Prelude.{◌≡◌, List, [], ◌∷◌, ◌++◌, Result, Ok, Err}
-use Rattle.task_model.specs.Rowed.{Rowed}
-use Rattle.task_model.specs.Input.{EntryTerm}
+use Rattle.task_model.specs.Terms.Rowed.{Rowed}
+use Rattle.task_model.specs.Terms.Input.{EntryTerm}
 use Rattle.task_model.specs.declared.stops.ActStop.{ActStop}
 use Rattle.task_model.specs.declared.stops.ActStop.TheVariants as acts
 use Rattle.world_core.specs.World.{WorldTerm, Replies}

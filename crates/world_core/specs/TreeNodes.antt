@@ -1,6 +1,6 @@
 -- How many nodes a tree has.
 use Rattle.std.specs.Prelude.{ℕ, ◌+◌}
-use Rattle.task_model.specs.Tree.{TreeTerm, edit_tree, enter_tree, share_tree, then_tree, next_tree, fail_tree, and_tree, or_tree, xor_tree}
+use Rattle.task_model.specs.Terms.Tree.{TreeTerm, edit_tree, enter_tree, share_tree, then_tree, next_tree, fail_tree, and_tree, or_tree, xor_tree}
 
 abbrev pub tree_nodes : TreeTerm → ℕ
 tree_nodes (edit_tree b v) = 1

@@ -1,5 +1,5 @@
 ghost use Rattle.std.specs.Prelude.{◌≡◌, ◌+◌, IfOk};
-ghost use Rattle.task_model.specs.Tree.{tree_term};
+ghost use Rattle.task_model.specs.Terms.Tree.{tree_term};
 ghost use Rattle.world_core.specs.TreeNodes.{tree_nodes};
 
 use std::marker::Model;
@@ -14,7 +14,7 @@ pub(crate) struct CountedTree {
 
 impl Model for CountedTree {
     ghost use Rattle.std.specs.Prelude.{◌≡◌};
-    ghost use Rattle.task_model.specs.Tree.{tree_term};
+    ghost use Rattle.task_model.specs.Terms.Tree.{tree_term};
     ghost use Rattle.task_model.specs.declared.tree.Tree.{Tree};
     ghost use Rattle.task_model.specs.contracts.tree.Tree as trees;
     ghost use Rattle.world_core.specs.TreeNodes.{tree_nodes};

@@ -1,10 +1,10 @@
 ghost use Rattle.std.specs.Prelude.{◌≡◌, ◌∷◌, map, OnErr, OnOk};
-ghost use Rattle.task_model.specs.Value.{value_term};
-ghost use Rattle.task_model.specs.Tree.{tree_term, at};
-ghost use Rattle.task_model.specs.Input.{input_term};
-ghost use Rattle.task_model.specs.Held.{IsHeldAct};
-ghost use Rattle.task_model.specs.Checked.{checked_term};
-ghost use Rattle.task_model.specs.Fits.{Fits};
+ghost use Rattle.task_model.specs.Terms.Value.{value_term};
+ghost use Rattle.task_model.specs.Terms.Tree.{tree_term, at};
+ghost use Rattle.task_model.specs.Terms.Input.{input_term};
+ghost use Rattle.task_model.specs.Terms.Held.{IsHeldAct};
+ghost use Rattle.task_model.specs.Running.Checked.{checked_term};
+ghost use Rattle.task_model.specs.Checking.Fits.{Fits};
 ghost use Rattle.handle_input.specs.Answers.{TellsOutcome};
 
 use crate::counted::CountedTree;

@@ -1,11 +1,11 @@
 ghost use Rattle.std.specs.Prelude.{◌≡◌, [], ◌∷◌, map, IfOk, IfErr};
-ghost use Rattle.task_model.specs.Value.{value_term};
-ghost use Rattle.task_model.specs.Task.{task_term, call_task};
-ghost use Rattle.task_model.specs.Tree.{tree_term, State, at};
-ghost use Rattle.task_model.specs.Item.{opened, history_term};
-ghost use Rattle.task_model.specs.Checked.{checked_term};
-ghost use Rattle.task_model.specs.Program.{main_name};
-ghost use Rattle.task_model.specs.State.{IsOpening};
+ghost use Rattle.task_model.specs.Terms.Value.{value_term};
+ghost use Rattle.task_model.specs.Terms.Task.{task_term, call_task};
+ghost use Rattle.task_model.specs.Terms.Tree.{tree_term, State, at};
+ghost use Rattle.task_model.specs.Terms.Item.{opened, history_term};
+ghost use Rattle.task_model.specs.Running.Checked.{checked_term};
+ghost use Rattle.task_model.specs.Terms.Program.{main_name};
+ghost use Rattle.task_model.specs.Running.State.{IsOpening};
 
 use crate::answers::OpenStop;
 use crate::counted::CountedTree;

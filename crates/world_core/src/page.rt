@@ -1,9 +1,9 @@
 ghost use Rattle.std.specs.Prelude.{◌≡◌, List, map, IfOk};
-ghost use Rattle.task_model.specs.Value.{value_term};
-ghost use Rattle.task_model.specs.Tree.{tree_term, at};
-ghost use Rattle.task_model.specs.Checked.{checked_term};
-ghost use Rattle.task_model.specs.Fits.{Fits};
-ghost use Rattle.task_model.specs.Widget.{WidgetTerm, AreWidgets, widget_term};
+ghost use Rattle.task_model.specs.Terms.Value.{value_term};
+ghost use Rattle.task_model.specs.Terms.Tree.{tree_term, at};
+ghost use Rattle.task_model.specs.Running.Checked.{checked_term};
+ghost use Rattle.task_model.specs.Checking.Fits.{Fits};
+ghost use Rattle.task_model.specs.Showing.Widget.{WidgetTerm, AreWidgets, widget_term};
 ghost use Rattle.html_pages.specs.Fragments.{face_text, fragment_of};
 
 use html_pages::{Fragments, Page, draw_node, frame};

@@ -1,7 +1,7 @@
 ghost use Rattle.std.specs.Prelude.{◌≡◌, ◌<◌, [], ◌∷◌, ◌++◌, map, IfOk, None, OnErr};
 ghost use Rattle.std.specs.List.{All};
-ghost use Rattle.task_model.specs.Input.{entry_term};
-ghost use Rattle.task_model.specs.State.{IsSeat};
+ghost use Rattle.task_model.specs.Terms.Input.{entry_term};
+ghost use Rattle.task_model.specs.Running.State.{IsSeat};
 ghost use Rattle.world_core.specs.World.{world_term, Replies};
 ghost use Rattle.world_core.specs.Replying.{Runs, reply_answer};
 

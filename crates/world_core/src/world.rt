@@ -1,10 +1,10 @@
 ghost use Rattle.std.specs.Prelude.{◌≡◌, [], ◌∷◌, IfErr, IfOk, IsSome, None, slice_get};
 ghost use Rattle.std.specs.Option.{option_map};
-ghost use Rattle.task_model.specs.Tree.{tree_term, State};
-ghost use Rattle.task_model.specs.Input.{input_term};
-ghost use Rattle.task_model.specs.Item.{opened, history_term};
-ghost use Rattle.task_model.specs.Checked.{checked_term};
-ghost use Rattle.task_model.specs.State.{IsOpening, IsState, IsLegal, IsPage, IsSeat, IsBudget, version_of};
+ghost use Rattle.task_model.specs.Terms.Tree.{tree_term, State};
+ghost use Rattle.task_model.specs.Terms.Input.{input_term};
+ghost use Rattle.task_model.specs.Terms.Item.{opened, history_term};
+ghost use Rattle.task_model.specs.Running.Checked.{checked_term};
+ghost use Rattle.task_model.specs.Running.State.{IsOpening, IsState, IsLegal, IsPage, IsSeat, IsBudget, version_of};
 ghost use Rattle.world_core.specs.Pages.{IsWorldPage};
 ghost use Rattle.world_core.specs.TreeNodes.{tree_nodes};
 ghost use Rattle.world_core.specs.World.{world_term, IsStanding, LeadsOn, Prepares, Commits, Replies, at_rest};

@@ -1,7 +1,7 @@
 //! Tables of programs with their transcripts.
 
 use crate::tests::case::{Case, RUN, run};
-use eval_tests::repeated;
+use host_eval_tests::repeated;
 use std::alloc::Global;
 use std::process::Abort;
 use task_model::OutOfMemory;

@@ -1,13 +1,13 @@
 use Rattle.std.proofs.Common.{Option, None, Some, map, ap, ◌∙◌}
-use Rattle.task_model.specs.Rowed.{Rowed}
-use Rattle.task_model.specs.Value.{value_term}
-use Rattle.task_model.specs.Env.{slot_term}
+use Rattle.task_model.specs.Terms.Rowed.{Rowed}
+use Rattle.task_model.specs.Terms.Value.{value_term}
+use Rattle.task_model.specs.Terms.Env.{slot_term}
 use Rattle.task_model.specs.declared.env.Slot.{Slot}
-use Rattle.task_model.specs.Task.{BodyTerm, body_term}
-use Rattle.task_model.specs.Tree.{delay_term, State}
-use Rattle.task_model.specs.Checked.{checked_term}
-use Rattle.task_model.specs.Plan.{fails, normal, Plan, give, ask}
-use Rattle.task_model.specs.Rules.{branch, opened_env}
+use Rattle.task_model.specs.Terms.Task.{BodyTerm, body_term}
+use Rattle.task_model.specs.Terms.Tree.{delay_term, State}
+use Rattle.task_model.specs.Running.Checked.{checked_term}
+use Rattle.task_model.specs.Running.Plan.{fails, normal, Plan, give, ask}
+use Rattle.task_model.specs.Running.Rules.{branch, opened_env}
 use Rattle.host_eval.proofs.RunLemmas.{ran_known_ok}
 use Rattle.host_eval.proofs.WellLemmas.{well_found}
 use Rattle.typing_laws.proofs.CallLemmas.{well_known}

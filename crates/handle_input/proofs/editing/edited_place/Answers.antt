@@ -1,6 +1,6 @@
 use Rattle.std.proofs.Common.{map, refl, ap, ◌∙◌}
 use Rattle.std.proofs.lemmas.List.{map-set}
-use Rattle.task_model.specs.Value.{value_term}
+use Rattle.task_model.specs.Terms.Value.{value_term}
 use Rattle.handle_input.proofs.editing.edited_place.Goals as goal
 
 pub returns-clause-written : goal.returns-clause-written

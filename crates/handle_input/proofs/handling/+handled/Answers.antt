@@ -1,11 +1,11 @@
 use Rattle.std.proofs.Common.{map, refl, sym, ap, rules}
 use Rattle.std.specs.Arc.{arc_value}
-use Rattle.task_model.specs.Basic.{basic_term}
-use Rattle.task_model.specs.Value.{value_term}
-use Rattle.task_model.specs.Tree.{TreeTerm, tree_term, cont_term, then_tree, next_tree}
-use Rattle.task_model.specs.Input.{act_term}
-use Rattle.task_model.specs.Checked.{checked_term}
-use Rattle.task_model.specs.Handling.{handled, rebuilds, at_step}
+use Rattle.task_model.specs.Terms.Basic.{basic_term}
+use Rattle.task_model.specs.Terms.Value.{value_term}
+use Rattle.task_model.specs.Terms.Tree.{TreeTerm, tree_term, cont_term, then_tree, next_tree}
+use Rattle.task_model.specs.Terms.Input.{act_term}
+use Rattle.task_model.specs.Running.Checked.{checked_term}
+use Rattle.task_model.specs.Running.Handling.{handled, rebuilds, at_step}
 use Rattle.task_model.proofs.RanLemmas.{stopped, ran_give, ran_after, ran_after_stops}
 use Rattle.host_eval.proofs.ListLemmas.{empty}
 use Rattle.host_eval.proofs.RunLemmas.{ran_is}

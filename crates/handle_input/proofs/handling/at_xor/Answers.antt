@@ -1,6 +1,6 @@
 use Rattle.std.proofs.Common.{map, refl}
-use Rattle.task_model.specs.Value.{value_term}
-use Rattle.task_model.specs.Checked.{checked_term}
+use Rattle.task_model.specs.Terms.Value.{value_term}
+use Rattle.task_model.specs.Running.Checked.{checked_term}
 use Rattle.task_model.proofs.RanLemmas.{ran_give}
 use Rattle.host_eval.proofs.RunLemmas.{ran_is}
 use Rattle.task_engine.proofs.FittingLemmas.{left_fits, right_fits}

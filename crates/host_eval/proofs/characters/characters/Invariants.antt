@@ -1,5 +1,5 @@
 use Rattle.std.proofs.Common.{◌≡◌, ◌+◌, ◌≤◌, length}
-use Rattle.task_model.specs.Characters.{characters_of}
+use Rattle.task_model.specs.Syntax.Characters.{characters_of}
 use Rattle.host_eval.proofs.characters.characters.Given as goal
 
 abbrev pub invariant-loop-rest : goal.invariant-loop-rest

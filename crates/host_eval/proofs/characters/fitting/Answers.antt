@@ -1,6 +1,6 @@
 use Rattle.std.proofs.Common.{◌≡◌, ◌∙◌, ap, sym, subst, drop, take, ◌++◌, ◌∷◌, ◌+◌, ◌-◌, ◌≤◌, length, List, ℕ, true, arith}
 use Rattle.std.proofs.lemmas.List.{drop-drop, length-drop}
-use Rattle.task_model.specs.Characters.{characters_of, fitting}
+use Rattle.task_model.specs.Syntax.Characters.{characters_of, fitting}
 use Rattle.host_eval.specs.ValueWords.{starts}
 use Rattle.host_eval.proofs.ListLemmas.{slice_is}
 use Rattle.host_eval.proofs.CharacterLemmas.{fitting_step}

@@ -1,5 +1,5 @@
 use Rattle.std.proofs.Common.{◌≡◌, ◌≤◌, ◌<◌, ◌-◌, ◌++◌, true, length, take, drop}
-use Rattle.task_model.specs.Characters.{characters_of, cut_text, fitting}
+use Rattle.task_model.specs.Syntax.Characters.{characters_of, cut_text, fitting}
 use Rattle.host_eval.specs.ValueWords as words
 use Rattle.host_eval.proofs.characters.fitting.Given as goal
 

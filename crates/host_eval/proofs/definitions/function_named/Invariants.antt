@@ -1,5 +1,5 @@
 use Rattle.std.proofs.Common.{◌≡◌, map, length}
-use Rattle.task_model.specs.Program.{def_term}
+use Rattle.task_model.specs.Terms.Program.{def_term}
 use Rattle.host_eval.specs.ValueWords.{function_in}
 use Rattle.host_eval.proofs.definitions.function_named.Given as goal
 

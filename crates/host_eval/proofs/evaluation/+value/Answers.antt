@@ -1,16 +1,16 @@
 use Rattle.std.proofs.Common.{◌≡◌, Some, map, Bool, true, false, ap, ◌∙◌, refl, rules}
 use mathlib.Core.Bool.{beq}
 use Rattle.std.specs.Prelude.{slice_get}
-use Rattle.task_model.specs.Operators.{same_bool}
-use Rattle.task_model.specs.Rowed.{Rowed}
+use Rattle.task_model.specs.Running.Operators.{same_bool}
+use Rattle.task_model.specs.Terms.Rowed.{Rowed}
 use Rattle.task_model.specs.declared.value.Value as value
-use Rattle.task_model.specs.Value.{list_value, as_values, value_term}
-use Rattle.task_model.specs.Env.{plain_slot, EnvTerm}
-use Rattle.task_model.specs.Host.{host_term}
-use Rattle.task_model.specs.Program.{param_term}
-use Rattle.task_model.specs.Checked.{checked_term}
-use Rattle.task_model.specs.Plan.{give}
-use Rattle.task_model.specs.Rules.{bound}
+use Rattle.task_model.specs.Terms.Value.{list_value, as_values, value_term}
+use Rattle.task_model.specs.Terms.Env.{plain_slot, EnvTerm}
+use Rattle.task_model.specs.Terms.Host.{host_term}
+use Rattle.task_model.specs.Terms.Program.{param_term}
+use Rattle.task_model.specs.Running.Checked.{checked_term}
+use Rattle.task_model.specs.Running.Plan.{give}
+use Rattle.task_model.specs.Running.Rules.{bound}
 use Rattle.task_model.proofs.RowLemmas.{value_term-List, host_term-List, host_term-Call}
 use Rattle.task_model.proofs.RanLemmas.{stopped, ran_give, ran_ask, ran_ask_stops, ran_last, ran_after, ran_after_stops, ran_unit, asked_rule, asked_rule_stops}
 use Rattle.host_eval.specs.NamesTerm.{names_term}

@@ -1,13 +1,13 @@
 use Rattle.std.proofs.Common.{◌≡◌, ◌+◌, ◌*◌, [], map, length, Result}
-use Rattle.task_model.specs.Left.{Left}
-use Rattle.task_model.specs.Rowed.{Rowed}
-use Rattle.task_model.specs.Value.{value_term}
-use Rattle.task_model.specs.Env.{slot_term}
-use Rattle.task_model.specs.Host.{as_exprs, host_term}
-use Rattle.task_model.specs.Program.{param_term}
-use Rattle.task_model.specs.Checked.{checked_term}
-use Rattle.task_model.specs.Rules.{slots_for, values_for}
-use Rattle.task_model.specs.Calls.{RunsPlan}
+use Rattle.task_model.specs.Terms.Left.{Left}
+use Rattle.task_model.specs.Terms.Rowed.{Rowed}
+use Rattle.task_model.specs.Terms.Value.{value_term}
+use Rattle.task_model.specs.Terms.Env.{slot_term}
+use Rattle.task_model.specs.Terms.Host.{as_exprs, host_term}
+use Rattle.task_model.specs.Terms.Program.{param_term}
+use Rattle.task_model.specs.Running.Checked.{checked_term}
+use Rattle.task_model.specs.Running.Rules.{slots_for, values_for}
+use Rattle.task_model.specs.Syntax.Calls.{RunsPlan}
 use Rattle.task_model.specs.declared.purse.Stop.{Stop}
 use Rattle.task_model.specs.declared.value.Value.{Value}
 use Rattle.task_model.specs.declared.env.Slot.{Slot}

@@ -1,7 +1,7 @@
 use Rattle.std.proofs.Common.{◌-◌, cond, Some, length, take, get_or, map, ap, sym, ◌∙◌}
-use Rattle.task_model.specs.Env.{slot_term}
-use Rattle.task_model.specs.Scope.{scope_names}
-use Rattle.task_model.specs.Checked.{found}
+use Rattle.task_model.specs.Terms.Env.{slot_term}
+use Rattle.task_model.specs.Terms.Scope.{scope_names}
+use Rattle.task_model.specs.Running.Checked.{found}
 use Rattle.task_model.specs.declared.env.Slot.{Slot}
 use Rattle.host_eval.proofs.NameLemmas.{scope_last, scope_other}
 use Rattle.host_eval.proofs.names.+found_in_scope.Goals as goal

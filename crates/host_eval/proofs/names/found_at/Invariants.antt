@@ -1,6 +1,6 @@
 use Rattle.std.proofs.Common.{◌≡◌, ◌≤◌, length, map, take}
-use Rattle.task_model.specs.Env.{slot_term}
-use Rattle.task_model.specs.Checked.{found}
+use Rattle.task_model.specs.Terms.Env.{slot_term}
+use Rattle.task_model.specs.Running.Checked.{found}
 use Rattle.host_eval.proofs.names.found_at.Given as goal
 
 abbrev pub invariant-loop-end : goal.invariant-loop-end

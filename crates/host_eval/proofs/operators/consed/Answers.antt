@@ -1,8 +1,8 @@
 use Rattle.std.proofs.Common.{◌≡◌, ◌∷◌, List, [], map, Some, refl, ap, sym, ◌∙◌}
-use Rattle.task_model.specs.Rowed.{Rowed}
-use Rattle.task_model.specs.Value.{ValueTerm, as_values, value_term}
+use Rattle.task_model.specs.Terms.Rowed.{Rowed}
+use Rattle.task_model.specs.Terms.Value.{ValueTerm, as_values, value_term}
 use Rattle.task_model.specs.declared.value.Value as value
-use Rattle.task_model.specs.Operators.{consed, elements_of, list_of}
+use Rattle.task_model.specs.Running.Operators.{consed, elements_of, list_of}
 use Rattle.task_model.proofs.RowLemmas.{value_term-List}
 use Rattle.host_eval.proofs.operators.consed.Goals as goal
 

@@ -1,9 +1,9 @@
 use Rattle.std.proofs.Common.{map, length, pos, Some, ap, sym, ◌∙◌, rules}
 use Rattle.std.proofs.lemmas.List.{length-map}
-use Rattle.task_model.specs.Rowed.{Rowed}
+use Rattle.task_model.specs.Terms.Rowed.{Rowed}
 use Rattle.task_model.specs.declared.value.Value as value
-use Rattle.task_model.specs.Value.{int_value, value_term}
-use Rattle.task_model.specs.Operators.{length_of}
+use Rattle.task_model.specs.Terms.Value.{int_value, value_term}
+use Rattle.task_model.specs.Running.Operators.{length_of}
 use Rattle.task_model.proofs.RowLemmas.{value_term-List, count_of-as_values}
 use Rattle.host_eval.proofs.operators.length_of.Goals as goal
 

@@ -1,8 +1,8 @@
 use Rattle.std.proofs.Common.{sym, ap, ◌∙◌, map}
 use Rattle.std.proofs.lemmas.List.{take-map}
-use Rattle.task_model.specs.Rowed.{Rowed}
+use Rattle.task_model.specs.Terms.Rowed.{Rowed}
 use Rattle.task_model.specs.declared.value.Value as value
-use Rattle.task_model.specs.Value.{list_value, as_values, value_term}
+use Rattle.task_model.specs.Terms.Value.{list_value, as_values, value_term}
 use Rattle.task_model.proofs.RowLemmas.{value_term-List}
 use Rattle.host_eval.proofs.operators.list_of.Goals as goal
 

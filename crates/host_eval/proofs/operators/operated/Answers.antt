@@ -1,5 +1,5 @@
 use Rattle.std.proofs.Common.{Some, not, ap}
-use Rattle.task_model.specs.Value.{bool_value, value_term}
+use Rattle.task_model.specs.Terms.Value.{bool_value, value_term}
 use Rattle.host_eval.proofs.EqualLemmas.{same_value_is}
 use Rattle.host_eval.proofs.operators.operated.Goals as goal
 

@@ -1,5 +1,5 @@
 use Rattle.std.proofs.Common.{◌≡◌, ◌∷◌, ◌++◌, map, length}
-use Rattle.task_model.specs.Value.{value_term}
+use Rattle.task_model.specs.Terms.Value.{value_term}
 use Rattle.host_eval.proofs.operators.prepended.Given as goal
 
 abbrev pub invariant-loop-rest : goal.invariant-loop-rest

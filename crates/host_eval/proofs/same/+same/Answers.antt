@@ -1,7 +1,7 @@
 use Rattle.std.proofs.Common.{◌≡◌, ◌<◌, length, arith, true≢false, map, sym, ap, ◌∙◌}
-use Rattle.task_model.specs.Rowed.{Rowed}
+use Rattle.task_model.specs.Terms.Rowed.{Rowed}
 use Rattle.task_model.specs.declared.value.Value as value
-use Rattle.task_model.specs.Value.{list_value, as_values, value_term}
+use Rattle.task_model.specs.Terms.Value.{list_value, as_values, value_term}
 use Rattle.task_model.proofs.RowLemmas.{value_term-List}
 use Rattle.host_eval.proofs.TermLemmas.{lists_same, differ_at}
 use Rattle.host_eval.proofs.same.+same.Goals as goal

@@ -1,5 +1,5 @@
 use Rattle.std.proofs.Common.{◌≡◌, map, take}
-use Rattle.task_model.specs.Value.{value_term}
+use Rattle.task_model.specs.Terms.Value.{value_term}
 use Rattle.host_eval.proofs.same.+same.Given as goal
 
 abbrev pub invariant-same_values-loop-i : goal.invariant-same_values-loop-i

@@ -1,8 +1,8 @@
 use Rattle.std.proofs.Common.{◌≡◌, ◌++◌, drop, map}
-use Rattle.task_model.specs.Basic.{basic_term}
-use Rattle.task_model.specs.Program.{def_term}
-use Rattle.task_model.specs.TypeFault.{first_fault}
-use Rattle.task_model.specs.TaskDemands.{definitions, demands_of, types_in, types_of}
+use Rattle.task_model.specs.Terms.Basic.{basic_term}
+use Rattle.task_model.specs.Terms.Program.{def_term}
+use Rattle.task_model.specs.Checking.TypeFault.{first_fault}
+use Rattle.task_model.specs.Checking.TaskDemands.{definitions, demands_of, types_in, types_of}
 use Rattle.host_types.specs.CheckWords.{seen_program}
 use Rattle.host_types.proofs.checking.all_definitions.Given as goal
 

@@ -1,5 +1,5 @@
 use Rattle.std.proofs.Common.{map, ap, ◌∙◌}
-use Rattle.task_model.specs.Basic.{basic_term}
+use Rattle.task_model.specs.Terms.Basic.{basic_term}
 use Rattle.host_types.proofs.CheckLemmas.{seen_accepted, seen_fault, stopped}
 use Rattle.host_types.proofs.checking.types_of.Goals as goal
 

@@ -1,7 +1,7 @@
 use Rattle.std.proofs.Common.{rules, ◌≡◌, true, true≢false, sym, ◌∙◌}
 use Rattle.std.proofs.lemmas.Bool.{false_from_ne_true}
-use Rattle.task_model.specs.Basic.{basic_term}
-use Rattle.task_model.specs.TypeParts.{same_type}
+use Rattle.task_model.specs.Terms.Basic.{basic_term}
+use Rattle.task_model.specs.Checking.TypeParts.{same_type}
 use Rattle.task_model.proofs.DemandLemmas.{compared_met}
 use Rattle.host_types.proofs.TypingLemmas.{same_is}
 use Rattle.host_types.proofs.compare.compared.Goals as goal

@@ -1,5 +1,5 @@
 use Rattle.std.proofs.Common.{map, sym, ap, ◌∙◌, subst, Ok, rules}
-use Rattle.task_model.specs.Host.{host_term, as_exprs, call_expr, list_expr}
+use Rattle.task_model.specs.Terms.Host.{host_term, as_exprs, call_expr, list_expr}
 use Rattle.task_model.proofs.RowLemmas.{host_term-List, host_term-Call}
 use Rattle.host_types.specs.Answer.{ChecksForm}
 use Rattle.host_types.proofs.ListLemmas.{list_form_is, count_exprs}

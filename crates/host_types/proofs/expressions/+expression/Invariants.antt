@@ -1,11 +1,11 @@
 use Rattle.std.proofs.Common.{◌≡◌, ◌+◌, ◌*◌, max, length, map, drop}
-use Rattle.task_model.specs.Basic.{basic_term}
-use Rattle.task_model.specs.Host.{host_term, as_exprs}
+use Rattle.task_model.specs.Terms.Basic.{basic_term}
+use Rattle.task_model.specs.Terms.Host.{host_term, as_exprs}
 use Rattle.task_model.specs.declared.host.Host.{size-Host}
-use Rattle.task_model.specs.Program.{param_term}
-use Rattle.task_model.specs.NodeCounts.{nodes_all}
-use Rattle.task_model.specs.TypeFault.{first_fault}
-use Rattle.task_model.specs.Demands as demands
+use Rattle.task_model.specs.Terms.Program.{param_term}
+use Rattle.task_model.specs.Checking.NodeCounts.{nodes_all}
+use Rattle.task_model.specs.Checking.TypeFault.{first_fault}
+use Rattle.task_model.specs.Checking.Demands as demands
 use Rattle.host_types.specs.Seen.{scope_term, calls_term}
 use Rattle.host_types.proofs.expressions.+expression.Given as goal
 

@@ -1,4 +1,4 @@
-use Rattle.task_model.specs.TypeOf.{type_of}
+use Rattle.task_model.specs.Checking.TypeOf.{type_of}
 use Rattle.host_types.proofs.TypingLemmas.{first, second, typed}
 use Rattle.host_types.proofs.WithinLemmas.{within, small}
 use Rattle.host_types.proofs.laws.met_is_typed.Goals as goal

@@ -1,6 +1,6 @@
 use Rattle.std.proofs.Common.{subst}
-use Rattle.task_model.specs.Limits.{IsSmall}
-use Rattle.task_model.specs.TypeOf.{type_of}
+use Rattle.task_model.specs.Checking.Limits.{IsSmall}
+use Rattle.task_model.specs.Checking.TypeOf.{type_of}
 use Rattle.task_model.proofs.DemandLemmas.{whole_met}
 use Rattle.host_types.proofs.MetLemmas.{met_if}
 use Rattle.host_types.proofs.laws.typed_is_met.Goals as goal

@@ -1,5 +1,5 @@
 use Rattle.std.proofs.Common.{◌≡◌, take}
-use Rattle.task_model.specs.Html.{html_escaped}
+use Rattle.task_model.specs.Showing.Html.{html_escaped}
 use Rattle.html_pages.proofs.escaping.next_entity.Given as goal
 
 abbrev pub invariant-loop-place : goal.invariant-loop-place

@@ -2,7 +2,7 @@ use denote.Shadow.{shadow}
 use denote.Text.{Utf8}
 use Rattle.std.specs.Prelude.{string_bytes}
 use Rattle.std.proofs.Common.{◌≡◌, ◌++◌, length}
-use Rattle.task_model.specs.Html.{html_escaped}
+use Rattle.task_model.specs.Showing.Html.{html_escaped}
 use Rattle.html_pages.proofs.escaping.push_escaped.Given as goal
 
 abbrev pub invariant-loop-place : goal.invariant-loop-place

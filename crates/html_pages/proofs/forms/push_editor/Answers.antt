@@ -1,9 +1,9 @@
 use Rattle.std.specs.Prelude.{string_bytes}
 use Rattle.std.proofs.Common.{◌++◌, codes, ap, ◌∙◌}
-use Rattle.task_model.specs.Text.{Text}
-use Rattle.task_model.specs.Basic.{basic_term}
-use Rattle.task_model.specs.Page.{path_text}
-use Rattle.task_model.specs.Html.{editor_fields, form_text, html_escaped, paragraph}
+use Rattle.task_model.specs.Terms.Text.{Text}
+use Rattle.task_model.specs.Terms.Basic.{basic_term}
+use Rattle.task_model.specs.Showing.Page.{path_text}
+use Rattle.task_model.specs.Showing.Html.{editor_fields, form_text, html_escaped, paragraph}
 use Rattle.html_pages.specs.FormParts.{form_start, form_end}
 use Rattle.html_pages.proofs.Pieces.{on_ok, more, form_parts}
 use Rattle.html_pages.proofs.forms.push_editor.Goals as goal

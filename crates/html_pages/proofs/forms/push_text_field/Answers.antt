@@ -1,6 +1,6 @@
 use Rattle.std.specs.Prelude.{string_bytes}
 use Rattle.std.proofs.Common.{◌++◌, codes}
-use Rattle.task_model.specs.Html.{html_escaped}
+use Rattle.task_model.specs.Showing.Html.{html_escaped}
 use Rattle.html_pages.proofs.Pieces.{on_ok, more}
 use Rattle.html_pages.proofs.forms.push_text_field.Goals as goal
 

@@ -1,6 +1,6 @@
 use Rattle.std.specs.Prelude.{string_bytes}
 use Rattle.std.proofs.Common.{List, ◌++◌, ap, ap₂, ◌∙◌}
-use Rattle.task_model.specs.Text.{Text}
+use Rattle.task_model.specs.Terms.Text.{Text}
 use Rattle.html_pages.specs.Fragments.{FragmentTerm, fragments_text, page_start}
 use Rattle.html_pages.proofs.Framed.{framed_text}
 use Rattle.html_pages.proofs.framing.frame.Goals as goal

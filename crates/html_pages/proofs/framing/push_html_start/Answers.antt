@@ -1,6 +1,6 @@
 use Rattle.std.specs.Prelude.{string_bytes}
 use Rattle.std.proofs.Common.{◌++◌, codes, decimal}
-use Rattle.task_model.specs.Html.{paragraph}
+use Rattle.task_model.specs.Showing.Html.{paragraph}
 use Rattle.html_pages.proofs.Pieces.{on_ok, more}
 use Rattle.html_pages.proofs.framing.push_html_start.Goals as goal
 

@@ -1,6 +1,6 @@
 use Rattle.std.proofs.Common.{◌≡◌, ◌∙◌, [], ◌∷◌, length, refl, sym, arith}
 use Rattle.std.proofs.lemmas.Bool.{eqb-true}
-use Rattle.task_model.specs.Text.{Text}
+use Rattle.task_model.specs.Terms.Text.{Text}
 use Rattle.input_lines.proofs.EndLemmas.{nothing_right, nothing_stop}
 use Rattle.literal_text.proofs.ReadLemmas.{not_empty}
 use Rattle.input_lines.proofs.ends.nothing.Goals as goal

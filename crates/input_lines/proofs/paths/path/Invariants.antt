@@ -1,5 +1,5 @@
 use Rattle.std.proofs.Common.{◌≡◌, ◌++◌, length}
-use Rattle.task_model.specs.Page.{path_text}
+use Rattle.task_model.specs.Showing.Page.{path_text}
 use Rattle.input_lines.proofs.paths.path.Given as goal
 
 abbrev pub invariant-loop-turn : goal.invariant-loop-turn

@@ -1,6 +1,6 @@
 use Rattle.std.specs.Prelude.{OnOk}
 use Rattle.std.proofs.Common.{Result, Ok, Err}
-use Rattle.task_model.specs.Input.{entry_term}
+use Rattle.task_model.specs.Terms.Input.{entry_term}
 use Rattle.input_lines.proofs.EntryLemmas.{entry_again}
 use Rattle.input_lines.proofs.print.print_entry.Goals as goal
 

@@ -1,6 +1,6 @@
 use Rattle.std.specs.Prelude.{string_bytes}
 use Rattle.std.proofs.Common.{◌≡◌, ◌++◌, length}
-use Rattle.task_model.specs.Page.{turns_text}
+use Rattle.task_model.specs.Showing.Page.{turns_text}
 use Rattle.input_lines.proofs.print.push_path.Given as goal
 
 abbrev pub invariant-loop-rest : goal.invariant-loop-rest

@@ -1,9 +1,9 @@
 use Rattle.std.proofs.Common.{◌∷◌, [], ◌++◌, refl, ap, ◌∙◌}
 use Rattle.std.proofs.lemmas.Result.{IfOk-weaker}
-use Rattle.task_model.specs.Basic.{basic_term}
-use Rattle.task_model.specs.Value.{value_term}
-use Rattle.task_model.specs.Tree.{cont_term, delay_term, tree_term, edit_tree, enter_tree, share_tree, and_tree, or_tree}
-use Rattle.task_model.specs.Widget.{here, enter_shape, and_shape, or_shape}
+use Rattle.task_model.specs.Terms.Basic.{basic_term}
+use Rattle.task_model.specs.Terms.Value.{value_term}
+use Rattle.task_model.specs.Terms.Tree.{cont_term, delay_term, tree_term, edit_tree, enter_tree, share_tree, and_tree, or_tree}
+use Rattle.task_model.specs.Showing.Widget.{here, enter_shape, and_shape, or_shape}
 use Rattle.task_model.specs.declared.input.Turn.TheVariants as turns
 use Rattle.interface.proofs.WalkLemmas.{moved, walked_editor, walked_fail, walked_then, walked_next, walked_both, walked_pick, both_ok}
 use Rattle.interface.proofs.walk.+widgets.Goals as goal

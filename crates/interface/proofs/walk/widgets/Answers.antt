@@ -1,5 +1,5 @@
 use Rattle.std.proofs.Common.{map, ap}
-use Rattle.task_model.specs.Widget.{widget_term}
+use Rattle.task_model.specs.Showing.Widget.{widget_term}
 use Rattle.interface.proofs.WalkLemmas.{walked_whole}
 use Rattle.interface.proofs.walk.widgets.Goals as goal
 

@@ -3,7 +3,7 @@ use Rattle.std.proofs.lemmas.Int.{to_z-of_z, to_z_pos}
 use Rattle.std.proofs.lemmas.Result.{err_from_is_err_and}
 use Rattle.std.specs.Int.{w64}
 use mir.Val.{to_z, of_z}
-use Rattle.task_model.specs.Value.{int_value}
+use Rattle.task_model.specs.Terms.Value.{int_value}
 use Rattle.exact_reading.proofs.Productions.{same_answer}
 use Rattle.literal_text.specs.Literals.{signed}
 use Rattle.literal_text.proofs.WordLemmas.{gap_right}

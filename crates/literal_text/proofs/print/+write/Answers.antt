@@ -1,11 +1,11 @@
 use Rattle.std.specs.Prelude.{OnOk, string_bytes}
 use Rattle.std.proofs.Common.{◌≡◌, ◌++◌, map, sym, ap, ◌∙◌, subst}
-use Rattle.task_model.specs.Rowed.{Rowed}
+use Rattle.task_model.specs.Terms.Rowed.{Rowed}
 use Rattle.task_model.specs.declared.value.Value as value
-use Rattle.task_model.specs.Value.{list_value, as_values, value_term}
-use Rattle.task_model.specs.Literal.{value_text}
+use Rattle.task_model.specs.Terms.Value.{list_value, as_values, value_term}
+use Rattle.task_model.specs.Syntax.Literal.{value_text}
 use Rattle.task_model.proofs.RowLemmas.{value_term-List}
-use Rattle.task_model.specs.Held.{IsHeld}
+use Rattle.task_model.specs.Terms.Held.{IsHeld}
 use Rattle.literal_text.proofs.print.+write.Goals as goal
 
 pub write_value-returns-in-List-clause-text : goal.write_value-returns-in-List-clause-text

@@ -1,9 +1,9 @@
 use Rattle.std.proofs.Common.{◌≡◌, ◌++◌, map, drop, Bool, true, false}
 use Rattle.std.specs.Prelude.{string_bytes}
-use Rattle.task_model.specs.Text.{Text}
-use Rattle.task_model.specs.Value.{ValueTerms, value_term, list_value, as_values}
-use Rattle.task_model.specs.Literal.{value_text, rest_text}
-use Rattle.task_model.specs.Held.{AreHeld}
+use Rattle.task_model.specs.Terms.Text.{Text}
+use Rattle.task_model.specs.Terms.Value.{ValueTerms, value_term, list_value, as_values}
+use Rattle.task_model.specs.Syntax.Literal.{value_text, rest_text}
+use Rattle.task_model.specs.Terms.Held.{AreHeld}
 use Rattle.literal_text.proofs.print.+write.Given as goal
 
 -- what is still to be written of a list

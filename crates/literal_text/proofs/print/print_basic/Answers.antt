@@ -1,7 +1,7 @@
 use Rattle.std.proofs.Common.{◌++◌, ap, ◌∙◌}
 use Rattle.std.proofs.lemmas.Result.{IfOk-weaker}
-use Rattle.task_model.specs.Basic.{basic_term}
-use Rattle.task_model.specs.Literal.{basic_text}
+use Rattle.task_model.specs.Terms.Basic.{basic_term}
+use Rattle.task_model.specs.Syntax.Literal.{basic_text}
 use Rattle.literal_text.proofs.PrintLemmas.{printed_name}
 use Rattle.literal_text.proofs.print.print_basic.Goals as goal
 

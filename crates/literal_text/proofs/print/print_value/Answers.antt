@@ -1,7 +1,7 @@
 use Rattle.std.proofs.Common.{◌++◌, ap, ◌∙◌}
 use Rattle.std.proofs.lemmas.Result.{IfOk-weaker}
-use Rattle.task_model.specs.Value.{value_term}
-use Rattle.task_model.specs.Literal.{value_text}
+use Rattle.task_model.specs.Terms.Value.{value_term}
+use Rattle.task_model.specs.Syntax.Literal.{value_text}
 use Rattle.literal_text.proofs.PrintLemmas.{printed_literal, printed_typed}
 use Rattle.literal_text.proofs.print.print_value.Goals as goal
 

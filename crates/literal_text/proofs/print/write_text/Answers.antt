@@ -2,7 +2,7 @@ use Rattle.std.specs.Prelude.{encode_utf8, string_bytes}
 use Rattle.std.specs.Str.{encode_utf8_all}
 use Rattle.std.proofs.Common.{◌≡◌, ℕ, List, [], ◌∷◌, ◌++◌, sym, ap, ◌∙◌, append_assoc}
 use Rattle.std.proofs.lemmas.Str.{encodes-append}
-use Rattle.task_model.specs.Literal.{escaped_all}
+use Rattle.task_model.specs.Syntax.Literal.{escaped_all}
 use Rattle.exact_reading.proofs.Sequences.{append_nil}
 use Rattle.literal_text.proofs.PrintLemmas.{escaped_all-append}
 use Rattle.literal_text.proofs.print.write_text.Goals as goal

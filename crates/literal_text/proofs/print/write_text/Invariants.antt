@@ -1,7 +1,7 @@
 use Rattle.std.proofs.Common.{◌≡◌, ◌++◌}
 use Rattle.std.specs.Prelude.{string_bytes}
 use Rattle.std.specs.Str.{encode_utf8_all}
-use Rattle.task_model.specs.Literal.{escaped_all}
+use Rattle.task_model.specs.Syntax.Literal.{escaped_all}
 use Rattle.literal_text.proofs.print.write_text.Given as goal
 
 abbrev pub invariant-loop-character : goal.invariant-loop-character

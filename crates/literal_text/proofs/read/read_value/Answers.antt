@@ -1,5 +1,5 @@
 use Rattle.std.proofs.Common.{◌≡◌, true, false, sym, ◌∙◌, Some}
-use Rattle.task_model.specs.Basic.{basic_term}
+use Rattle.task_model.specs.Terms.Basic.{basic_term}
 use Rattle.exact_reading.proofs.Whole.{no_words}
 use Rattle.literal_text.specs.Literals.{IsLiteralOf}
 use Rattle.literal_text.specs.LiteralReading.{Whole}

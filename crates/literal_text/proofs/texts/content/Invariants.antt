@@ -1,6 +1,6 @@
 use Rattle.std.proofs.Common.{ℕ, [], ◌≤◌, length}
 use Rattle.std.specs.Prelude.{string_bytes}
-use Rattle.task_model.specs.Text.{Text}
+use Rattle.task_model.specs.Terms.Text.{Text}
 use Rattle.exact_reading.specs.Reading.{Right, Answer, Always, Anything}
 use Rattle.literal_text.specs.LiteralReading.{Content}
 use Rattle.literal_text.proofs.texts.content.Given as goal

@@ -1,5 +1,5 @@
 use Rattle.std.proofs.Common.{◌≡◌, ◌∷◌, [], ◌∙◌, sym, ap, subst}
-use Rattle.task_model.specs.Token.{Escapes}
+use Rattle.task_model.specs.Terms.Token.{Escapes}
 use Rattle.literal_text.proofs.EscapeLemmas.{no_escape, letter_right, hex_escape}
 use Rattle.literal_text.proofs.texts.escape.Goals as goal
 

@@ -1,5 +1,5 @@
 use Rattle.std.proofs.Common.{sym, subst}
-use Rattle.task_model.specs.Token.{Escapes, quote, backslash, line_feed, tab, carriage_return}
+use Rattle.task_model.specs.Terms.Token.{Escapes, quote, backslash, line_feed, tab, carriage_return}
 use Rattle.literal_text.proofs.texts.escaped.Goals as goal
 
 pub returns-in-34 : goal.returns-in-34

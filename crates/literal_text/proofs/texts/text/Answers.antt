@@ -1,6 +1,6 @@
 use Rattle.std.proofs.Common.{ap, sym}
 use Rattle.std.proofs.lemmas.Result.{err_from_is_err_and}
-use Rattle.task_model.specs.Value.{text_value}
+use Rattle.task_model.specs.Terms.Value.{text_value}
 use Rattle.exact_reading.proofs.Productions.{same_answer}
 use Rattle.literal_text.proofs.WordLemmas.{gap_right}
 use Rattle.literal_text.proofs.ContentLemmas.{quote_stop, inside_stop, text_right}

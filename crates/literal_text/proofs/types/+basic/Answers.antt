@@ -1,6 +1,6 @@
 use Rattle.std.proofs.Common.{◌≡◌, suc, ◌+◌, sym, ap, arith}
 use Rattle.std.proofs.lemmas.Result.{err_from_is_err_and}
-use Rattle.task_model.specs.Basic.{basic_term, pair_type, list_type}
+use Rattle.task_model.specs.Terms.Basic.{basic_term, pair_type, list_type}
 use Rattle.exact_reading.proofs.Productions.{same_answer}
 use Rattle.literal_text.proofs.LiteralLemmas.{word_right, word_stop}
 use Rattle.literal_text.proofs.TypeLemmas as types

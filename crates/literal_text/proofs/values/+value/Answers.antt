@@ -1,10 +1,10 @@
 use Rattle.std.proofs.Common.{◌≡◌, ℕ, ◌≤◌, ◌<◌, List, [], ◌∷◌, ◌++◌, length, map, length-append, true, false, Option, Some, inl, inr, refl, sym, ap, ◌∙◌, subst, arith}
 use Rattle.std.proofs.lemmas.Result.{err_from_is_err_and}
 use Rattle.std.proofs.lemmas.List.{length-map}
-use Rattle.task_model.specs.Text.{Text}
-use Rattle.task_model.specs.Basic.{BasicTerm, basic_term, pair_type, list_type}
-use Rattle.task_model.specs.Rowed.{Rowed}
-use Rattle.task_model.specs.Value.{ValueTerm, value_term, pair_value, list_value, as_values}
+use Rattle.task_model.specs.Terms.Text.{Text}
+use Rattle.task_model.specs.Terms.Basic.{BasicTerm, basic_term, pair_type, list_type}
+use Rattle.task_model.specs.Terms.Rowed.{Rowed}
+use Rattle.task_model.specs.Terms.Value.{ValueTerm, value_term, pair_value, list_value, as_values}
 use Rattle.task_model.specs.declared.value.Value as value_type
 use Rattle.task_model.proofs.RowLemmas.{value_term-List}
 use Rattle.exact_reading.specs.Reading.{Right, Answer, Always}

@@ -1,5 +1,5 @@
 use Rattle.std.proofs.Common.{ℕ, ◌+◌, ◌-◌, ◌*◌, ◌≤◌, map, length}
-use Rattle.task_model.specs.Value.{ValueTerm, value_term}
+use Rattle.task_model.specs.Terms.Value.{ValueTerm, value_term}
 use Rattle.exact_reading.specs.Reading.{Right, Answer, Always}
 use Rattle.literal_text.specs.LiteralReading.{want_of, NoBlank, Further, Elements}
 use Rattle.literal_text.proofs.values.+value.Given as goal

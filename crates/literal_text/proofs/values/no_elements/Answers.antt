@@ -1,8 +1,8 @@
 use Rattle.std.proofs.Common.{ap, sym, ◌∙◌, map}
 use Rattle.std.proofs.lemmas.Result.{err_from_is_err_and}
-use Rattle.task_model.specs.Rowed.{Rowed}
+use Rattle.task_model.specs.Terms.Rowed.{Rowed}
 use Rattle.task_model.specs.declared.value.Value as value
-use Rattle.task_model.specs.Value.{value_term, list_value, as_values}
+use Rattle.task_model.specs.Terms.Value.{value_term, list_value, as_values}
 use Rattle.task_model.proofs.RowLemmas.{value_term-List}
 use Rattle.exact_reading.proofs.Productions.{same_answer}
 use Rattle.literal_text.proofs.LiteralLemmas.{word_right, word_stop}

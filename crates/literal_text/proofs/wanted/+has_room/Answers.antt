@@ -1,5 +1,5 @@
 use Rattle.std.proofs.Common.{◌≤◌, arith}
-use Rattle.task_model.specs.Basic.{basic_term, BasicTerm, unit_type, bool_type, int_type, text_type, pair_type, list_type}
+use Rattle.task_model.specs.Terms.Basic.{basic_term, BasicTerm, unit_type, bool_type, int_type, text_type, pair_type, list_type}
 use Rattle.literal_text.specs.LiteralReading.{fewest_levels}
 use Rattle.literal_text.proofs.wanted.+has_room.Goals as goal
 

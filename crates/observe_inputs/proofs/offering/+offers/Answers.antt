@@ -1,9 +1,9 @@
 use Rattle.std.proofs.Common.{◌∷◌, [], ◌++◌, map, refl, ap}
 use Rattle.std.proofs.lemmas.Result.{IfOk-weaker}
-use Rattle.task_model.specs.Basic.{basic_term}
-use Rattle.task_model.specs.Value.{value_term}
-use Rattle.task_model.specs.Tree.{cont_term, tree_term, edit_tree, enter_tree, share_tree, and_tree, or_tree}
-use Rattle.task_model.specs.Offer.{set_offer, offered}
+use Rattle.task_model.specs.Terms.Basic.{basic_term}
+use Rattle.task_model.specs.Terms.Value.{value_term}
+use Rattle.task_model.specs.Terms.Tree.{cont_term, tree_term, edit_tree, enter_tree, share_tree, and_tree, or_tree}
+use Rattle.task_model.specs.Running.Offer.{set_offer, offered}
 use Rattle.task_model.specs.declared.value.Value.{Value}
 use Rattle.task_model.specs.declared.input.Turn.TheVariants as turns
 use Rattle.task_model.specs.declared.widget.Sign.TheVariants as signs

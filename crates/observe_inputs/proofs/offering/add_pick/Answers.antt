@@ -1,10 +1,10 @@
 use Rattle.std.proofs.Common.{map, subst}
 use Rattle.std.proofs.lemmas.Result.{IfOk-weaker}
-use Rattle.task_model.specs.Value.{value_term}
-use Rattle.task_model.specs.Tree.{delay_term}
-use Rattle.task_model.specs.Checked.{checked_term}
-use Rattle.task_model.specs.Sign.{IsSideSign}
-use Rattle.task_model.specs.Offer.{offer_term}
+use Rattle.task_model.specs.Terms.Value.{value_term}
+use Rattle.task_model.specs.Terms.Tree.{delay_term}
+use Rattle.task_model.specs.Running.Checked.{checked_term}
+use Rattle.task_model.specs.Running.Sign.{IsSideSign}
+use Rattle.task_model.specs.Running.Offer.{offer_term}
 use Rattle.task_model.specs.declared.value.Value.{Value}
 use Rattle.shared_store.specs.Layered.{Layered}
 use Rattle.observe_inputs.proofs.FollowLemmas.{follow_pick}

@@ -1,5 +1,5 @@
 use Rattle.std.proofs.Common.{map, ap}
-use Rattle.task_model.specs.Offer.{offer_term}
+use Rattle.task_model.specs.Running.Offer.{offer_term}
 use Rattle.observe_inputs.proofs.FollowLemmas.{follow_root}
 use Rattle.observe_inputs.proofs.offering.offers.Goals as goal
 

@@ -1,6 +1,6 @@
 use Rattle.std.proofs.Common.{sym, ap, ◌∙◌}
 use Rattle.std.specs.Option.{option_map}
-use Rattle.task_model.specs.Value.{value_term}
+use Rattle.task_model.specs.Terms.Value.{value_term}
 use Rattle.task_engine.proofs.FittingLemmas.{step_fits}
 use Rattle.observe_inputs.proofs.signs.step_sign.Goals as goal
 

@@ -1,7 +1,7 @@
 use Rattle.std.proofs.Common.{◌≡◌, ◌∙◌, ◌+◌, ◌<◌, ℕ, List, [], length, drop, get_or, false, refl, sym, nat_eq}
 use Rattle.std.proofs.lemmas.List.{drop_more}
 use Rattle.std.specs.Cmp.Lexicographic.{pointwise}
-use Rattle.task_model.specs.Rowed.{Rowed}
+use Rattle.task_model.specs.Terms.Rowed.{Rowed}
 use Rattle.outer_io.specs.PlainFiles.{held}
 use Rattle.outer_io.proofs.plain_files.find.Goals as goal
 

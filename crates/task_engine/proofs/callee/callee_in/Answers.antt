@@ -1,6 +1,6 @@
 use Rattle.std.proofs.Common.{◌+◌, ◌<◌, cond, map, drop, length, refl, sym, ap, ◌∙◌, arith}
-use Rattle.task_model.specs.Program.{def_body_term, def_term}
-use Rattle.task_model.specs.Checked.{callee_of, def_in, what_nodes}
+use Rattle.task_model.specs.Terms.Program.{def_body_term, def_term}
+use Rattle.task_model.specs.Running.Checked.{callee_of, def_in, what_nodes}
 use Rattle.task_model.specs.declared.program.DefBody.{DefBody}
 use Rattle.task_engine.specs.Called.{as_callee}
 use Rattle.task_engine.proofs.TableLemmas.{callee_front, callee_none, first_and_later, later_firsts}

@@ -1,6 +1,6 @@
 use Rattle.std.proofs.Common.{◌≡◌, ℕ, ◌-◌, map, drop, Option, length}
-use Rattle.task_model.specs.Program.{def_term, ProgramTerm}
-use Rattle.task_model.specs.Checked.{def_in, Callee}
+use Rattle.task_model.specs.Terms.Program.{def_term, ProgramTerm}
+use Rattle.task_model.specs.Running.Checked.{def_in, Callee}
 use Rattle.task_engine.specs.Tables.{definition_firsts}
 use Rattle.task_engine.specs.Called.{as_callee}
 use Rattle.task_engine.proofs.callee.callee_in.Given as goal

@@ -1,14 +1,14 @@
 use Rattle.std.proofs.Common.{◌≡◌, ℕ, length, map, refl, sym, ap, ◌∙◌, rules, arith}
 use Rattle.std.proofs.lemmas.List.{length-map, map-append, map-set}
 use Rattle.std.specs.Prelude.{slice_set}
-use Rattle.task_model.specs.Value.{ValueTerm, value_term}
-use Rattle.task_model.specs.Env.{plain_slot, place_slot, EnvTerm}
-use Rattle.task_model.specs.Host.{host_term}
-use Rattle.task_model.specs.Task.{task_term, share}
-use Rattle.task_model.specs.Tree.{State}
-use Rattle.task_model.specs.Checked.{checked_term, nodes_of}
-use Rattle.task_model.specs.Plan.{Plan, gives_value, evaluates, give, ask}
-use Rattle.task_model.specs.Rules.{bound, branch, later_by, evaluate_rule}
+use Rattle.task_model.specs.Terms.Value.{ValueTerm, value_term}
+use Rattle.task_model.specs.Terms.Env.{plain_slot, place_slot, EnvTerm}
+use Rattle.task_model.specs.Terms.Host.{host_term}
+use Rattle.task_model.specs.Terms.Task.{task_term, share}
+use Rattle.task_model.specs.Terms.Tree.{State}
+use Rattle.task_model.specs.Running.Checked.{checked_term, nodes_of}
+use Rattle.task_model.specs.Running.Plan.{Plan, gives_value, evaluates, give, ask}
+use Rattle.task_model.specs.Running.Rules.{bound, branch, later_by, evaluate_rule}
 use Rattle.task_model.proofs.RanLemmas.{stopped, ran_give, ran_ask, ran_ask_stops, ran_last, ran_after, ran_after_stops, ran_unit, asked_rule, asked_rule_stops}
 use Rattle.host_eval.specs.NamesTerm.{names_term}
 use Rattle.host_eval.proofs.RunLemmas.{ran_is, ran_known_ok, placed_is, chosen_is, ran_chosen, empty_or, matched_is, ran_matched}

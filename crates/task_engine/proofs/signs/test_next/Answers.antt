@@ -1,8 +1,8 @@
 use Rattle.std.proofs.Common.{map}
-use Rattle.task_model.specs.Value.{value_term}
-use Rattle.task_model.specs.Tree.{cont_term}
-use Rattle.task_model.specs.Checked.{checked_term}
-use Rattle.task_model.specs.Rules.{trial}
+use Rattle.task_model.specs.Terms.Value.{value_term}
+use Rattle.task_model.specs.Terms.Tree.{cont_term}
+use Rattle.task_model.specs.Running.Checked.{checked_term}
+use Rattle.task_model.specs.Running.Rules.{trial}
 use Rattle.task_engine.proofs.SignLemmas.{sign_is}
 use Rattle.task_engine.proofs.StrideLemmas.{cont_tested, cont_binds}
 use Rattle.task_engine.proofs.signs.test_next.Goals as goal

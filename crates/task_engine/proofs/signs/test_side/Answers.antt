@@ -1,8 +1,8 @@
 use Rattle.std.proofs.Common.{map}
-use Rattle.task_model.specs.Value.{value_term}
-use Rattle.task_model.specs.Tree.{delay_term}
-use Rattle.task_model.specs.Checked.{checked_term}
-use Rattle.task_model.specs.Rules.{side}
+use Rattle.task_model.specs.Terms.Value.{value_term}
+use Rattle.task_model.specs.Terms.Tree.{delay_term}
+use Rattle.task_model.specs.Running.Checked.{checked_term}
+use Rattle.task_model.specs.Running.Rules.{side}
 use Rattle.task_engine.proofs.SignLemmas.{sign_is}
 use Rattle.task_engine.proofs.StrideLemmas.{side_tested, side_unbound}
 use Rattle.task_engine.proofs.signs.test_side.Goals as goal

@@ -1,6 +1,6 @@
 use Rattle.std.proofs.Common.{map, length, sym, ap, ◌∙◌, arith}
-use Rattle.task_model.specs.Task.{body_term}
-use Rattle.task_model.specs.Checked.{counts_from}
+use Rattle.task_model.specs.Terms.Task.{body_term}
+use Rattle.task_model.specs.Running.Checked.{counts_from}
 use Rattle.task_engine.proofs.TableLemmas.{drop_past}
 use Rattle.task_engine.proofs.tables.counts_of.Goals as goal
 

@@ -1,6 +1,6 @@
 use Rattle.std.proofs.Common.{◌≡◌, ◌≤◌, length, map, drop}
-use Rattle.task_model.specs.Task.{body_term}
-use Rattle.task_model.specs.Checked.{counts_from}
+use Rattle.task_model.specs.Terms.Task.{body_term}
+use Rattle.task_model.specs.Running.Checked.{counts_from}
 use Rattle.task_engine.proofs.tables.counts_of.Given as goal
 
 abbrev pub invariant-loop-at : goal.invariant-loop-at

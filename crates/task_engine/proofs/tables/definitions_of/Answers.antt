@@ -1,6 +1,6 @@
 use Rattle.std.proofs.Common.{◌+◌, ◌++◌, ◌∷◌, [], map, sym, ap, ◌∙◌, append-nil, append_assoc}
-use Rattle.task_model.specs.Program.{def_term}
-use Rattle.task_model.specs.Checked.{what_nodes}
+use Rattle.task_model.specs.Terms.Program.{def_term}
+use Rattle.task_model.specs.Running.Checked.{what_nodes}
 use Rattle.host_eval.proofs.RunLemmas.{tail_of}
 use Rattle.task_engine.specs.Tables.{definition_firsts}
 use Rattle.task_engine.proofs.TableLemmas.{firsts_front, firsts_none}

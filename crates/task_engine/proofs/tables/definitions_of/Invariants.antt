@@ -1,6 +1,6 @@
 use Rattle.std.proofs.Common.{◌≡◌, ◌++◌, map, length}
-use Rattle.task_model.specs.Program.{def_term, ProgramTerm}
-use Rattle.task_model.specs.Checked.{counts_of}
+use Rattle.task_model.specs.Terms.Program.{def_term, ProgramTerm}
+use Rattle.task_model.specs.Running.Checked.{counts_of}
 use Rattle.task_engine.specs.Tables.{definition_firsts}
 use Rattle.task_engine.proofs.tables.definitions_of.Given as goal
 

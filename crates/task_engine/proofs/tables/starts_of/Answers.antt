@@ -1,6 +1,6 @@
 use Rattle.std.proofs.Common.{◌+◌, ◌++◌, map, sym, ap, ◌∙◌, append-nil, append_assoc}
-use Rattle.task_model.specs.Program.{def_term, program_term}
-use Rattle.task_model.specs.Placed.{firsts_in, what_firsts, what_edits}
+use Rattle.task_model.specs.Terms.Program.{def_term, program_term}
+use Rattle.task_model.specs.Checking.Placed.{firsts_in, what_firsts, what_edits}
 use Rattle.host_eval.proofs.ListLemmas.{in_front, empty}
 use Rattle.host_eval.proofs.RunLemmas.{tail_of}
 use Rattle.task_engine.proofs.tables.starts_of.Goals as goal

@@ -1,6 +1,6 @@
 use Rattle.std.proofs.Common.{◌≡◌, ◌++◌, map, length}
-use Rattle.task_model.specs.Program.{def_term, program_term}
-use Rattle.task_model.specs.Placed.{firsts_in}
+use Rattle.task_model.specs.Terms.Program.{def_term, program_term}
+use Rattle.task_model.specs.Checking.Placed.{firsts_in}
 use Rattle.task_engine.proofs.tables.starts_of.Given as goal
 
 abbrev pub invariant-loop-rest : goal.invariant-loop-rest

@@ -1,16 +1,16 @@
 use Rattle.std.proofs.Common.{◌≡◌, Ok, Some, None, Bool, Option, List, map, sym, ap, ◌∙◌, refl, rules, arith}
-use Rattle.task_model.specs.Rowed.{Rowed}
-use Rattle.task_model.specs.Value.{ValueTerm, value_term}
-use Rattle.task_model.specs.Env.{slot_term}
+use Rattle.task_model.specs.Terms.Rowed.{Rowed}
+use Rattle.task_model.specs.Terms.Value.{ValueTerm, value_term}
+use Rattle.task_model.specs.Terms.Env.{slot_term}
 use Rattle.task_model.specs.declared.env.Slot.{Slot}
 use Rattle.task_model.specs.declared.tree.Tree as tree
 use Rattle.task_model.specs.declared.value.Value as value
 use Rattle.shared_store.specs.Layered.{Layered}
-use Rattle.task_model.specs.Task.{BodyTerm, body_term}
-use Rattle.task_model.specs.Tree.{tree_term, cont_term, delay_term, then_tree, State, at}
-use Rattle.task_model.specs.Checked.{checked_term}
-use Rattle.task_model.specs.Plan.{fails, normal, Plan, give, ask}
-use Rattle.task_model.specs.Rules.{fired, value_of, opened_env}
+use Rattle.task_model.specs.Terms.Task.{BodyTerm, body_term}
+use Rattle.task_model.specs.Terms.Tree.{tree_term, cont_term, delay_term, then_tree, State, at}
+use Rattle.task_model.specs.Running.Checked.{checked_term}
+use Rattle.task_model.specs.Running.Plan.{fails, normal, Plan, give, ask}
+use Rattle.task_model.specs.Running.Rules.{fired, value_of, opened_env}
 use Rattle.task_model.proofs.RanLemmas.{stopped, ran_give, ran_ask, ran_ask_stops, ran_last, ran_after, ran_after_stops, ran_last_stride, ran_more_strides, ran_stride_stops, ran_strides_unpaid, asked_rule, asked_rule_stops}
 use Rattle.task_model.specs.declared.purse.Stop.TheVariants.{Over}
 use Rattle.host_eval.proofs.RunLemmas.{ran_is, ran_known_ok}

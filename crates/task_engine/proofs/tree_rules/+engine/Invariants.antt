@@ -1,10 +1,10 @@
 use Rattle.std.proofs.Common.{◌≡◌, ◌+◌, ◌*◌, List, Result, map}
-use Rattle.task_model.specs.Left.{Left}
-use Rattle.task_model.specs.Value.{ValueTerm, value_term}
-use Rattle.task_model.specs.Tree.{tree_term, at}
-use Rattle.task_model.specs.Checked.{checked_term}
-use Rattle.task_model.specs.Plan.{give, strides, stride_on}
-use Rattle.task_model.specs.Calls.{RunsPlan}
+use Rattle.task_model.specs.Terms.Left.{Left}
+use Rattle.task_model.specs.Terms.Value.{ValueTerm, value_term}
+use Rattle.task_model.specs.Terms.Tree.{tree_term, at}
+use Rattle.task_model.specs.Running.Checked.{checked_term}
+use Rattle.task_model.specs.Running.Plan.{give, strides, stride_on}
+use Rattle.task_model.specs.Syntax.Calls.{RunsPlan}
 use Rattle.task_model.specs.declared.purse.Stop.{Stop}
 use Rattle.task_model.specs.declared.tree.Tree.{Tree}
 use Rattle.typing_laws.specs.Well.{MayAsk}

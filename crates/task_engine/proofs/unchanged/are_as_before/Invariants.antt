@@ -1,5 +1,5 @@
 use Rattle.std.proofs.Common.{◌≡◌, ◌-◌, length, map}
-use Rattle.task_model.specs.Value.{value_term}
+use Rattle.task_model.specs.Terms.Value.{value_term}
 use Rattle.shared_store.specs.Log.{rewound}
 use Rattle.task_engine.proofs.ChangeLemmas.{Remains}
 use Rattle.task_engine.proofs.unchanged.are_as_before.Given as goal

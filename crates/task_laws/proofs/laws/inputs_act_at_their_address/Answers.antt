@@ -1,6 +1,6 @@
 use Rattle.std.proofs.Common.{subst, sym}
-use Rattle.task_model.specs.Plan.{plan_work, Derives}
-use Rattle.task_model.specs.Rules.{rule_of}
+use Rattle.task_model.specs.Running.Plan.{plan_work, Derives}
+use Rattle.task_model.specs.Running.Rules.{rule_of}
 use Rattle.task_laws.proofs.AddressLemmas.{acts_at_address, lacks_without_address, turns_of_address}
 use Rattle.task_laws.proofs.laws.inputs_act_at_their_address.Goals as goal
 

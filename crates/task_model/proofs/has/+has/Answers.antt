@@ -4,11 +4,11 @@ use Rattle.std.proofs.lemmas.Bool.Decides.{nat_tests}
 use Rattle.std.proofs.lemmas.List.{length-map}
 use Rattle.std.specs.declared.alloc.Global.{Global}
 use Rattle.std.specs.declared.sync.Arc.{Arc}
-use Rattle.task_model.specs.Rowed.{Rowed}
-use Rattle.task_model.specs.Basic.{BasicTerm, list_type}
-use Rattle.task_model.specs.Value.{value_term, list_value, as_values, value_has, values_have}
+use Rattle.task_model.specs.Terms.Rowed.{Rowed}
+use Rattle.task_model.specs.Terms.Basic.{BasicTerm, list_type}
+use Rattle.task_model.specs.Terms.Value.{value_term, list_value, as_values, value_has, values_have}
 use Rattle.task_model.specs.declared.value.Value as value
-use Rattle.task_model.specs.Held.{IsHeld}
+use Rattle.task_model.specs.Terms.Held.{IsHeld}
 use Rattle.task_model.proofs.RowLemmas.{value_term-List, count_of-as_values}
 use Rattle.task_model.proofs.has.+has.Goals as goal
 

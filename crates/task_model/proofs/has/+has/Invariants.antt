@@ -1,7 +1,7 @@
 use Rattle.std.proofs.Common.{◌≡◌, map, drop}
-use Rattle.task_model.specs.Basic.{basic_term}
-use Rattle.task_model.specs.Value.{value_term, as_values, values_have}
-use Rattle.task_model.specs.Held.{AreHeld}
+use Rattle.task_model.specs.Terms.Basic.{basic_term}
+use Rattle.task_model.specs.Terms.Value.{value_term, as_values, values_have}
+use Rattle.task_model.specs.Terms.Held.{AreHeld}
 use Rattle.task_model.proofs.has.+has.Given as goal
 
 abbrev pub invariant-values_have-loop-item : goal.invariant-values_have-loop-item

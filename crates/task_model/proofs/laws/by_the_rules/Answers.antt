@@ -1,4 +1,4 @@
-use Rattle.task_model.specs.Rules.{rule_of}
+use Rattle.task_model.specs.Running.Rules.{rule_of}
 use Rattle.task_model.proofs.PlanLemmas.{by_rule, from_rule}
 use Rattle.task_model.proofs.laws.by_the_rules.Goals as goal
 

@@ -1,8 +1,8 @@
-use Rattle.task_model.specs.Plan.{Derives, give}
+use Rattle.task_model.specs.Running.Plan.{Derives, give}
 use Rattle.std.proofs.Common.{[], ◌∷◌, ◌++◌}
-use Rattle.task_model.specs.Env.{plain_slot}
-use Rattle.task_model.specs.Rules.{rule_of, applied, tested}
-use Rattle.task_model.specs.Handling.{handles}
+use Rattle.task_model.specs.Terms.Env.{plain_slot}
+use Rattle.task_model.specs.Running.Rules.{rule_of, applied, tested}
+use Rattle.task_model.specs.Running.Handling.{handles}
 use Rattle.task_model.proofs.PlanLemmas.{agree_work, at_most_one}
 use Rattle.task_model.proofs.SignLemmas.{test_once}
 use Rattle.task_model.proofs.laws.one_result.Goals as goal

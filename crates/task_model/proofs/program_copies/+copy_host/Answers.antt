@@ -1,5 +1,5 @@
 use Rattle.std.proofs.Common.{map, sym, ap, ◌∙◌}
-use Rattle.task_model.specs.Host.{call_expr, list_expr, as_exprs, host_term}
+use Rattle.task_model.specs.Terms.Host.{call_expr, list_expr, as_exprs, host_term}
 use Rattle.task_model.proofs.RowLemmas.{host_term-List, host_term-Call}
 use Rattle.task_model.proofs.program_copies.+copy_host.Goals as goal
 

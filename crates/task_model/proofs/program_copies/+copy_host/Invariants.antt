@@ -1,5 +1,5 @@
 use Rattle.std.proofs.Common.{◌≡◌, map, take}
-use Rattle.task_model.specs.Host.{host_term}
+use Rattle.task_model.specs.Terms.Host.{host_term}
 use Rattle.task_model.proofs.program_copies.+copy_host.Given as goal
 
 abbrev pub invariant-copy_hosts-loop-e : goal.invariant-copy_hosts-loop-e

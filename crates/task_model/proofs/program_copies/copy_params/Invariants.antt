@@ -1,5 +1,5 @@
 use Rattle.std.proofs.Common.{◌≡◌, map, take}
-use Rattle.task_model.specs.Program.{param_term}
+use Rattle.task_model.specs.Terms.Program.{param_term}
 use Rattle.task_model.proofs.program_copies.copy_params.Given as goal
 
 abbrev pub invariant-loop-param : goal.invariant-loop-param

@@ -1,6 +1,6 @@
 use Rattle.std.proofs.Common.{◌≡◌, map, take}
-use Rattle.task_model.specs.Task.{body_term}
-use Rattle.task_model.specs.Program.{def_term}
+use Rattle.task_model.specs.Terms.Task.{body_term}
+use Rattle.task_model.specs.Terms.Program.{def_term}
 use Rattle.task_model.proofs.program_copies.copy_program.Given as goal
 
 abbrev pub invariant-loop-def : goal.invariant-loop-def

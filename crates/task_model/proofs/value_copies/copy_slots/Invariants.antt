@@ -1,5 +1,5 @@
 use Rattle.std.proofs.Common.{◌≡◌, map, take}
-use Rattle.task_model.specs.Env.{slot_term}
+use Rattle.task_model.specs.Terms.Env.{slot_term}
 use Rattle.task_model.proofs.value_copies.copy_slots.Given as goal
 
 abbrev pub invariant-loop-slot : goal.invariant-loop-slot

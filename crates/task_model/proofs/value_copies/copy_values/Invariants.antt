@@ -1,5 +1,5 @@
 use Rattle.std.proofs.Common.{◌≡◌, map, take}
-use Rattle.task_model.specs.Value.{value_term}
+use Rattle.task_model.specs.Terms.Value.{value_term}
 use Rattle.task_model.proofs.value_copies.copy_values.Given as goal
 
 abbrev pub invariant-loop-v : goal.invariant-loop-v

@@ -1,4 +1,4 @@
-use Rattle.task_model.specs.Program.{program_term}
+use Rattle.task_model.specs.Terms.Program.{program_term}
 use Rattle.task_reader.proofs.WrittenLemmas.{written_result}
 use Rattle.task_reader.proofs.read.read_program.Goals as goal
 

@@ -2,7 +2,7 @@ use Rattle.std.proofs.Common.{◌≡◌, ◌-◌, ◌<◌, true, length, take, a
 use Rattle.std.specs.Char.{is_ascii_digit}
 use Rattle.std.specs.List.{list_all}
 use Rattle.std.proofs.lemmas.Int.{to_z_pos}
-use Rattle.task_model.specs.Token.{number_from}
+use Rattle.task_model.specs.Terms.Token.{number_from}
 use Rattle.task_syntax.proofs.Leading.{digits_are, number_leads, number_wide}
 use Rattle.task_syntax.proofs.lexer.number_at.Goals as goal
 

@@ -1,5 +1,5 @@
 use Rattle.std.proofs.Common.{◌≡◌, ◌-◌, false, length, take, ap, subst, ◌∙◌, sym}
-use Rattle.task_model.specs.Token.{is_keyword}
+use Rattle.task_model.specs.Terms.Token.{is_keyword}
 use Rattle.task_syntax.proofs.Leading.{name_leads, keyword_leads}
 use Rattle.task_syntax.proofs.lexer.word_at.Goals as goal
 

@@ -1,5 +1,5 @@
 use Rattle.std.proofs.Common.{◌≡◌, ◌≤◌, drop}
-use Rattle.task_model.specs.Token.{number_from}
+use Rattle.task_model.specs.Terms.Token.{number_from}
 use Rattle.task_syntax.proofs.number.value.Given as goal
 
 abbrev pub invariant-loop-byte : goal.invariant-loop-byte

@@ -1,5 +1,5 @@
 use Rattle.std.proofs.Common.{map, take, drop, suc}
-use Rattle.task_model.specs.Spelling.{symbol_spelling}
+use Rattle.task_model.specs.Syntax.Spelling.{symbol_spelling}
 use Rattle.task_syntax.proofs.TableLemmas.{split_here, none_more}
 use Rattle.task_syntax.proofs.symbol.first_of.Goals as goal
 

@@ -1,5 +1,5 @@
 use Rattle.std.proofs.Common.{map, take}
-use Rattle.task_model.specs.Spelling.{symbol_spelling}
+use Rattle.task_model.specs.Syntax.Spelling.{symbol_spelling}
 use Rattle.task_syntax.specs.Table.{NoneBegins}
 use Rattle.task_syntax.proofs.symbol.first_of.Given as goal
 

@@ -1,5 +1,5 @@
 use Rattle.std.proofs.Common.{map, subst}
-use Rattle.task_model.specs.Spelling.{symbol_spelling}
+use Rattle.task_model.specs.Syntax.Spelling.{symbol_spelling}
 use Rattle.task_syntax.specs.Table.{NoneBegins, FirstBegins}
 use Rattle.task_syntax.proofs.TableLemmas.{weaker}
 use Rattle.task_syntax.proofs.Tables.{no_symbol, longest_of}

@@ -1,5 +1,5 @@
 use Rattle.std.proofs.Common.{refl, arith}
-use Rattle.task_model.specs.Token.{quote, backslash, line_feed, tab, carriage_return}
+use Rattle.task_model.specs.Terms.Token.{quote, backslash, line_feed, tab, carriage_return}
 use Rattle.task_syntax.specs.Runs.{BeginsWithCharacter}
 use Rattle.task_syntax.proofs.EscapeLemmas.{no_escape_digits, digits_stand, no_escape_end, no_escape_other, letter_stands}
 use Rattle.task_syntax.proofs.TableLemmas.{weaker}

@@ -1,5 +1,5 @@
 use Rattle.std.proofs.Common.{◌≡◌, ◌∷◌, [], sym, ◌∙◌, subst}
-use Rattle.task_model.specs.Token.{IsHex}
+use Rattle.task_model.specs.Terms.Token.{IsHex}
 use Rattle.task_syntax.proofs.EscapeLemmas.{hex_first, hex_stands}
 use Rattle.task_syntax.proofs.text.hex_escape.Goals as goal
 

@@ -1,5 +1,5 @@
 use Rattle.std.proofs.Common.{refl}
-use Rattle.task_model.specs.Token.{raw}
+use Rattle.task_model.specs.Terms.Token.{raw}
 use Rattle.task_syntax.proofs.text.part.Goals as goal
 
 pub returns : goal.returns

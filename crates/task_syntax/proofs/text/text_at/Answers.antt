@@ -1,7 +1,7 @@
 use Rattle.std.proofs.Common.{rules, ◌≡◌, ◌∷◌, ◌++◌, length, ◌<◌, refl, sym, ◌∙◌, ap, subst, arith, string_bytes}
 use Rattle.std.specs.Prelude.{encode_utf8}
 use Rattle.std.proofs.lemmas.Grind.{common_steps}
-use Rattle.task_model.specs.Token.{spelled}
+use Rattle.task_model.specs.Terms.Token.{spelled}
 use Rattle.task_syntax.specs.TextParts.{PartStands, PartFails}
 use Rattle.task_syntax.proofs.EscapeLemmas.{part_stop, stand_shorter, text_push}
 use Rattle.task_syntax.proofs.Bytes.{begins_low}

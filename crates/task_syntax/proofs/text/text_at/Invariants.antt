@@ -1,7 +1,7 @@
 use denote.Shadow.{shadow}
 use denote.Text.{Utf8}
 use Rattle.std.proofs.Common.{◌≡◌, List, ◌∷◌, ◌++◌, length, string_bytes}
-use Rattle.task_model.specs.Token.{TextPart, spelled, PartsAre}
+use Rattle.task_model.specs.Terms.Token.{TextPart, spelled, PartsAre}
 use Rattle.task_syntax.proofs.text.text_at.Given as goal
 
 abbrev pub invariant-loop-first : goal.invariant-loop-first

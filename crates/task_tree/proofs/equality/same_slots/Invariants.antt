@@ -1,5 +1,5 @@
 use Rattle.std.proofs.Common.{◌≡◌, map, take}
-use Rattle.task_model.specs.Env.{slot_term}
+use Rattle.task_model.specs.Terms.Env.{slot_term}
 use Rattle.task_tree.proofs.equality.same_slots.Given as goal
 
 abbrev pub invariant-loop-i : goal.invariant-loop-i

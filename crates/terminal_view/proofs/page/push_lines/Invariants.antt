@@ -1,7 +1,7 @@
 use Rattle.std.specs.Prelude.{string_bytes}
 use Rattle.std.proofs.Common.{◌≡◌, ◌++◌, drop, map}
-use Rattle.task_model.specs.Page.{widget_lines}
-use Rattle.task_model.specs.Widget.{widget_term}
+use Rattle.task_model.specs.Showing.Page.{widget_lines}
+use Rattle.task_model.specs.Showing.Widget.{widget_term}
 use Rattle.terminal_view.proofs.page.push_lines.Given as goal
 
 abbrev pub invariant-loop-w : goal.invariant-loop-w

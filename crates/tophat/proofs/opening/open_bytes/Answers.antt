@@ -1,4 +1,4 @@
-use Rattle.task_model.specs.Checked.{checked_term}
+use Rattle.task_model.specs.Running.Checked.{checked_term}
 use Rattle.world_core.specs.World.{SeenWorld}
 use Rattle.tophat.specs.Verdict.{accepted}
 use Rattle.tophat.proofs.OpeningLemmas.{only_opens, refused_opens, verdict_after, verdict_refused}

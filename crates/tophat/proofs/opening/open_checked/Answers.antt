@@ -1,5 +1,5 @@
 use Rattle.std.proofs.Common.{refl, ap}
-use Rattle.task_model.specs.Checked.{checked_term}
+use Rattle.task_model.specs.Running.Checked.{checked_term}
 use Rattle.std.specs.Prelude.{option_map}
 use Rattle.world_core.specs.World.{next_term, world_term}
 use Rattle.tophat.proofs.OpeningLemmas.{opened_world}

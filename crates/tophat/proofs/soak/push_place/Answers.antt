@@ -1,5 +1,5 @@
 use Rattle.std.proofs.Common.{◌∙◌, Some, None, sym, ap}
-use Rattle.task_model.specs.Literal.{value_text}
+use Rattle.task_model.specs.Syntax.Literal.{value_text}
 use Rattle.tophat.proofs.SoakLemmas.{pushed, stored_at}
 use Rattle.tophat.proofs.soak.push_place.Goals as goal
 

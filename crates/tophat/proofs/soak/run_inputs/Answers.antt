@@ -1,5 +1,5 @@
 use Rattle.std.proofs.Common.{sym, ap, ◌∙◌, ◌≡◌, ◌+◌, arith}
-use Rattle.task_model.specs.Input.{entry_term}
+use Rattle.task_model.specs.Terms.Input.{entry_term}
 use Rattle.input_lines.specs.Soak.{soak_entry_of}
 use Rattle.world_core.specs.World.{world_term}
 use Rattle.tophat.specs.SoakReport.{tally_term, all_inputs}

@@ -1,5 +1,5 @@
 use Rattle.std.proofs.Common.{Ok, Err, subst, ◌∙◌}
-use Rattle.task_model.specs.Text.{Text}
+use Rattle.task_model.specs.Terms.Text.{Text}
 use Rattle.tophat.specs.Worked.{OpensBytes}
 use Rattle.tophat.proofs.WorkLemmas.{soak_tells, soak_tells_none}
 use Rattle.tophat.proofs.soak.soaked_text.Goals as goal

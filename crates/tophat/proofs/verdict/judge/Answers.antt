@@ -1,8 +1,8 @@
 use Rattle.std.proofs.Common.{◌∙◌, ap, subst}
-use Rattle.task_model.specs.TypeKind.{type_kind_term}
+use Rattle.task_model.specs.Checking.TypeKind.{type_kind_term}
 use Rattle.host_types.specs.CheckWords.{IsFirstTypeFault}
 use Rattle.tophat.specs.Verdict.{node_place}
-use Rattle.task_model.specs.Program.{program_term}
+use Rattle.task_model.specs.Terms.Program.{program_term}
 use Rattle.tophat.proofs.VerdictLemmas.{program_accepted, refused_judges}
 use Rattle.tophat.proofs.verdict.judge.Goals as goal
 

@@ -1,5 +1,5 @@
 use Rattle.std.proofs.Common.{subst}
-use Rattle.program_grammar.specs.Faults.{IsReadStop}
+use Rattle.reader_grammar.specs.Faults.{IsReadStop}
 use Rattle.tophat.proofs.VerdictLemmas.{read_refused}
 use Rattle.tophat.proofs.verdict.verdict_on.Goals as goal
 

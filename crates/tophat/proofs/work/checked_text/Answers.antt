@@ -1,5 +1,5 @@
-use Rattle.task_model.specs.Checked.{checked_term}
-use Rattle.task_model.specs.Text.{Text}
+use Rattle.task_model.specs.Running.Checked.{checked_term}
+use Rattle.task_model.specs.Terms.Text.{Text}
 use Rattle.tophat.specs.Verdict.{accepted}
 use Rattle.tophat.proofs.OpeningLemmas.{verdict_refused}
 use Rattle.tophat.proofs.WorkLemmas.{refused_tells}

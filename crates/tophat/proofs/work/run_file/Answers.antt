@@ -1,5 +1,5 @@
 use Rattle.std.proofs.Common.{Some, Ok, Err, sym, subst, arith}
-use Rattle.task_model.specs.Text.{Text}
+use Rattle.task_model.specs.Terms.Text.{Text}
 use Rattle.line_frame.specs.declared.finish.Finish.{Finish}
 use Rattle.command_words.specs.Commands.{run}
 use Rattle.tophat.specs.declared.ending.Ending.TheVariants.{Unopened}

@@ -1,4 +1,4 @@
-use Rattle.task_model.specs.Accepted.{typed_program}
+use Rattle.task_model.specs.Checking.Accepted.{typed_program}
 use Rattle.typing_laws.proofs.HistoryLemmas.{reached_kept}
 use Rattle.typing_laws.proofs.laws.histories_fit.Goals as goal
 

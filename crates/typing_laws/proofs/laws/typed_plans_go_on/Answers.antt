@@ -1,6 +1,6 @@
-use Rattle.task_model.specs.Plan.{give}
-use Rattle.task_model.specs.Handling.{handles, interacts}
-use Rattle.typing_laws.specs.Supposed.{Supposed, Assured}
+use Rattle.task_model.specs.Running.Plan.{give}
+use Rattle.task_model.specs.Running.Handling.{handles, interacts}
+use Rattle.typing_laws.specs.Assumed.{Assumed, Guaranteed}
 use Rattle.typing_laws.proofs.GoodLemmas.{good_any}
 use Rattle.typing_laws.proofs.CallLemmas.{well_rule}
 use Rattle.typing_laws.proofs.TreeLemmas.{good_applied, good_trial, good_side}
@@ -33,11 +33,11 @@ returns-clause-side_tests z = λ c Σ k b σ accepted l st.
 
 pub returns-clause-handling : goal.returns-clause-handling
 returns-clause-handling z = λ c Σ s b input accepted q. record {
-  good = good_any (Supposed c) (Assured c) (handles c s input) (KeptIf c Σ b)
+  good = good_any (Assumed c) (Guaranteed c) (handles c s input) (KeptIf c Σ b)
       (handled_good c (facts_of c accepted) s.tree s.store input.path input.act Σ b q.store q.tree);
 }
 
 pub returns-clause-interacting : goal.returns-clause-interacting
 returns-clause-interacting z = λ c Σ s b input accepted q. record {
-  good = good_any (Supposed c) (Assured c) (interacts c s input) (KeptIf c Σ b) (interacts_good c (facts_of c accepted) Σ b s input q);
+  good = good_any (Assumed c) (Guaranteed c) (interacts c s input) (KeptIf c Σ b) (interacts_good c (facts_of c accepted) Σ b s input q);
 }

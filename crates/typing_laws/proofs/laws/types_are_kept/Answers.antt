@@ -1,6 +1,6 @@
-use Rattle.task_model.specs.Plan.{gives_value, evaluates, strides, settles, normal, give}
-use Rattle.task_model.specs.Rules.{applied}
-use Rattle.typing_laws.specs.Supposed.{Kept}
+use Rattle.task_model.specs.Running.Plan.{gives_value, evaluates, strides, settles, normal, give}
+use Rattle.task_model.specs.Running.Rules.{applied}
+use Rattle.typing_laws.specs.Assumed.{Kept}
 use Rattle.typing_laws.proofs.RuleLemmas.{derives_typed}
 use Rattle.typing_laws.proofs.TreeLemmas.{good_applied, good_trial, good_side}
 use Rattle.typing_laws.proofs.ProgramLemmas.{facts_of}

@@ -1,8 +1,8 @@
 use Rattle.std.proofs.Common.{sym, ◌∙◌, map, subst, Err, arith}
-use Rattle.task_model.specs.Value.{value_term}
-use Rattle.task_model.specs.Tree.{tree_term, at}
-use Rattle.task_model.specs.Input.{input_term}
-use Rattle.task_model.specs.Checked.{checked_term}
+use Rattle.task_model.specs.Terms.Value.{value_term}
+use Rattle.task_model.specs.Terms.Tree.{tree_term, at}
+use Rattle.task_model.specs.Terms.Input.{input_term}
+use Rattle.task_model.specs.Running.Checked.{checked_term}
 use Rattle.handle_input.specs.Answers.{TellsOutcome}
 use Rattle.task_engine.proofs.StrideLemmas.{restored, same_store}
 use Rattle.world_core.proofs.KeptLemmas.{on_err, refusal_told}

@@ -1,9 +1,9 @@
 use Rattle.std.proofs.Common.{map, ap}
-use Rattle.task_model.specs.Value.{value_term}
-use Rattle.task_model.specs.Task.{task_term}
-use Rattle.task_model.specs.Tree.{tree_term, at}
+use Rattle.task_model.specs.Terms.Value.{value_term}
+use Rattle.task_model.specs.Terms.Task.{task_term}
+use Rattle.task_model.specs.Terms.Tree.{tree_term, at}
 use Rattle.task_model.specs.declared.tree.Tree.{Tree}
-use Rattle.task_model.specs.Checked.{checked_term}
+use Rattle.task_model.specs.Running.Checked.{checked_term}
 use Rattle.host_eval.specs.NamesTerm.{names_term}
 use Rattle.world_core.proofs.WorldLemmas.{opening_may, opening_is, opening_never}
 use Rattle.world_core.proofs.opening.evaluated.Goals as goal

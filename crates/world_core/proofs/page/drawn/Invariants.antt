@@ -1,5 +1,5 @@
 use Rattle.std.proofs.Common.{◌≡◌, map, take}
-use Rattle.task_model.specs.Widget.{widget_term}
+use Rattle.task_model.specs.Showing.Widget.{widget_term}
 use Rattle.html_pages.specs.Fragments.{fragment_of}
 use Rattle.world_core.proofs.page.drawn.Given as goal
 

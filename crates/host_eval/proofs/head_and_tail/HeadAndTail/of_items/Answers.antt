@@ -1,7 +1,7 @@
 use Rattle.std.proofs.Common.{◌≡◌, ◌≤◌, ◌-◌, take, List, length, drop, get_or, map, Some, ap, sym, ◌∙◌}
 use Rattle.task_model.specs.declared.value.Value as value
-use Rattle.task_model.specs.Rowed.{Rowed}
-use Rattle.task_model.specs.Value.{ValueTerm, list_value, as_values, value_term}
+use Rattle.task_model.specs.Terms.Rowed.{Rowed}
+use Rattle.task_model.specs.Terms.Value.{ValueTerm, list_value, as_values, value_term}
 use Rattle.task_model.proofs.RowLemmas.{value_term-List}
 use Rattle.host_eval.specs.ValueWords as words
 use Rattle.host_eval.proofs.ListLemmas.{in_front}

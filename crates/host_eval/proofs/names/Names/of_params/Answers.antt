@@ -1,5 +1,5 @@
 use Rattle.std.proofs.Common.{sym, map}
-use Rattle.task_model.specs.Env.{slot_term}
+use Rattle.task_model.specs.Terms.Env.{slot_term}
 use Rattle.host_eval.proofs.NameLemmas.{param_names-names}
 use Rattle.host_eval.proofs.names.Names.of_params.Goals as goal
 

@@ -1,6 +1,6 @@
 use Rattle.std.proofs.Common.{◌<◌, map, length, sym, ◌∙◌, arith}
 use Rattle.std.proofs.lemmas.List.{length-map}
-use Rattle.task_model.specs.Program.{def_term}
+use Rattle.task_model.specs.Terms.Program.{def_term}
 use Rattle.host_types.proofs.ScopeLemmas.{stands_at, found_is}
 use Rattle.host_types.proofs.definitions.Definitions.first.Goals as goal
 

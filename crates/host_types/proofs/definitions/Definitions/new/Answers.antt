@@ -2,9 +2,9 @@ use Rattle.std.proofs.Common.{◌≡◌, suc, ◌-◌, ◌<◌, Some, map, drop,
 use Rattle.std.specs.Option.{option_map}
 use Rattle.std.proofs.Math.Seq.{drop-cons}
 use Rattle.std.proofs.lemmas.Map.Text.{hash_map_updates_str}
-use Rattle.task_model.specs.Text.{same_text}
-use Rattle.task_model.specs.Program.{def_term}
-use Rattle.task_model.specs.Names.{first_named}
+use Rattle.task_model.specs.Terms.Text.{same_text}
+use Rattle.task_model.specs.Terms.Program.{def_term}
+use Rattle.task_model.specs.Checking.Names.{first_named}
 use Rattle.host_types.proofs.ScopeLemmas.{index-cons}
 use Rattle.host_types.proofs.definitions.Definitions.new.Goals as goal
 

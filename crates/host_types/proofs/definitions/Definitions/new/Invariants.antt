@@ -2,9 +2,9 @@ use Rattle.std.proofs.Common.{◌≡◌, ◌≤◌, drop, length, map}
 use Rattle.std.specs.Option.{option_map}
 use Rattle.std.specs.Str.{bytes_eq}
 use Rattle.indexmap.specs.IndexMap.{get_by}
-use Rattle.task_model.specs.Text.{Text}
-use Rattle.task_model.specs.Program.{def_term}
-use Rattle.task_model.specs.Names.{first_named}
+use Rattle.task_model.specs.Terms.Text.{Text}
+use Rattle.task_model.specs.Terms.Program.{def_term}
+use Rattle.task_model.specs.Checking.Names.{first_named}
 use Rattle.host_types.proofs.definitions.Definitions.new.Given as goal
 
 abbrev pub invariant-loop-left : goal.invariant-loop-left

@@ -1,6 +1,6 @@
 use Rattle.std.proofs.Common.{ap, ◌∙◌}
-use Rattle.task_model.specs.Program.{program_term}
-use Rattle.task_model.specs.Checked.{SeenChecked, body_first}
+use Rattle.task_model.specs.Terms.Program.{program_term}
+use Rattle.task_model.specs.Running.Checked.{SeenChecked, body_first}
 use Rattle.task_engine.proofs.StartLemmas.{start_there, start_is}
 use Rattle.task_engine.proofs.engine.Engine.body_first.Goals as goal
 

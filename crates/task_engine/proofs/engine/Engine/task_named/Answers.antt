@@ -1,6 +1,6 @@
 use Rattle.std.proofs.Common.{length, map, ap, ◌∙◌}
 use Rattle.std.proofs.lemmas.List.{length-map}
-use Rattle.task_model.specs.Program.{def_term, program_term}
+use Rattle.task_model.specs.Terms.Program.{def_term, program_term}
 use Rattle.task_engine.proofs.TableLemmas.{definitions_long}
 use Rattle.task_engine.proofs.engine.Engine.task_named.Goals as goal
 

@@ -1,6 +1,6 @@
 use Rattle.std.proofs.Common.{◌-◌, inl, inr, arith, ◌⊎◌, ◌<◌, ◌≤◌, ◌+◌, length, None, Some, refl}
-use Rattle.task_model.specs.FullTask.{full_bodies, full_body, full_body_numbered}
-use Rattle.task_model.specs.Printed.{body_texts, body_text, body_numbered, no_body}
+use Rattle.task_model.specs.Checking.FullTask.{full_bodies, full_body, full_body_numbered}
+use Rattle.task_model.specs.Syntax.Printed.{body_texts, body_text, body_numbered, no_body}
 use Rattle.task_model.proofs.BodyLemmas.{body_split, body_found, body_absent}
 use Rattle.task_model.proofs.later_bodies.LaterBodies.numbered.Goals as goal
 use Rattle.task_model.proofs.later_bodies.LaterBodies.numbered.Goals.{then-number-self-via-then-number-self, then-number-self-via-else-number-self+then-self-number}

@@ -1,7 +1,7 @@
 use Rattle.std.proofs.Common.{Err, sym, subst}
 use Rattle.std.proofs.lemmas.Result.{IfOk-weaker}
-use Rattle.task_model.specs.Text.{Text}
-use Rattle.task_model.specs.Input.{entry_term}
+use Rattle.task_model.specs.Terms.Text.{Text}
+use Rattle.task_model.specs.Terms.Input.{entry_term}
 use Rattle.world_core.specs.World.{world_term, Replies}
 use Rattle.input_lines.specs.ScriptLines.{gives}
 use Rattle.tophat.specs.Session.{Answers}

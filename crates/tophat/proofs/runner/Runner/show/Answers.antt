@@ -1,5 +1,5 @@
 use Rattle.std.proofs.Common.{sym, subst, ap}
-use Rattle.task_model.specs.Text.{Text}
+use Rattle.task_model.specs.Terms.Text.{Text}
 use Rattle.task_model.specs.declared.widget.Face.TheVariants as faces
 use Rattle.world_core.specs.World.{world_term}
 use Rattle.world_core.specs.Pages.{IsWorldPage}

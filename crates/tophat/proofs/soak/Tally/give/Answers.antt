@@ -1,5 +1,5 @@
 use Rattle.std.proofs.Common.{refl}
-use Rattle.task_model.specs.Outcome.{taken}
+use Rattle.task_model.specs.Running.Outcome.{taken}
 use Rattle.tophat.proofs.soak.Tally.give.Goals as goal
 
 pub returns-in-Ok-clause-given : goal.returns-in-Ok-clause-given

@@ -1,5 +1,5 @@
 use Rattle.std.proofs.Common.{Ok, Err}
-use Rattle.task_model.specs.Input.{input_term}
+use Rattle.task_model.specs.Terms.Input.{input_term}
 use Rattle.task_model.proofs.RanLemmas.{stopped}
 use Rattle.world_core.specs.World.{world_term}
 use Rattle.world_core.proofs.RunLemmas.{prepared_some, replies_taken, replies_refused, rest_kept}

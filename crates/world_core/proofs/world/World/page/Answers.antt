@@ -1,8 +1,8 @@
 use Rattle.std.proofs.Common.{sym, ap, ◌∙◌, subst}
 use Rattle.std.specs.Prelude.{IfOk}
 use Rattle.std.proofs.lemmas.Result.{IfOk-weaker}
-use Rattle.task_model.specs.Item.{history_term}
-use Rattle.task_model.specs.State.{IsPage, version_of}
+use Rattle.task_model.specs.Terms.Item.{history_term}
+use Rattle.task_model.specs.Running.State.{IsPage, version_of}
 use Rattle.world_core.specs.World.{SeenWorld, world_term, IsStanding}
 use Rattle.world_core.specs.Pages.{IsWorldPage}
 use Rattle.world_core.proofs.WorldLemmas.{standing_page}

@@ -1,8 +1,8 @@
 use Rattle.std.proofs.Common.{map, ap, ◌∙◌, refl, subst, Err}
-use Rattle.task_model.specs.Value.{value_term}
-use Rattle.task_model.specs.Tree.{tree_term, at}
-use Rattle.task_model.specs.Input.{input_term}
-use Rattle.task_model.specs.Checked.{checked_term}
+use Rattle.task_model.specs.Terms.Value.{value_term}
+use Rattle.task_model.specs.Terms.Tree.{tree_term, at}
+use Rattle.task_model.specs.Terms.Input.{input_term}
+use Rattle.task_model.specs.Running.Checked.{checked_term}
 use Rattle.task_model.specs.declared.item.Item.TheVariants.{Took}
 use Rattle.task_model.proofs.RanLemmas.{stopped}
 use Rattle.handle_input.specs.Answers.{TellsOutcome}

@@ -1,5 +1,5 @@
 use Rattle.std.proofs.Common.{Err, ap, ◌∙◌, subst}
-use Rattle.task_model.specs.Input.{input_term}
+use Rattle.task_model.specs.Terms.Input.{input_term}
 use Rattle.task_model.specs.declared.stops.ActStop.TheVariants.{Over}
 use Rattle.world_core.specs.World.{world_term, Replies}
 use Rattle.world_core.proofs.world.World.reply.Goals as goal

@@ -1,5 +1,5 @@
 use Rattle.std.proofs.Common.{◌≡◌, map, take, None}
-use Rattle.task_model.specs.Input.{entry_term}
+use Rattle.task_model.specs.Terms.Input.{entry_term}
 use Rattle.world_core.specs.World.{world_term}
 use Rattle.world_core.specs.Replying.{RepliesToAll}
 use Rattle.world_core.proofs.world.World.run.Given as goal

@@ -1,6 +1,6 @@
 use Rattle.std.proofs.Common.{length, ap, arith}
 use Rattle.std.proofs.lemmas.List.{length-map}
-use Rattle.task_model.specs.Item.{item_term}
+use Rattle.task_model.specs.Terms.Item.{item_term}
 use Rattle.world_core.proofs.WorldLemmas.{standing_version}
 use Rattle.world_core.proofs.KeptLemmas.{world}
 use Rattle.world_core.proofs.world.World.version.Goals as goal

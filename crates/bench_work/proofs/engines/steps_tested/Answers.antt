@@ -1,0 +1,10 @@
+use Rattle.std.proofs.Common.{sym, ap, ◌∙◌}
+use Rattle.std.specs.Option.{option_map}
+use Rattle.task_model.specs.Terms.Value.{value_term}
+use Rattle.task_engine.proofs.FittingLemmas.{step_fits}
+use Rattle.bench_work.proofs.engines.steps_tested.Goals as goal
+
+pub test_next-requires : goal.test_next-requires
+test_next-requires g c = record {
+  fits = step_fits _ _ _ _ _ c.loop.invariant (sym c.in-Ok-Some.ensures ∙ ap (option_map value_term) c.in-Ok-Some.field-0-is);
+}

@@ -1,0 +1,16 @@
+use Rattle.exact_reading.proofs.Whole.{no_word}
+use Rattle.literal_text_laws.proofs.Decided.{one_place}
+use Rattle.literal_text_laws.proofs.OneLiteral.{some_typed, one_typed}
+use Rattle.literal_text_laws.proofs.laws.one_literal_of_a_type.Goals as goal
+
+pub returns-clause-some : goal.returns-clause-some
+returns-clause-some c = some_typed
+
+pub returns-clause-values : goal.returns-clause-values
+returns-clause-values c = one_typed
+
+pub returns-clause-places : goal.returns-clause-places
+returns-clause-places c = λ b t p q. one_place p q
+
+pub returns-clause-apart : goal.returns-clause-apart
+returns-clause-apart c = λ b t v p h f. no_word f h tt

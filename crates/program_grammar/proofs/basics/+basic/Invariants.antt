@@ -1,4 +1,0 @@
-use Rattle.program_grammar.proofs.basics.+basic.Given as goal
-
-abbrev pub decreases-basic : goal.decreases-basic
-decreases-basic l = l.room

@@ -1,0 +1,72 @@
+-- How keywords and symbols are spelled (docs/LANGUAGE.md, "Tokens").
+use Rattle.std.specs.Prelude.{codes}
+use Rattle.task_model.specs.Terms.Text.{Text}
+use Rattle.task_model.specs.declared.keyword.Keyword.{Keyword}
+use Rattle.task_model.specs.declared.keyword.Keyword.TheVariants as keywords
+use Rattle.task_model.specs.declared.symbol.Symbol.{Symbol}
+use Rattle.task_model.specs.declared.symbol.Symbol.TheVariants as symbols
+
+-- how a keyword is spelled
+abbrev pub keyword_spelling : Keyword → Text
+keyword_spelling keywords.Fun = codes "fun"
+keyword_spelling keywords.Task = codes "task"
+keyword_spelling keywords.Unit = codes "unit"
+keyword_spelling keywords.Bool = codes "bool"
+keyword_spelling keywords.Int = codes "int"
+keyword_spelling keywords.Text = codes "text"
+keyword_spelling keywords.Ref = codes "ref"
+keyword_spelling keywords.Let = codes "let"
+keyword_spelling keywords.In = codes "in"
+keyword_spelling keywords.If = codes "if"
+keyword_spelling keywords.Then = codes "then"
+keyword_spelling keywords.Else = codes "else"
+keyword_spelling keywords.Case = codes "case"
+keyword_spelling keywords.Of = codes "of"
+keyword_spelling keywords.New = codes "new"
+keyword_spelling keywords.Edit = codes "edit"
+keyword_spelling keywords.Enter = codes "enter"
+keyword_spelling keywords.Share = codes "share"
+keyword_spelling keywords.Fail = codes "fail"
+keyword_spelling keywords.True = codes "true"
+keyword_spelling keywords.False = codes "false"
+keyword_spelling keywords.Not = codes "not"
+keyword_spelling keywords.Fst = codes "fst"
+keyword_spelling keywords.Snd = codes "snd"
+keyword_spelling keywords.Len = codes "len"
+keyword_spelling keywords.Quot = codes "quot"
+keyword_spelling keywords.Rem = codes "rem"
+keyword_spelling keywords.Nil = codes "nil"
+
+-- how a symbol is spelled
+abbrev pub symbol_spelling : Symbol → Text
+symbol_spelling symbols.Open = codes "("
+symbol_spelling symbols.Close = codes ")"
+symbol_spelling symbols.OpenBracket = codes "["
+symbol_spelling symbols.CloseBracket = codes "]"
+symbol_spelling symbols.Comma = codes ","
+symbol_spelling symbols.Colon = codes ":"
+symbol_spelling symbols.Assign = codes ":="
+symbol_spelling symbols.Cons = codes "::"
+symbol_spelling symbols.Semicolon = codes ";"
+symbol_spelling symbols.Dot = codes "."
+symbol_spelling symbols.Define = codes "="
+symbol_spelling symbols.Equal = codes "=="
+symbol_spelling symbols.NotEqual = codes "!="
+symbol_spelling symbols.Bang = codes "!"
+symbol_spelling symbols.Less = codes "<"
+symbol_spelling symbols.LessEqual = codes "<="
+symbol_spelling symbols.Greater = codes ">"
+symbol_spelling symbols.GreaterEqual = codes ">="
+symbol_spelling symbols.Plus = codes "+"
+symbol_spelling symbols.Join = codes "++"
+symbol_spelling symbols.Minus = codes "-"
+symbol_spelling symbols.Arrow = codes "->"
+symbol_spelling symbols.Star = codes "*"
+symbol_spelling symbols.Or = codes "||"
+symbol_spelling symbols.Bar = codes "|"
+symbol_spelling symbols.And = codes "&&"
+symbol_spelling symbols.InternalStep = codes ">>="
+symbol_spelling symbols.UserStep = codes ">>?"
+symbol_spelling symbols.Pair = codes "<&>"
+symbol_spelling symbols.InternalChoice = codes "<|>"
+symbol_spelling symbols.ExternalChoice = codes "<?>"

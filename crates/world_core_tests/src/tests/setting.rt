@@ -1,0 +1,111 @@
+//! Values of each type, set at editors of each type.
+ghost use Rattle.task_model.specs.Running.State.{IsSeat};
+
+use std::alloc::Global;
+use std::sync::ledger::Ledger;
+use task_model::{Entry, OutOfMemory, Steps};
+use testing_worlds::{Script, Way, WorldBench};
+use world_core::Reply;
+
+/// Values, and programs with a mark for each of the values: `y` where it is taken, and a dot where it isn't.
+pub(super) const SETS: &str = r#"()@true@-5@"a"@(1, true)@[1, 2]@[]@["a"]@(true, 1)@[1, true]@[[]]
+y..........@task main() : unit = enter unit
+y..........@task main() : unit = edit ()
+y..........@task main() : unit = new r = () in share r
+.y.........@task main() : bool = enter bool
+.y.........@task main() : bool = edit false
+.y.........@task main() : bool = new r = false in share r
+..y........@task main() : int = enter int
+..y........@task main() : int = edit 1
+..y........@task main() : int = new r = 1 in share r
+...y.......@task main() : text = enter text
+...y.......@task main() : text = edit "b"
+...y.......@task main() : text = new r = "b" in share r
+....y......@task main() : (int, bool) = enter (int, bool)
+....y......@task main() : (int, bool) = edit (2, false)
+....y......@task main() : (int, bool) = new r = (2, false) in share r
+.....yy....@task main() : [int] = enter [int]
+.....yy....@task main() : [int] = edit nil int
+.....yy....@task main() : [int] = new r = [3] in share r
+......yy...@task main() : [text] = enter [text]
+......yy...@task main() : [text] = edit nil text
+......yy...@task main() : [text] = new r = ["b"] in share r
+......y...y@task main() : [[int]] = enter [[int]]
+......y...y@task main() : [[int]] = edit [[1]]
+......y...y@task main() : [[int]] = new r = nil [int] in share r"#;
+
+// The mark of an entry at a world.
+fn reply_mark<L: Ledger>(
+    alloc: Global,
+    bench: &mut WorldBench,
+    entry: &Entry,
+    steps: &mut Steps<L>,
+) -> Result<&'static str, OutOfMemory>
+    requires { IsSeat entry.now.seat }
+{
+    match bench.handle(alloc, entry, Way::Whole, steps)? {
+        Reply::Taken(_) => Ok("y"),
+        Reply::NotOffered => Ok("."),
+        Reply::Over => Ok("?"),
+    }
+}
+
+// The mark of an entry at a program.
+fn entry_mark<L: Ledger>(
+    alloc: Global,
+    source: &str,
+    entry: &Entry,
+    steps: &mut Steps<L>,
+) -> Result<&'static str, OutOfMemory>
+    requires { IsSeat entry.now.seat }
+{
+    let mut bench = WorldBench::opened(alloc, source, 10_000, steps)?;
+    reply_mark(alloc, &mut bench, entry, steps)
+}
+
+// The mark of a value at a program.
+fn mark<L: Ledger>(
+    alloc: Global,
+    source: &str,
+    literal: &str,
+    steps: &mut Steps<L>,
+) -> Result<&'static str, OutOfMemory> {
+    let line = format!(in alloc; "1 . set {literal}")?;
+    let script = Script::of(alloc, line.as_str())?;
+    match script.first() {
+        Some(entry) => entry_mark(alloc, source, entry, steps),
+        None => Err(OutOfMemory),
+    }
+}
+
+// The marks of values at a program.
+fn marks<L: Ledger>(
+    alloc: Global,
+    source: &str,
+    literals: &str,
+    steps: &mut Steps<L>,
+) -> Result<String, OutOfMemory> {
+    let mut text = String::new(alloc);
+    for literal in literals.split('@') {
+        text.push_str(mark(alloc, source, literal, steps)?)?;
+    }
+    Ok(text)
+}
+
+/// What differs from the marks of a table.
+pub(super) fn differences<L: Ledger>(
+    alloc: Global,
+    table: &str,
+    steps: &mut Steps<L>,
+) -> Result<String, OutOfMemory> {
+    let mut all = String::new(alloc);
+    let (literals, rows) = table.split_once('\n').unwrap_or((table, ""));
+    for row in rows.split('\n') {
+        let (wanted, source) = row.split_once('@').unwrap_or((row, ""));
+        let told = marks(alloc, source, literals, steps)?;
+        if told.as_str() != wanted {
+            all.push_str(format!(in alloc; "{told}@{source}\n")?.as_str())?;
+        }
+    }
+    Ok(all)
+}
