@@ -26,6 +26,7 @@ use Rattle.task_engine.specs.Fitting.{ContFits, SideFits}
 use Rattle.task_engine.specs.Kinds.{pair_tree}
 use Rattle.task_engine.specs.declared.kinds.PairKind.{PairKind}
 use Rattle.task_engine.specs.declared.kinds.PairKind.TheVariants as pairs
+use Rattle.task_engine.proofs.AskLemmas.{types_long}
 
 -- ---- parts of a tree that fits
 module _ {c : CheckedTerm} {σ : List ValueTerm} where
@@ -39,12 +40,6 @@ module _ {c : CheckedTerm} {σ : List ValueTerm} where
   pub fits_pair_second : (kind : PairKind) (t u : TreeTerm) → Fits c (at (pair_tree kind t u) σ) → Fits c (at u σ)
   fits_pair_second pairs.And t u f = (f.0, f.2.tree.1, record { store = f.2.store; tree = f.2.tree.4 })
   fits_pair_second pairs.Or t u f = (f.0, f.1, record { store = f.2.store; tree = f.2.tree.1 })
-
-types_long : (σ : List ValueTerm) (Σ : List BasicTerm) → StoreHas σ Σ → length σ ≡ length Σ
-types_long [] [] h = refl
-types_long (v ∷ σ) (b ∷ Σ) h = ap suc (types_long σ Σ h.1)
-types_long [] (b ∷ Σ) h = absurd h
-types_long (v ∷ σ) [] h = absurd h
 
 -- the place of a shared editor is one of the store
 pub share_within : {c : CheckedTerm} {b : BasicTerm} {n : ℕ} (values : List Value) → Fits c (at (share_tree b n) (map value_term values))

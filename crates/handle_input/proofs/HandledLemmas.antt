@@ -21,7 +21,7 @@ use Rattle.task_model.specs.declared.input.Turn.TheVariants as turns
 use Rattle.task_model.proofs.PlanLemmas.{under_at, low_derives}
 use Rattle.task_model.proofs.RanLemmas.{ran_give}
 use Rattle.host_eval.proofs.ListLemmas.{in_front}
-use Rattle.host_eval.proofs.RunLemmas.{ran_is}
+use Rattle.host_eval.proofs.RunLemmas.{ran_is, tail_of}
 use Rattle.task_engine.specs.Kinds.{pair_tree}
 use Rattle.task_engine.specs.declared.kinds.PairKind.{PairKind}
 use Rattle.task_engine.specs.declared.kinds.PairKind.TheVariants as pairs
@@ -84,9 +84,6 @@ pub ran_rebuilt : {c : CheckedTerm} (f : TreeTerm → TreeTerm) (σ : List Value
 ran_rebuilt f σ led e = ran_is (ap give (rebuilt_is f σ led)) (ran_made_option _ σ e)
 
 -- ---- the parts of a node that has two
-abbrev pub tail_of : {X : Type 0} → List X → List X
-tail_of xs = take (length xs - 1) (drop 1 xs)
-
 -- a path by its first turn
 turned : (path : List Turn) (turn x : Turn) → 1 ≤ length path → get_or path 0 turn ≡ x → path ≡ x ∷ tail_of path
 turned [] turn x le e = absurd (omega arith)

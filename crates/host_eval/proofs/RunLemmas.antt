@@ -32,7 +32,7 @@ pub ran_known_ok : {c : CheckedTerm} {A Y B : Type 0} {o : Option A} {x : A} (f 
     {r : Result Y Stop} → o ≡ Some x → RunsPlan c (f x) vb old new r → RunsPlan c (known o f) vb old new r
 ran_known_ok f e a = ran_is (ap (λ z. known z f) e) a
 
-known_then : {A B C : Type 0} (o : Option A) (g : A → Option B) (f : B → Plan C) → known (option_then o g) f ≡ known o (λ x. known (g x) f)
+pub known_then : {A B C : Type 0} (o : Option A) (g : A → Option B) (f : B → Plan C) → known (option_then o g) f ≡ known o (λ x. known (g x) f)
 known_then None g f = refl
 known_then (Some x) g f = refl
 

@@ -20,6 +20,7 @@ use Rattle.typing_laws.proofs.CallLemmas.{well_rule}
 use Rattle.typing_laws.proofs.FitLemmas.{Matches, slot_found}
 use Rattle.typing_laws.proofs.PartLemmas.{types_are}
 use Rattle.host_eval.specs.NamesTerm.{IsPaired}
+use Rattle.host_eval.proofs.WellLemmas.{slots_paired}
 use Rattle.host_eval.specs.ValueWords.{option_then, place_in, place_named}
 
 module _ {c : CheckedTerm} {env : EnvTerm} {σ : List ValueTerm} where
@@ -40,12 +41,6 @@ module _ {c : CheckedTerm} {env : EnvTerm} {σ : List ValueTerm} where
       let left = length-drop env.first c.types in
       omega (arith, many, lists, left)
 
-slots_paired : (Σ : List BasicTerm) (ss : List SlotTerm) (qs : List ParamTerm) → SlotsHave Σ ss qs → length qs ≡ length ss
-slots_paired Σ [] [] h = refl
-slots_paired Σ (s ∷ ss) (q ∷ qs) h = ap suc (slots_paired Σ ss qs h.1)
-slots_paired Σ [] (q ∷ qs) h = absurd h
-slots_paired Σ (s ∷ ss) [] h = absurd h
-
 -- there are as many slots as names
 pub task_paired : {c : CheckedTerm} {t : TaskTerm} {env : EnvTerm} {σ : List ValueTerm} → MayAsk c (evaluates t env σ) → IsPaired env
 task_paired {env = env} m =
@@ -53,7 +48,8 @@ task_paired {env = env} m =
     ap length fits.names.names ∙ length-map fits.scope (λ q. q.name)
     ∙ slots_paired m.typing.places env.slots fits.scope fits.names.slots
 
-types_long : (σ : List ValueTerm) (Σ : List BasicTerm) → StoreHas σ Σ → length σ ≡ length Σ
+-- a store has as many values as types
+pub types_long : (σ : List ValueTerm) (Σ : List BasicTerm) → StoreHas σ Σ → length σ ≡ length Σ
 types_long [] [] h = refl
 types_long (v ∷ σ) (b ∷ Σ) h = ap suc (types_long σ Σ h.1)
 types_long [] (b ∷ Σ) h = absurd h

@@ -20,7 +20,7 @@ use Rattle.task_model.proofs.RanLemmas.{ran_give}
 use Rattle.typing_laws.specs.Well.{Well}
 use Rattle.typing_laws.proofs.CallLemmas.{well_known}
 use Rattle.host_eval.specs.ValueWords.{option_then, place_named}
-use Rattle.host_eval.proofs.RunLemmas.{ran_known_ok, placed_is}
+use Rattle.host_eval.proofs.RunLemmas.{ran_known_ok, known_then, placed_is}
 use Rattle.task_engine.specs.Called.{task_call_plan}
 use Rattle.task_engine.specs.declared.kinds.StepKind.{StepKind}
 use Rattle.task_engine.specs.declared.kinds.StepKind.TheVariants as steps
@@ -37,10 +37,6 @@ ran_made_at σ e = ran_give (ap (λ z. at z σ) e)
 known_map : {A B C : Type 0} (o : Option A) (g : A → B) (f : B → Plan C) → known o (λ x. f (g x)) ≡ known (option_map g o) f
 known_map None g f = refl
 known_map (Some x) g f = refl
-
-known_then : {A B C : Type 0} (o : Option A) (g : A → Option B) (f : B → Plan C) → known (option_then o g) f ≡ known o (λ x. known (g x) f)
-known_then None g f = refl
-known_then (Some x) g f = refl
 
 pub share_is : (c : CheckedTerm) (x : Text) (env : EnvTerm) (σ : List ValueTerm) → evaluate_rule c (share x) env σ
     ≡ known (share_tree_at (slice_get c.types env.first) env x) (λ t. give (at t σ))

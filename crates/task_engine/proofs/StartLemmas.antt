@@ -6,11 +6,7 @@ use Rattle.task_model.specs.Running.Checked.{body_first}
 use Rattle.task_model.specs.Checking.Placed.{firsts_of}
 use Rattle.task_model.specs.Syntax.Written.{IsWritten}
 use Rattle.task_laws.proofs.TableLemmas.{nodes_before, entries}
-
-some_within : {X : Type 0} (xs : List X) (i : ℕ) → IsSome (slice_get xs i) → i < length xs
-some_within [] i e = absurd (cc)
-some_within (x ∷ xs) zero e = omega arith
-some_within (x ∷ xs) (suc i) e = let lt = some_within xs i e in omega (arith, lt)
+use Rattle.host_eval.proofs.WellLemmas.{some_within}
 
 pub within_some : {X : Type 0} (xs : List X) (i : ℕ) → i < length xs → IsSome (slice_get xs i)
 within_some [] i lt = absurd (omega arith)
