@@ -13,10 +13,10 @@ mod rule_programs;
 mod work;
 mod worlds;
 
+use host_types_tests::checked_text;
 use std::io::Read;
 use std::{env, io};
 use task_model::OutOfMemory;
-use host_types_tests::checked_text;
 use work::Work;
 
 fn main(rt: HostRuntime) -> io::Result<()> {

@@ -3,9 +3,7 @@ ghost use Rattle.reader_grammar.specs.Parts.{lexemes, shown_host};
 ghost use Rattle.reader_expressions.specs.LiteralTokens.{NoLiteral, BeginsWithLiteral};
 
 use exact_reading::ParseStop;
-use reader_grammar::{
-    Parsed, PositionedToken, name_text, strip_keyword, strip_number, strip_text,
-};
+use reader_grammar::{Parsed, PositionedToken, name_text, strip_keyword, strip_number, strip_text};
 use std::alloc::Global;
 use task_model::{Host, Keyword};
 

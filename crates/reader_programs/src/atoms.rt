@@ -10,8 +10,8 @@ use crate::tasks::task;
 use crate::word_atoms::word_atom;
 use exact_reading::{ParseStop, too_nested};
 use reader_grammar::{Parsed, PositionedToken, expect_symbol, strip_symbol};
-use std::alloc::Global;
 use reader_tasks::grouped_task;
+use std::alloc::Global;
 use task_model::{Scope, Symbol, Task};
 
 /// A task of one word and its part, a call, or a task in parentheses.

@@ -15,8 +15,8 @@ use reader_expressions::expression;
 use reader_grammar::{
     Parsed, PositionedToken, expect_keyword, expect_name, expect_symbol, name_text,
 };
-use std::alloc::Global;
 use reader_tasks::{Binding, binding_task, inner_scope, put_task};
+use std::alloc::Global;
 use task_model::{Keyword, Scope, Symbol, Task};
 
 /// What stands behind `let` or `new`.

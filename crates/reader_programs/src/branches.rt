@@ -14,8 +14,8 @@ use reader_expressions::expression;
 use reader_grammar::{
     Parsed, PositionedToken, expect_keyword, expect_name, expect_symbol, name_text,
 };
-use std::alloc::Global;
 use reader_tasks::{case_task, if_task, inner_scope, number_behind};
+use std::alloc::Global;
 use task_model::{Keyword, Scope, Symbol, Task};
 
 /// What stands behind `if`.

@@ -18,8 +18,8 @@ use reader_expressions::expression;
 use reader_grammar::{
     Measured, Parsed, Parts, PositionedToken, basic, expect_name, expect_symbol, name_text,
 };
-use std::alloc::Global;
 use reader_tasks::parameter_scope;
+use std::alloc::Global;
 use task_model::{Body, Def, DefBody, Host, Symbol, Task};
 
 /// A definition that was read, the places of its nodes in pre-order, and its bodies in the order in which their texts begin.

@@ -12,11 +12,11 @@ use exact_reading::{ParseStop, too_nested};
 use reader_grammar::{
     Parsed, PositionedToken, expect_name, expect_symbol, name_text, strip_symbol,
 };
-use std::alloc::Global;
 use reader_tasks::{
     and_task, choice_sign, choice_task, inner_scope, number_behind, number_of_choice,
     number_of_step, step_sign, step_task,
 };
+use std::alloc::Global;
 use task_model::{Scope, Symbol, Task};
 
 /// A choice, and perhaps what comes next.

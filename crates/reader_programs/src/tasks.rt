@@ -14,8 +14,8 @@ use crate::branches::{task_case, task_if};
 use crate::series::steps;
 use exact_reading::{ParseStop, too_nested};
 use reader_grammar::{Parsed, PositionedToken, strip_keyword, strip_name, strip_symbol};
-use std::alloc::Global;
 use reader_tasks::binding_word;
+use std::alloc::Global;
 use task_model::{Keyword, Scope, Symbol, Task};
 
 /// A task of at most so many levels. Its first body has the number `next`.

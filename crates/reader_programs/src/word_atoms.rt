@@ -10,8 +10,8 @@ ghost use Rattle.reader_tasks.specs.Tasks.{parsed_task, shown_atom, NoSign};
 use exact_reading::{ParseStop, too_nested, unexpected};
 use reader_expressions::{atom, enclosed};
 use reader_grammar::{Parsed, PositionedToken, basic, expect_name, strip_keyword, strip_name};
-use std::alloc::Global;
 use reader_tasks::{call_task, edit_task, enter_task, fail_task, share_task};
+use std::alloc::Global;
 use task_model::{Keyword, Task};
 
 /// A task of one word and its part, or a call: it has no bodies.

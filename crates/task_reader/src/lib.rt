@@ -5,6 +5,6 @@ mod print;
 mod read;
 
 pub use print::print_program;
-pub use reader_programs::Read;
 pub use read::read_program;
+pub use reader_programs::Read;
 pub use task_syntax::{ReadKind, ReadStop};

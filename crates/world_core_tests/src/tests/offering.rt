@@ -1,9 +1,9 @@
 //! The offers of openings.
 
-use task_engine_tests::Bench;
 use literal_text::print_basic;
 use std::alloc::Global;
 use std::sync::ledger::Ledger;
+use task_engine_tests::Bench;
 use task_model::{Answer, Offer, OfferKind, OutOfMemory, Purse, Row, Steps, Turn};
 use testing_programs::accepted;
 
