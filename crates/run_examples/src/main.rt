@@ -11,7 +11,17 @@ use tophat::tophat;
 
 /// The examples: NAME.th, with its script NAME.script and what it writes, NAME.out.
 const EXAMPLES: &[&str] = &[
-    "approval", "board", "leave", "order", "pair", "poll", "stock",
+    "approval",
+    "board",
+    "expenses",
+    "incidents",
+    "leave",
+    "meeting",
+    "order",
+    "pair",
+    "rooms",
+    "stock",
+    "tender",
 ];
 
 /// The most bytes of a script or of a file of answers.

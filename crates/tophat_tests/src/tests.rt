@@ -5,6 +5,7 @@ mod budgets;
 mod case;
 mod programs;
 mod refusals;
+mod tutorial;
 mod worked_rows;
 
 use block::assert_blocks;
@@ -31,8 +32,18 @@ fn long_texts(rt: HostRuntime) -> Result<(), Fail> {
 }
 
 #[test]
-fn tutorial(rt: HostRuntime) -> Result<(), Fail> {
-    Ok(assert_blocks(&rt, worked_rows::TUTORIAL)?)
+fn programs_of_the_tutorial(rt: HostRuntime) -> Result<(), Fail> {
+    Ok(assert_blocks(&rt, tutorial::TUTORIAL)?)
+}
+
+#[test]
+fn programs_that_the_tutorial_refuses(rt: HostRuntime) -> Result<(), Fail> {
+    Ok(assert_blocks(&rt, tutorial::REFUSED)?)
+}
+
+#[test]
+fn long_walks(rt: HostRuntime) -> Result<(), Fail> {
+    Ok(assert_blocks(&rt, worked_rows::LONG_WALKS)?)
 }
 
 #[test]

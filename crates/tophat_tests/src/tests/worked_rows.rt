@@ -304,94 +304,41 @@ soak +1 3
 drill 2 100
 serve p.th";
 
-/// The programs of the tutorial (docs/LANGUAGE.md).
-pub(crate) const TUTORIAL: &str = r#"# a number to start with, and one to be filled in
-task main() : (int, int) =
-  edit 1 <&> enter int
+/// Walks over lists of 1,000 elements, and exactly the units that they take (docs/LANGUAGE.md, "Lists"): one that looks for what isn't
+/// there, and one that finds the last element and takes it out.
+pub(crate) const LONG_WALKS: &str = r#"$ run p.th --budget 2003
+task find(wanted : int, rest : [int]) : bool =
+  case rest of [] -> edit false
+  | head :: tail -> if head == wanted then edit true else (edit () >>= u . find(wanted, tail))
+task main() : bool = find(0, [{999 @, }1000])
 = 0
 > 1 show
 version 0 seat 1
-. and
-.F edit int 1
-.S enter int
-> 2 .S set -4
-taken 1
-> 1 . set 3
-not offered
-> 1 show
-version 1 seat 1
-. and
-.F edit int 1
-.S edit int -4
+. edit bool false
 
-task main() : int =
-  (enter int <&> enter int) >>? p . edit (fst p + snd p)
-= 0
-> 1 .F set 2
-taken 1
-> 1 . next
-not offered
-> 2 .S set 40
-taken 2
-> 1 . next
-taken 3
-> 1 show
-version 3 seat 1
-. edit int 42
+$ run p.th --budget 2002
+same program
+= 4 tophat: opening over budget
 
-fun fits(n : int) : bool = 0 < n && n <= 10
-task main() : int =
-  enter int >>= n . if fits(n) then edit n else fail int
-= 0
-> 1 . set 70
-taken 1
-> 1 show
-version 1 seat 1
-. then
-. edit int 70
-> 1 . set 7
-taken 2
-> 1 show
-version 2 seat 1
-. edit int 7
-
-task yes_no() : bool = edit true <?> edit false
-task main() : text =
-  yes_no() >>? answer . if answer then edit "yes" else edit "no"
+$ run p.th --budget 5999
+task find(wanted : int, rest : [int]) : bool =
+  case rest of [] -> edit false
+  | head :: tail -> if head == wanted then edit true else (edit () >>= u . find(wanted, tail))
+task behind(passed : [int], rest : [int]) : [int] =
+  case passed of [] -> edit rest
+  | head :: tail -> edit () >>= u . behind(tail, head :: rest)
+task without(wanted : int, rest : [int], passed : [int]) : [int] =
+  case rest of [] -> behind(passed, nil int)
+  | head :: tail -> if head == wanted then behind(passed, tail) else (edit () >>= u . without(wanted, tail, head :: passed))
+task main() : (int, bool) =
+  let all = [{999 @, }1000] in
+  find(1000, all) >>= there . (without(1000, all, nil int) >>= rest . edit (len rest, there))
 = 0
 > 1 show
 version 0 seat 1
-. step
-. pick left right
-> 1 . left
-taken 1
-> 1 show
-version 1 seat 1
-. step next
-. edit bool true
-> 2 . next
-taken 2
-> 1 show
-version 2 seat 1
-. edit text "yes"
+. edit (int, bool) (999, true)
 
-task write(notes : ref [text]) : [text] =
-  enter text >>? line . (notes := line :: !notes ; write(notes))
-task main() : ([text], [text]) =
-  new notes = nil text in write(notes) <&> share notes
-= 0
-> 1 .F set "milk"
-taken 1
-> 1 .F next
-taken 2
-> 2 .F set "bread"
-taken 3
-> 2 .F next
-taken 4
-> 3 show
-version 4 seat 3
-. and
-.F step
-.F enter text
-.S share [text] ["bread", "milk"]
+$ run p.th --budget 5998
+same program
+= 4 tophat: opening over budget
 "#;
