@@ -8,8 +8,6 @@ mod matches;
 mod numbers;
 mod reading;
 mod stop;
-#[cfg(test)]
-mod tests;
 mod top;
 
 pub use command::Command;

@@ -1,9 +1,5 @@
-//! What checking comes to: tables of programs with their first faults, by hand. Tests alone, but for `checked_text`, which bench/cases
-//! calls.
+//! What checking comes to: tables of programs with their first faults, by hand. Tests alone.
 #![tactic(auto)]
 
-mod checks;
 #[cfg(test)]
 mod tests;
-
-pub use checks::checked_text;

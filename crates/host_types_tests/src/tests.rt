@@ -1,15 +1,17 @@
+//! Tables of programs, each with its first fault at the `@` in it, which stands in no program, or with `ok` where it is accepted.
+//!
+//! A row is a definition between others, as `fault; type; body`. A block has a fault in its first line, and behind it a whole program. In
+//! both `{N PIECE}` stands for N times the piece.
+
+mod checks;
 mod expressions;
-mod limits;
-mod order;
+mod programs;
 mod tasks;
 
-use crate::checked_text;
-use std::alloc::{AllocError, Global};
+use checks::checked_text;
 use std::process::Abort;
 use std::test::Fail;
-
-/// A type, what has it or has its first fault at the `@` in it, which stands in no program, and the fault.
-type Row = (&'static str, &'static str, &'static str);
+use testing_programs::repeated;
 
 /// What stands in front of a definition under test: a function and a task of a value and a reference each.
 const BEFORE: &str =
@@ -23,34 +25,62 @@ const PARAMETERS: &str =
 const BEHIND: &str =
     "\nfun y() : int = 1\ntask z() : int = enter int\ntask main() : unit = enter unit\n";
 
-/// The definition of this word, type and body, between those.
-fn definition(alloc: Global, word: &str, kind: &str, body: &str) -> Result<String, AllocError> {
-    format!(in alloc; "{BEFORE}{word} f{PARAMETERS}{kind} = {body}{BEHIND}")
-}
-
-/// The text with a mark `@` in it has this fault at the mark. A text without a mark is accepted.
-fn assert_checked(rt: &(impl Abort + AllocGlobal), marked: &str, fault: &str) -> Result<(), Fail> {
+fn assert_checked(rt: &(impl Abort + AllocGlobal), text: &str, fault: &str) -> Result<(), Fail> {
     let alloc = rt.alloc();
-    match marked.split_once('@') {
-        Some((before, behind)) => {
-            let text = format!(in alloc; "{before}{behind}")?;
-            let told = checked_text(alloc, text.as_bytes())?;
-            let want = format!(in alloc; "byte {}: {fault}\n", before.len())?;
-            assert_eq!(rt; told.as_str(), want.as_str());
-        }
-        None => {
-            let told = checked_text(alloc, marked.as_bytes())?;
-            assert!(rt; !told.as_str().starts_with("byte "));
-        }
+    let marked = repeated(alloc, text)?;
+    let (before, behind) = marked
+        .as_str()
+        .split_once('@')
+        .unwrap_or((marked.as_str(), ""));
+    let program = format!(in alloc; "{before}{behind}")?;
+    let told = checked_text(alloc, program.as_str().as_bytes())?;
+    if fault == "ok" {
+        assert!(rt; !told.as_str().starts_with("byte "), "{text}");
+        return Ok(());
+    }
+    let wanted = format!(in alloc; "byte {}: {fault}\n", before.len())?;
+    assert_eq!(rt; told.as_str(), wanted.as_str(), "{text}");
+    Ok(())
+}
+
+fn assert_row(rt: &(impl Abort + AllocGlobal), word: &str, row: &str) -> Result<(), Fail> {
+    let (fault, rest) = row.split_once("; ").unwrap_or((row, ""));
+    let (kind, body) = rest.split_once("; ").unwrap_or((rest, ""));
+    let text = format!(in rt.alloc(); "{BEFORE}{word} f{PARAMETERS}{kind} = {body}{BEHIND}")?;
+    assert_checked(rt, text.as_str(), fault)
+}
+
+fn assert_rows(rt: &(impl Abort + AllocGlobal), word: &str, rows: &str) -> Result<(), Fail> {
+    for row in rows.split('\n') {
+        assert_row(rt, word, row)?;
     }
     Ok(())
 }
 
-/// Definitions of this word: each has the type, or the fault at its mark.
-fn assert_rows(rt: &(impl Abort + AllocGlobal), word: &str, rows: &[Row]) -> Result<(), Fail> {
-    for (kind, body, fault) in rows {
-        let text = definition(rt.alloc(), word, kind, body)?;
-        assert_checked(rt, text.as_str(), fault)?;
+fn assert_blocks(rt: &(impl Abort + AllocGlobal), blocks: &str) -> Result<(), Fail> {
+    for block in blocks.split("\n\n") {
+        let (fault, program) = block.split_once('\n').unwrap_or((block, ""));
+        assert_checked(rt, program, fault)?;
     }
     Ok(())
+}
+
+#[test]
+fn function_bodies(rt: HostRuntime) -> Result<(), Fail> {
+    assert_rows(&rt, "fun", expressions::FORMS)?;
+    assert_rows(&rt, "fun", expressions::LATER_NODES)
+}
+
+#[test]
+fn task_bodies(rt: HostRuntime) -> Result<(), Fail> {
+    assert_rows(&rt, "task", tasks::FORMS)?;
+    assert_rows(&rt, "task", tasks::LATER_NODES)
+}
+
+#[test]
+fn whole_programs(rt: HostRuntime) -> Result<(), Fail> {
+    assert_blocks(&rt, programs::DEFINITIONS)?;
+    assert_blocks(&rt, programs::ORDER)?;
+    assert_blocks(&rt, programs::SCOPES)?;
+    assert_blocks(&rt, programs::SYMBOLS)
 }

@@ -5,198 +5,173 @@ use line_frame::LineStop;
 use std::alloc::Global;
 use std::process::Abort;
 use std::test::Fail;
-use task_model::{OutOfMemory, TaskText};
+use task_model::OutOfMemory;
 
-// What was read is a blank line, shows a seat, or is printed so; or the line is bad at this column.
-#[derive(Clone, Copy)]
-pub(crate) enum Want<'a> {
-    Blank,
-    Show(u8),
-    Act(&'a str),
-    Bad(u64),
+// Whether it is blank, which seat it shows, the entry as it is printed, or the column.
+fn told(alloc: Global, bytes: &[u8]) -> Result<String, OutOfMemory> {
+    match &parse_line(alloc, bytes) {
+        Ok(Line::Blank) => Ok(String::from_str(alloc, "blank")?),
+        Ok(Line::Show { seat }) => Ok(format!(in alloc; "shows {seat}")?),
+        Ok(Line::Act(e)) => {
+            let text = print_entry(alloc, e)?;
+            let line = text.as_str().strip_suffix('\n').unwrap_or("no line");
+            Ok(String::from_str(alloc, line)?)
+        }
+        Err(LineStop::Bad { column }) => Ok(format!(in alloc; "column {column}")?),
+        Err(LineStop::Memory) => Err(OutOfMemory),
+    }
 }
-
-use Want::{Act, Bad, Blank, Show};
 
 pub(crate) fn assert_line(
     rt: &(impl Abort + AllocGlobal),
     bytes: &[u8],
-    want: &Want,
+    want: &str,
 ) -> Result<(), OutOfMemory> {
-    match &parse_line(rt.alloc(), bytes) {
-        Ok(Line::Blank) => assert!(rt; matches!(want, Blank)),
-        Ok(Line::Show { seat }) => match want {
-            Show(want) => assert_eq!(rt; *seat, *want),
-            _ => assert!(rt; false),
-        },
-        Ok(Line::Act(e)) => {
-            let text = print_entry(rt.alloc(), e)?;
-            match want {
-                Act(want) => assert_eq!(rt; text.as_str(), *want),
-                _ => assert!(rt; false),
-            }
+    let told = told(rt.alloc(), bytes)?;
+    assert_eq!(rt; told.as_str(), want);
+    Ok(())
+}
+
+/// Lines, in which `^` stands for a carriage return, each before what it comes to.
+const LINES: &str = r#"@blank
+^@blank
+#@blank
+# a comment@blank
+#^@blank
+#^^@blank
+1 show@shows 1
+9 show@shows 9
+10 show@shows 10
+64 show@shows 64
+64 show^@shows 64
+1 . next@1 . next
+1 . left^@1 . left
+7 .FS right@7 .FS right
+1 . set 4@1 . set 4
+1 . set 4^@1 . set 4
+1 . set  4 @1 . set 4
+1 . set 4 ^@1 . set 4
+64 .FSS set -007@64 .FSS set -7
+2 .S set ()@2 .S set ()
+2 .S set true@2 .S set true
+2 .S set ( 1,[] )@2 .S set (1, [])
+2 .S set [1, true]@2 .S set [1, true]
+2 .S set "a b"@2 .S set "a b"
+2 .S set "\r"^@2 .S set "\r"
+3 . set -9223372036854775808@3 . set -9223372036854775808
+ @column 1
+x@column 1
+^^@column 2
+^x@column 2
+ # a@column 1
+0@column 1
+0 show@column 1
+01 show@column 1
+1@column 2
+6@column 2
+65@column 2
+65 show@column 2
+64@column 3
+640 show@column 3
+70 show@column 2
+1x@column 2
+1^@column 2
+1 @column 3
+1  show@column 3
+1 ^@column 3
+1 sh@column 5
+1 shot@column 6
+1 show @column 7
+1 showx@column 7
+1 show^x@column 8
+1 show^^@column 8
+1 F next@column 3
+1 .@column 4
+1 .f next@column 4
+1 .FT next@column 5
+1 .F^@column 5
+1 . @column 5
+1 .  next@column 5
+1 . nex@column 8
+1 . nexx@column 8
+1 . nextx@column 9
+1 . next @column 9
+1 . next x@column 9
+1 . lift@column 6
+1 . leftr@column 9
+1 . righ^@column 9
+1 . right 1@column 10
+1 . write@column 5
+1 . set@column 8
+1 . set^@column 8
+1 . set @column 9
+1 . set ^@column 9
+1 . set 4x@column 10
+1 . set 4 x@column 11
+1 . set 4^x@column 11
+1 . set 4^^@column 11
+1 . set 4 ^ @column 12
+1 . set -^@column 10
+1 . set - 5@column 10
+1 . set (1^)@column 11
+1 . set "a^b"@column 11
+1 . set "a@column 11
+1 . set [1,]@column 12
+1 . set tru@column 12
+1 . set 9223372036854775808@column 27
+1 . set 12345678901234567890@column 28"#;
+
+#[test]
+fn lines(rt: HostRuntime) -> Result<(), Fail> {
+    for row in LINES.split('\n') {
+        let (line, want) = row.split_once('@').unwrap_or((row, ""));
+        let mut bytes = Vec::new(rt.alloc());
+        for byte in line.bytes() {
+            bytes.push(if byte == b'^' { b'\r' } else { byte })?;
         }
-        Err(LineStop::Bad { column }) => match want {
-            Bad(want) => assert_eq!(rt; *column, *want),
-            _ => assert!(rt; false),
-        },
-        Err(LineStop::Memory) => return Err(OutOfMemory),
+        assert_line(&rt, bytes.as_slice(), want)?;
+    }
+    assert_line(&rt, b"#\xff\x00 1 show", "blank")?;
+    Ok(assert_line(&rt, b"1 . set \"\xc3(", "column 11")?)
+}
+
+const EXAMPLES: &str = "1 show
+17 show
+64 .FSFS next
+5 . left
+30 .S right
+1 . set true
+1 . set (1, 2)
+9 .F set [-1, 2]";
+
+// The first bytes of a line, and behind them one that begins nothing.
+fn cut(alloc: Global, line: &[u8], length: usize) -> Result<Vec<u8>, OutOfMemory> {
+    let mut bytes = Vec::new(alloc);
+    for byte in line.iter().take(length) {
+        bytes.push(*byte)?;
+    }
+    bytes.push(b'~')?;
+    Ok(bytes)
+}
+
+// Each front of a line that is none itself is bad behind its last byte, and with a byte that begins nothing there, too.
+fn assert_fronts(rt: &(impl Abort + AllocGlobal), line: &[u8]) -> Result<(), OutOfMemory> {
+    for length in 0..line.len() {
+        let column = format!(in rt.alloc(); "column {}", length as u64 + 1)?;
+        let mut bytes = cut(rt.alloc(), line, length)?;
+        assert_line(rt, bytes.as_slice(), column.as_str())?;
+        bytes.truncate(length);
+        if length > 0 {
+            assert_line(rt, bytes.as_slice(), column.as_str())?;
+        }
     }
     Ok(())
 }
 
-#[test]
-fn lines_that_are_read(rt: HostRuntime) -> Result<(), Fail> {
-    let table: &[(&[u8], Want)] = &[
-        (b"", Blank),
-        (b"\r", Blank),
-        (b"#", Blank),
-        (b"# a comment", Blank),
-        (b"#\r", Blank),
-        (b"#\r\r", Blank),
-        (b"#\xff\x00 1 show", Blank),
-        (b"1 show", Show(1)),
-        (b"9 show", Show(9)),
-        (b"10 show", Show(10)),
-        (b"64 show", Show(64)),
-        (b"64 show\r", Show(64)),
-        (b"1 . next", Act("1 . next\n")),
-        (b"1 . left\r", Act("1 . left\n")),
-        (b"7 .FS right", Act("7 .FS right\n")),
-        (b"1 . set 4", Act("1 . set 4\n")),
-        (b"1 . set 4\r", Act("1 . set 4\n")),
-        (b"1 . set  4 ", Act("1 . set 4\n")),
-        (b"1 . set 4 \r", Act("1 . set 4\n")),
-        (b"64 .FSS set -007", Act("64 .FSS set -7\n")),
-        (b"2 .S set ()", Act("2 .S set ()\n")),
-        (b"2 .S set true", Act("2 .S set true\n")),
-        (b"2 .S set ( 1,[] )", Act("2 .S set (1, [])\n")),
-        (b"2 .S set [1, true]", Act("2 .S set [1, true]\n")),
-        (b"2 .S set \"a b\"", Act("2 .S set \"a b\"\n")),
-        (b"2 .S set \"\\r\"\r", Act("2 .S set \"\\r\"\n")),
-        (
-            b"3 . set -9223372036854775808",
-            Act("3 . set -9223372036854775808\n"),
-        ),
-    ];
-    for (bytes, want) in table {
-        assert_line(&rt, bytes, want)?;
-    }
-    Ok(())
-}
-
-#[test]
-fn lines_that_are_bad(rt: HostRuntime) -> Result<(), Fail> {
-    let table: &[(&[u8], u64)] = &[
-        (b" ", 1),
-        (b"x", 1),
-        (b"\r\r", 2),
-        (b"\rx", 2),
-        (b" # a", 1),
-        (b"0", 1),
-        (b"0 show", 1),
-        (b"01 show", 1),
-        (b"1", 2),
-        (b"6", 2),
-        (b"65", 2),
-        (b"65 show", 2),
-        (b"64", 3),
-        (b"640 show", 3),
-        (b"70 show", 2),
-        (b"1x", 2),
-        (b"1\r", 2),
-        (b"1 ", 3),
-        (b"1  show", 3),
-        (b"1 \r", 3),
-        (b"1 sh", 5),
-        (b"1 shot", 6),
-        (b"1 show ", 7),
-        (b"1 showx", 7),
-        (b"1 show\rx", 8),
-        (b"1 show\r\r", 8),
-        (b"1 F next", 3),
-        (b"1 .", 4),
-        (b"1 .f next", 4),
-        (b"1 .FT next", 5),
-        (b"1 .F\r", 5),
-        (b"1 . ", 5),
-        (b"1 .  next", 5),
-        (b"1 . nex", 8),
-        (b"1 . nexx", 8),
-        (b"1 . nextx", 9),
-        (b"1 . next ", 9),
-        (b"1 . next x", 9),
-        (b"1 . lift", 6),
-        (b"1 . leftr", 9),
-        (b"1 . righ\r", 9),
-        (b"1 . right 1", 10),
-        (b"1 . write", 5),
-        (b"1 . set", 8),
-        (b"1 . set\r", 8),
-        (b"1 . set ", 9),
-        (b"1 . set \r", 9),
-        (b"1 . set 4x", 10),
-        (b"1 . set 4 x", 11),
-        (b"1 . set 4\rx", 11),
-        (b"1 . set 4\r\r", 11),
-        (b"1 . set 4 \r ", 12),
-        (b"1 . set -\r", 10),
-        (b"1 . set - 5", 10),
-        (b"1 . set (1\r)", 11),
-        (b"1 . set \"a\rb\"", 11),
-        (b"1 . set \"a", 11),
-        (b"1 . set \"\xc3(", 11),
-        (b"1 . set [1,]", 12),
-        (b"1 . set tru", 12),
-        (b"1 . set 9223372036854775808", 27),
-        (b"1 . set 12345678901234567890", 28),
-    ];
-    for (bytes, column) in table {
-        assert_line(&rt, bytes, &Bad(*column))?;
-    }
-    Ok(())
-}
-
-// Each front of a line that is none itself is bad behind its last byte.
 #[test]
 fn fronts_of_lines(rt: HostRuntime) -> Result<(), Fail> {
-    let lines: &[&[u8]] = &[
-        b"1 show",
-        b"17 show",
-        b"64 .FSFS next",
-        b"5 . left",
-        b"30 .S right",
-        b"1 . set true",
-        b"1 . set (1, \"x\")",
-        b"9 .F set [-1, 2]",
-    ];
-    for line in lines {
-        for length in 1..line.len() {
-            let front = &line[..length];
-            assert_line(&rt, front, &Bad(length as u64 + 1))?;
-        }
-    }
-    Ok(())
-}
-
-// A byte that begins nothing is bad where it stands, whatever is behind it.
-#[test]
-fn each_byte_of_lines(rt: HostRuntime) -> Result<(), Fail> {
-    let lines: &[&[u8]] = &[
-        b"1 show",
-        b"64 .FSFS next",
-        b"5 . left",
-        b"30 .S right",
-        b"1 . set true",
-        b"1 . set (1, 2)",
-    ];
-    for line in lines {
-        for at in 0..line.len() {
-            let mut bytes = Vec::new(rt.alloc());
-            bytes.extend_from_slice(line)?;
-            bytes[at] = b'~';
-            assert_line(&rt, bytes.as_slice(), &Bad(at as u64 + 1))?;
-        }
+    for line in EXAMPLES.split('\n') {
+        assert_fronts(&rt, line.as_bytes())?;
     }
     Ok(())
 }

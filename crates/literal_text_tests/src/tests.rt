@@ -1,4 +1,4 @@
-//! Tables of literals and names of types: what is read, where it stops, and what is printed.
+//! A table of literals and names of types: what is read, where it stops, and what is printed.
 
 use literal_text::{LiteralStop, print_basic, print_value, read_any, read_basic, read_value};
 use std::alloc::{AllocError, Global};
@@ -6,185 +6,166 @@ use std::process::Abort;
 use std::test::Fail;
 use task_model::{OutOfMemory, TaskText, Value};
 
-// What was read is printed so, or the bytes are bad at this place.
-fn assert_read(
+fn stop_told(alloc: Global, stop: &LiteralStop) -> Result<String, OutOfMemory> {
+    match stop {
+        LiteralStop::Bad(bad) => Ok(format!(in alloc; "place {}", bad.place)?),
+        LiteralStop::Memory => Err(OutOfMemory),
+    }
+}
+
+fn value_told(alloc: Global, read: &Result<Value, LiteralStop>) -> Result<String, OutOfMemory> {
+    match read {
+        Ok(v) => Ok(String::from_str(alloc, print_value(alloc, v)?.as_str())?),
+        Err(stop) => stop_told(alloc, stop),
+    }
+}
+
+fn type_told(alloc: Global, bytes: &[u8]) -> Result<String, OutOfMemory> {
+    match &read_basic(alloc, bytes) {
+        Ok(b) => Ok(String::from_str(alloc, print_basic(alloc, b)?.as_str())?),
+        Err(stop) => stop_told(alloc, stop),
+    }
+}
+
+fn typed_told(alloc: Global, bytes: &[u8], name: &str) -> Result<String, OutOfMemory> {
+    match &read_basic(alloc, name.as_bytes()) {
+        Ok(b) => value_told(alloc, &read_value(alloc, bytes, b)),
+        Err(stop) => stop_told(alloc, stop),
+    }
+}
+
+// The text that bytes are printed as, or the place where they are bad: as the name of a type, as a value of any type, or of a given one.
+fn told(alloc: Global, kind: &str, bytes: &[u8]) -> Result<String, OutOfMemory> {
+    match kind {
+        "type" => type_told(alloc, bytes),
+        "any" => value_told(alloc, &read_any(alloc, bytes)),
+        name => typed_told(alloc, bytes, name),
+    }
+}
+
+fn assert_told(
     rt: &(impl Abort + AllocGlobal),
-    read: Result<Value, LiteralStop>,
-    want: Result<&str, u64>,
+    kind: &str,
+    bytes: &[u8],
+    want: &str,
 ) -> Result<(), OutOfMemory> {
-    match &read {
-        Ok(v) => {
-            let text = print_value(rt.alloc(), v)?;
-            assert_eq!(rt; Ok(text.as_str()), want);
-        }
-        Err(LiteralStop::Bad(bad)) => assert_eq!(rt; Err(bad.place), want),
-        Err(LiteralStop::Memory) => return Err(OutOfMemory),
+    let told = told(rt.alloc(), kind, bytes)?;
+    assert_eq!(rt; told.as_str(), want);
+    Ok(())
+}
+
+/// What the bytes are to be, the bytes, and what they are printed as, or the place where they are bad.
+const ROWS: &str = r#"int@4x@place 1
+int@ -07 @-7
+[int]@[1, true@place 4
+int@-9223372036854775808@-9223372036854775808
+int@-9223372036854775809@place 19
+int@9223372036854775807@9223372036854775807
+int@9223372036854775808@place 18
+int@-0@0
+int@007@7
+int@- 5@place 1
+int@4 2@place 2
+(int, text)@ ( 1 , "a" ) @(1, "a")
+(int, int)@(1,2,3)@place 4
+(int, int)@()@place 1
+[[bool]]@[]@[]
+unit@true@place 0
+bool@@place 0
+any@@place 0
+any@  @place 2
+any@ ( ) @()
+any@[ ]@[]
+any@(1,2,3)@place 4
+any@[1,true , "x",[( ),false] ]@[1, true, "x", [(), false]]
+any@tr ue@place 2
+any@[1,]@place 3
+any@"\n\t\r\"\\\x7f\x4A"@"\n\t\r\"\\\x7fJ"
+any@"\x80"@place 3
+any@"\x7g"@place 4
+any@"\X41"@place 2
+type@in@place 2
+type@@place 0
+type@ ( [ unit ] ,( bool,text) ) @([unit], (bool, text))
+type@()@place 1
+type@(int,int,int)@place 8"#;
+
+#[test]
+fn literals_and_types(rt: HostRuntime) -> Result<(), Fail> {
+    for row in ROWS.split('\n') {
+        let (kind, rest) = row.split_once('@').unwrap_or((row, ""));
+        let (bytes, want) = rest.split_once('@').unwrap_or((rest, ""));
+        assert_told(&rt, kind, bytes.as_bytes(), want)?;
     }
     Ok(())
 }
 
-fn assert_any(
-    rt: &(impl Abort + AllocGlobal),
-    bytes: &[u8],
-    want: Result<&str, u64>,
-) -> Result<(), OutOfMemory> {
-    assert_read(rt, read_any(rt.alloc(), bytes), want)
-}
-
-fn assert_value(
-    rt: &(impl Abort + AllocGlobal),
-    bytes: &[u8],
-    name: &str,
-    want: Result<&str, u64>,
-) -> Result<(), OutOfMemory> {
-    match &read_basic(rt.alloc(), name.as_bytes()) {
-        Ok(b) => assert_read(rt, read_value(rt.alloc(), bytes, b), want),
-        Err(_) => Err(OutOfMemory),
-    }
-}
-
-fn assert_basic(
-    rt: &(impl Abort + AllocGlobal),
-    bytes: &[u8],
-    want: Result<&str, u64>,
-) -> Result<(), OutOfMemory> {
-    match &read_basic(rt.alloc(), bytes) {
-        Ok(b) => {
-            let text = print_basic(rt.alloc(), b)?;
-            assert_eq!(rt; Ok(text.as_str()), want);
-        }
-        Err(LiteralStop::Bad(bad)) => assert_eq!(rt; Err(bad.place), want),
-        Err(LiteralStop::Memory) => return Err(OutOfMemory),
-    }
+// Bytes that stand in no table.
+#[test]
+fn bytes_of_texts(rt: HostRuntime) -> Result<(), Fail> {
+    assert_told(&rt, "any", b"\"\xc3(\"", "place 2")?;
+    assert_told(&rt, "any", b"\"\xc0\xaf\"", "place 1")?;
+    assert_told(&rt, "any", b"\"\xe0\x80\x80\"", "place 2")?;
+    assert_told(&rt, "any", b"\"\xed\xa0\x80\"", "place 2")?;
+    assert_told(&rt, "any", b"\"\xf4\x90\x80\x80\"", "place 2")?;
+    assert_told(&rt, "any", b"\"\xf0\x9f\x98\x80\"", "\"\u{1f600}\"")?;
+    assert_told(&rt, "any", b"\"\x7f\"", "place 1")?;
+    assert_told(&rt, "any", b"\"a\nb\"", "place 2")?;
     Ok(())
 }
+
+/// What the texts are to be, a front, a piece with its number, a back with its number, and where they are bad, if they are.
+const LIMITS: &str = r#"any@"@a@65536@"@1@
+any@"@a@65537@"@1@place 65537
+any@"@a@65535@é"@1@place 65536
+any@[0@, 0@1023@]@1@
+any@[0@,0@1024@]@1@place 2048
+any@@[@64@]@64@
+any@@[@65@]@65@place 64
+any@@[@64@0]@1@place 64
+type@@[@64@int@1@place 63"#;
 
 // A front, a piece so many times, and a back so many times.
 fn long(
     alloc: Global,
-    front: &str,
-    piece: &str,
-    many: usize,
-    back: &str,
-    backs: usize,
+    texts: (&str, &str, &str),
+    counts: (u32, u32),
 ) -> Result<String, AllocError> {
+    let (front, piece, back) = texts;
     let mut text = String::from_str(alloc, front)?;
-    for _ in 0..many {
+    for _ in 0..counts.0 {
         text.push_str(piece)?;
     }
-    for _ in 0..backs {
+    for _ in 0..counts.1 {
         text.push_str(back)?;
     }
     Ok(text)
 }
 
-#[test]
-fn values_of_a_type(rt: HostRuntime) -> Result<(), Fail> {
-    assert_value(&rt, b"4x", "int", Err(1))?;
-    assert_value(&rt, b" -07 ", "int", Ok("-7"))?;
-    assert_value(&rt, b"[1, true", "[int]", Err(4))?;
-    assert_value(
-        &rt,
-        b"-9223372036854775808",
-        "int",
-        Ok("-9223372036854775808"),
-    )?;
-    assert_value(&rt, b"-9223372036854775809", "int", Err(19))?;
-    assert_value(
-        &rt,
-        b"9223372036854775807",
-        "int",
-        Ok("9223372036854775807"),
-    )?;
-    assert_value(&rt, b"9223372036854775808", "int", Err(18))?;
-    assert_value(&rt, b"-0", "int", Ok("0"))?;
-    assert_value(&rt, b"007", "int", Ok("7"))?;
-    assert_value(&rt, b"- 5", "int", Err(1))?;
-    assert_value(&rt, b"4 2", "int", Err(2))?;
-    assert_value(&rt, b" ( 1 , \"a\" ) ", "(int, text)", Ok("(1, \"a\")"))?;
-    assert_value(&rt, b"(1,2,3)", "(int, int)", Err(4))?;
-    assert_value(&rt, b"()", "(int, int)", Err(1))?;
-    assert_value(&rt, b"[]", "[[bool]]", Ok("[]"))?;
-    assert_value(&rt, b"true", "unit", Err(0))?;
-    assert_value(&rt, b"", "bool", Err(0))?;
-    Ok(())
-}
-
-#[test]
-fn values_of_any_type(rt: HostRuntime) -> Result<(), Fail> {
-    assert_any(&rt, b"", Err(0))?;
-    assert_any(&rt, b"  ", Err(2))?;
-    assert_any(&rt, b" ( ) ", Ok("()"))?;
-    assert_any(&rt, b"[ ]", Ok("[]"))?;
-    assert_any(&rt, b"(1,2,3)", Err(4))?;
-    assert_any(
-        &rt,
-        b"[1,true , \"x\",[( ),false] ]",
-        Ok("[1, true, \"x\", [(), false]]"),
-    )?;
-    assert_any(&rt, b"tr ue", Err(2))?;
-    assert_any(&rt, b"[1,]", Err(3))?;
-    assert_any(&rt, br#""\n\t\r\"\\\x7f\x4A""#, Ok(r#""\n\t\r\"\\\x7fJ""#))?;
-    assert_any(&rt, br#""\x80""#, Err(3))?;
-    assert_any(&rt, br#""\x7g""#, Err(4))?;
-    assert_any(&rt, br#""\X41""#, Err(2))?;
-    assert_any(&rt, b"\"\xc3(\"", Err(2))?;
-    assert_any(&rt, b"\"\xc0\xaf\"", Err(1))?;
-    assert_any(&rt, b"\"\xe0\x80\x80\"", Err(2))?;
-    assert_any(&rt, b"\"\xed\xa0\x80\"", Err(2))?;
-    assert_any(&rt, b"\"\xf4\x90\x80\x80\"", Err(2))?;
-    assert_any(&rt, b"\"\xf0\x9f\x98\x80\"", Ok("\"\u{1f600}\""))?;
-    assert_any(&rt, b"\"\x7f\"", Err(1))?;
-    assert_any(&rt, b"\"a\nb\"", Err(2))?;
-    Ok(())
+fn assert_limit(rt: &(impl Abort + AllocGlobal), row: &str) -> Result<(), OutOfMemory> {
+    let (kind, rest) = row.split_once('@').unwrap_or((row, ""));
+    let (front, rest) = rest.split_once('@').unwrap_or((rest, ""));
+    let (piece, rest) = rest.split_once('@').unwrap_or((rest, ""));
+    let (many, rest) = rest.split_once('@').unwrap_or((rest, ""));
+    let (back, rest) = rest.split_once('@').unwrap_or((rest, ""));
+    let (backs, want) = rest.split_once('@').unwrap_or((rest, ""));
+    let counts = (
+        many.parse::<u32>().unwrap_or(0),
+        backs.parse::<u32>().unwrap_or(0),
+    );
+    let text = long(rt.alloc(), (front, piece, back), counts)?;
+    let want = if want.is_empty() { text.as_str() } else { want };
+    assert_told(rt, kind, text.as_bytes(), want)
 }
 
 #[test]
 fn limits(rt: HostRuntime) -> Result<(), Fail> {
-    let alloc = rt.alloc();
-    let text = long(alloc, "\"", "a", 65_536, "\"", 1)?;
-    assert_any(&rt, text.as_bytes(), Ok(text.as_str()))?;
-    assert_any(
-        &rt,
-        long(alloc, "\"", "a", 65_537, "\"", 1)?.as_bytes(),
-        Err(65_537),
-    )?;
-    assert_any(
-        &rt,
-        long(alloc, "\"", "a", 65_535, "\u{e9}\"", 1)?.as_bytes(),
-        Err(65_536),
-    )?;
-    let list = long(alloc, "[0", ", 0", 1_023, "]", 1)?;
-    assert_any(&rt, list.as_bytes(), Ok(list.as_str()))?;
-    assert_any(
-        &rt,
-        long(alloc, "[0", ",0", 1_024, "]", 1)?.as_bytes(),
-        Err(2_048),
-    )?;
-    let deep = long(alloc, "", "[", 64, "]", 64)?;
-    assert_any(&rt, deep.as_bytes(), Ok(deep.as_str()))?;
-    assert_any(&rt, long(alloc, "", "[", 65, "]", 65)?.as_bytes(), Err(64))?;
-    assert_any(&rt, long(alloc, "", "[", 64, "0]", 1)?.as_bytes(), Err(64))?;
-    Ok(())
-}
-
-#[test]
-fn names_of_types(rt: HostRuntime) -> Result<(), Fail> {
-    let alloc = rt.alloc();
-    assert_basic(&rt, b"in", Err(2))?;
-    assert_basic(&rt, b"", Err(0))?;
-    assert_basic(
-        &rt,
-        b" ( [ unit ] ,( bool,text) ) ",
-        Ok("([unit], (bool, text))"),
-    )?;
-    assert_basic(&rt, b"()", Err(1))?;
-    assert_basic(&rt, b"(int,int,int)", Err(8))?;
-    let most = long(alloc, "", "[", 63, "int", 1)?;
-    let most = long(alloc, most.as_str(), "", 0, "]", 63)?;
-    assert_basic(&rt, most.as_bytes(), Ok(most.as_str()))?;
-    assert_basic(&rt, long(alloc, "", "[", 64, "int", 1)?.as_bytes(), Err(63))?;
-    Ok(())
+    for row in LIMITS.split('\n') {
+        assert_limit(&rt, row)?;
+    }
+    let most = long(rt.alloc(), ("", "[", "int"), (63, 1))?;
+    let most = long(rt.alloc(), (most.as_str(), "]", ""), (63, 0))?;
+    Ok(assert_told(&rt, "type", most.as_bytes(), most.as_str())?)
 }
 
 // Each character is printed so, in a text of its own.

@@ -3,7 +3,5 @@
 
 mod reading;
 mod store;
-#[cfg(test)]
-mod tests;
 
 pub use store::{Changes, Overwritten, Store};

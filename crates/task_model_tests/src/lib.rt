@@ -1,4 +1,4 @@
-//! What `task_model` does where memory is ample: tests alone, of rows, texts, copies, purses and values at their limits.
+//! What types have which values, at the limits of texts and lists: tests alone.
 #![tactic(auto)]
 
 #[cfg(test)]

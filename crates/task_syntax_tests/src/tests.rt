@@ -41,85 +41,132 @@ fn assert_shown(
     source: &str,
     want: &str,
 ) -> Result<(), AllocError> {
-    assert_eq!(rt; shown(rt.alloc(), source)?.as_str(), want, "{source:?}");
+    let told = shown(rt.alloc(), source)?;
+    assert_eq!(rt; told.as_str().trim_end(), want.trim_end(), "{source:?}");
     Ok(())
 }
 
-#[test]
-fn words_numbers_and_comments(rt: HostRuntime) -> Result<(), Fail> {
-    let table = [
-        ("", ""),
-        (" \t\r\n", ""),
-        ("_", "BadChar at 0"),
-        ("_a", "BadChar at 0"),
-        ("a_", "0-2 name "),
-        ("a _", "BadChar at 2"),
-        ("if iff i f", "0-2 if 3-6 name 7-8 name 9-10 name "),
-        ("in1 fun\u{e9}", "0-3 name 4-9 name "),
-        ("If nil", "0-2 name 3-6 nil "),
-        (
-            "\u{3b1} \u{6f22}\u{5b57} x\u{301}",
-            "0-2 name 3-9 name 10-13 name ",
-        ),
-        ("\u{301}", "BadChar at 0"),
-        ("a \u{1f600}", "BadChar at 2"),
-        ("a\u{1f600}", "BadChar at 1"),
-        ("\u{a0}", "BadChar at 0"),
-        ("\u{b}", "BadChar at 0"),
-        ("\u{feff}a", "BadChar at 0"),
-        ("12a", "0-2 12 2-3 name "),
-        ("a12", "0-3 name "),
-        ("\u{661}", "BadChar at 0"),
-        ("0007", "0-4 7 "),
-        ("9223372036854775807", "0-19 9223372036854775807 "),
-        ("9223372036854775808", "WideNumber at 0"),
-        (" 99999999999999999999 _", "WideNumber at 1"),
-        ("a # b", "0-1 name "),
-        ("# \u{e9}\r b", ""),
-        ("#\nb#", "2-3 name "),
-        ("a&b", "BadChar at 1"),
-        ("&&&", "BadChar at 2"),
-        ("<&", "BadChar at 1"),
-        ("'", "BadChar at 0"),
-        ("\\", "BadChar at 0"),
-    ];
-    for (source, want) in table {
-        assert_shown(&rt, source, want)?;
-    }
-    Ok(())
-}
+/// Words, numbers and comments, each before its tokens with their spans, or its fault.
+const WORDS: &str = " => 
+
+ \t\r\n => 
+
+_ => BadChar at 0
+
+_a => BadChar at 0
+
+a_ => 0-2 name
+
+a _ => BadChar at 2
+
+if iff i f => 0-2 if 3-6 name 7-8 name 9-10 name
+
+in1 fun\u{e9} => 0-3 name 4-9 name
+
+If nil => 0-2 name 3-6 nil
+
+\u{3b1} \u{6f22}\u{5b57} x\u{301} => 0-2 name 3-9 name 10-13 name
+
+\u{301} => BadChar at 0
+
+a \u{1f600} => BadChar at 2
+
+a\u{1f600} => BadChar at 1
+
+\u{a0} => BadChar at 0
+
+\u{b} => BadChar at 0
+
+\u{feff}a => BadChar at 0
+
+12a => 0-2 12 2-3 name
+
+a12 => 0-3 name
+
+\u{661} => BadChar at 0
+
+0007 => 0-4 7
+
+9223372036854775807 => 0-19 9223372036854775807
+
+9223372036854775808 => WideNumber at 0
+
+ 99999999999999999999 _ => WideNumber at 1
+
+a # b => 0-1 name
+
+# \u{e9}\r b => 
+
+#\nb# => 2-3 name
+
+a&b => BadChar at 1
+
+&&& => BadChar at 2
+
+<& => BadChar at 1
+
+' => BadChar at 0
+
+\\ => BadChar at 0";
+
+/// Literals of texts.
+const TEXTS: &str = "\"\" => 0-2 \"\"
+
+\"#\" # \" => 0-3 \"#\"
+
+\"a\"\"b\"1 => 0-3 \"a\" 3-6 \"b\" 6-7 1
+
+\"\u{e9}\u{80}\" => 0-6 \"\u{e9}\u{80}\"
+
+\"\\\"\\\\\\n\\t\\r\" => 0-12 \"\"\\\n\t\r\"
+
+\"\\x00\\x4a\\x4A\\x7f\" => 0-18 \"\0JJ\u{7f}\"
+
+\"\\x80\" => BadEscape at 1
+
+\"\\q\" => BadEscape at 1
+
+\"\\X41\" => BadEscape at 1
+
+\"\\x4\" => BadEscape at 1
+
+\"\\x4g\" => BadEscape at 1
+
+\"\\ => BadEscape at 1
+
+\"\\x4 => BadEscape at 1
+
+\"\u{e9}\\U000000e9\" => BadEscape at 3
+
+\"a\nb\" => BadChar at 2
+
+\"a\tb => BadChar at 2
+
+\"\u{7f}\" => BadChar at 1
+
+\"\\q\n\" => BadEscape at 1
+
+\"\n\\q\" => BadChar at 1
+
+\" => OpenText at 0
+
+ \"a\\\" => OpenText at 1
+
+\"a\" \"# b => OpenText at 4
+
+ \"\\q => BadEscape at 2
+
+\"a\" _ \" => BadChar at 4
+
+_ \"\\q\" => BadChar at 0";
 
 #[test]
-fn texts(rt: HostRuntime) -> Result<(), Fail> {
-    let table = [
-        ("\"\"", "0-2 \"\" "),
-        ("\"#\" # \"", "0-3 \"#\" "),
-        ("\"a\"\"b\"1", "0-3 \"a\" 3-6 \"b\" 6-7 1 "),
-        ("\"\u{e9}\u{80}\"", "0-6 \"\u{e9}\u{80}\" "),
-        ("\"\\\"\\\\\\n\\t\\r\"", "0-12 \"\"\\\n\t\r\" "),
-        ("\"\\x00\\x4a\\x4A\\x7f\"", "0-18 \"\0JJ\u{7f}\" "),
-        ("\"\\x80\"", "BadEscape at 1"),
-        ("\"\\q\"", "BadEscape at 1"),
-        ("\"\\X41\"", "BadEscape at 1"),
-        ("\"\\x4\"", "BadEscape at 1"),
-        ("\"\\x4g\"", "BadEscape at 1"),
-        ("\"\\", "BadEscape at 1"),
-        ("\"\\x4", "BadEscape at 1"),
-        ("\"\u{e9}\\u{e9}\"", "BadEscape at 3"),
-        ("\"a\nb\"", "BadChar at 2"),
-        ("\"a\tb", "BadChar at 2"),
-        ("\"\u{7f}\"", "BadChar at 1"),
-        ("\"\\q\n\"", "BadEscape at 1"),
-        ("\"\n\\q\"", "BadChar at 1"),
-        ("\"", "OpenText at 0"),
-        (" \"a\\\"", "OpenText at 1"),
-        ("\"a\" \"# b", "OpenText at 4"),
-        (" \"\\q", "BadEscape at 2"),
-        ("\"a\" _ \"", "BadChar at 4"),
-        ("_ \"\\q\"", "BadChar at 0"),
-    ];
-    for (source, want) in table {
-        assert_shown(&rt, source, want)?;
+fn words_and_texts(rt: HostRuntime) -> Result<(), Fail> {
+    for table in [WORDS, TEXTS] {
+        for row in table.split("\n\n") {
+            let (source, want) = row.split_once(" => ").unwrap_or((row, ""));
+            assert_shown(&rt, source, want)?;
+        }
     }
     Ok(())
 }
@@ -180,45 +227,65 @@ fn signs_side_by_side(rt: HostRuntime) -> Result<(), Fail> {
 fn repeated(
     alloc: Global,
     front: &str,
-    character: char,
+    character: &str,
     times: usize,
     back: &str,
 ) -> Result<String, AllocError> {
     let mut text = String::from_str(alloc, front)?;
     for _ in 0..times {
-        text.push(character)?;
+        text.push_str(character)?;
     }
     text.push_str(back)?;
     Ok(text)
 }
 
+/// A front, a character with its number, a back, and what is shown of them all, in which `…` stands for the characters.
+const LONG_SOURCES: &str = "\"@a@65536@\"@0-65538 \"…\"
+
+\"@a@65535@\\x41\"@0-65541 \"…A\"
+
+\"\\n@a@65534@\\\\\"@0-65540 \"\n…\\\"
+
+\"@\u{e9}@32768@\"@0-65538 \"…\"
+
+\"@a@65537@\"@LongText at 0
+
+ \"@a@65535@\\n\\x41\"@LongText at 1
+
+\"a@\u{e9}@32768@\"@LongText at 0
+
+\"@a@70000@@OpenText at 0
+
+\"@a@70000@\\q\"@BadEscape at 70001
+
+\"@a@70000@\n\"@BadChar at 70001
+
+@9@10000@@WideNumber at 0
+
+@0@9999@7@0-10000 7
+
+@a@10000@#@0-10000 name";
+
+fn assert_long(rt: &(impl Abort + AllocGlobal), row: &str) -> Result<(), AllocError> {
+    let (front, rest) = row.split_once('@').unwrap_or((row, ""));
+    let (character, rest) = rest.split_once('@').unwrap_or((rest, ""));
+    let (times, rest) = rest.split_once('@').unwrap_or((rest, ""));
+    let (back, want) = rest.split_once('@').unwrap_or((rest, ""));
+    let times = times.parse::<usize>().unwrap_or(0);
+    let source = repeated(rt.alloc(), front, character, times, back)?;
+    match want.split_once('…') {
+        Some((from, to)) => {
+            let want = repeated(rt.alloc(), from, character, times, to)?;
+            assert_shown(rt, source.as_str(), want.as_str())
+        }
+        None => assert_shown(rt, source.as_str(), want),
+    }
+}
+
 #[test]
 fn long_sources(rt: HostRuntime) -> Result<(), Fail> {
-    let table = [
-        ("\"", 'a', 65_536, "\"", "0-65538 \"", "\" "),
-        ("\"", 'a', 65_535, "\\x41\"", "0-65541 \"", "A\" "),
-        ("\"\\n", 'a', 65_534, "\\\\\"", "0-65540 \"\n", "\\\" "),
-        ("\"", '\u{e9}', 32_768, "\"", "0-65538 \"", "\" "),
-    ];
-    for (front, character, times, back, from, to) in table {
-        let source = repeated(rt.alloc(), front, character, times, back)?;
-        let want = repeated(rt.alloc(), from, character, times, to)?;
-        assert_shown(&rt, source.as_str(), want.as_str())?;
-    }
-    let faults = [
-        ("\"", 'a', 65_537, "\"", "LongText at 0"),
-        (" \"", 'a', 65_535, "\\n\\x41\"", "LongText at 1"),
-        ("\"a", '\u{e9}', 32_768, "\"", "LongText at 0"),
-        ("\"", 'a', 70_000, "", "OpenText at 0"),
-        ("\"", 'a', 70_000, "\\q\"", "BadEscape at 70001"),
-        ("\"", 'a', 70_000, "\n\"", "BadChar at 70001"),
-        ("", '9', 10_000, "", "WideNumber at 0"),
-        ("", '0', 9_999, "7", "0-10000 7 "),
-        ("", 'a', 10_000, "#", "0-10000 name "),
-    ];
-    for (front, character, times, back, want) in faults {
-        let source = repeated(rt.alloc(), front, character, times, back)?;
-        assert_shown(&rt, source.as_str(), want)?;
+    for row in LONG_SOURCES.split("\n\n") {
+        assert_long(&rt, row)?;
     }
     Ok(())
 }

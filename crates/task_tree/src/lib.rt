@@ -6,8 +6,6 @@ mod down;
 mod equality;
 mod feet;
 mod replacing;
-#[cfg(test)]
-mod tests;
 mod values;
 
 pub use down::Down;

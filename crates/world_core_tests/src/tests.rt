@@ -1,9 +1,7 @@
 mod event_tables;
 mod events;
-mod offer_tables;
-mod offering;
-mod run_tables;
-mod runs;
+mod expression_tables;
+mod expressions;
 mod setting;
 mod wants;
 
@@ -18,9 +16,8 @@ use testing_programs::{BlockTest, is_right, table_differences};
 /// What the rows of a block of a table are compared with.
 #[derive(Clone, Copy)]
 enum Kind {
-    Runs,
     Events,
-    Offers,
+    Expressions,
     Sets,
     Wants,
 }
@@ -33,9 +30,8 @@ impl BlockTest for Kind {
         steps: &mut Steps<L>,
     ) -> Result<String, OutOfMemory> {
         match self {
-            Kind::Runs => runs::differences(alloc, block, steps),
             Kind::Events => events::differences(alloc, block, steps),
-            Kind::Offers => offering::differences(alloc, block, steps),
+            Kind::Expressions => expressions::differences(alloc, block, steps),
             Kind::Sets => setting::differences(alloc, block, steps),
             Kind::Wants => wants::differences(alloc, block, steps),
         }
@@ -53,11 +49,6 @@ fn assert_right(
 }
 
 #[test]
-fn worked_runs(rt: HostRuntime) -> Result<(), Fail> {
-    Ok(assert_right(&rt, run_tables::RUNS, Kind::Runs)?)
-}
-
-#[test]
 fn acts_at_each_node(rt: HostRuntime) -> Result<(), Fail> {
     Ok(assert_right(&rt, event_tables::ACTS, Kind::Events)?)
 }
@@ -68,13 +59,13 @@ fn exact_units(rt: HostRuntime) -> Result<(), Fail> {
 }
 
 #[test]
-fn a_million_units(rt: HostRuntime) -> Result<(), Fail> {
-    Ok(assert_right(&rt, event_tables::MILLION, Kind::Events)?)
+fn worked_expressions(rt: HostRuntime) -> Result<(), Fail> {
+    Ok(assert_right(&rt, expression_tables::EXPRESSIONS, Kind::Expressions)?)
 }
 
 #[test]
-fn worked_offers(rt: HostRuntime) -> Result<(), Fail> {
-    Ok(assert_right(&rt, offer_tables::OFFERS, Kind::Offers)?)
+fn heights_of_expressions(rt: HostRuntime) -> Result<(), Fail> {
+    Ok(assert_right(&rt, expression_tables::HEIGHTS, Kind::Events)?)
 }
 
 #[test]

@@ -1,10 +1,10 @@
 //! Tables of programs with their transcripts.
 
 use crate::tests::case::{Case, RUN, run};
-use host_eval_tests::repeated;
 use std::alloc::Global;
 use std::process::Abort;
 use task_model::OutOfMemory;
+use testing_programs::repeated;
 
 // A block of a table: words behind `$ `, or else `run p.th`; the program, in which `{N PIECE}` stands for N times the piece, or `same program`
 // for that of the block above; the status behind `= `, and behind it the text on the error sink; and a transcript, whose lines behind `> ` are

@@ -197,6 +197,25 @@ pub(super) const ACTS: &str = r#"10000@task main() : int = edit 7
 1 . set 4@@not offered
 2 .F set 4@@taken 2@(share int #0 <&> edit int 4) [8]
 
+10000@task main() : int = new r = 0 in enter int >>? x . (r := x ; (if !r > 3 then edit 1 else fail int) <?> fail int)
+@2@(enter int >>? 0(#0)) [0]
+1 . set 3@@taken 1@(edit int 3 >>? 0(#0)) [0]
+1 . next@@not offered
+1 . set 5@@taken 2@(edit int 5 >>? 0(#0)) [0]
+1 . next@@taken 3@(1(#0 5) <?> 2(#0 5)) [5]
+
+10000@task main() : int = new r = 0 in enter int >>= x . (r := x ; (if !r > 3 then edit 1 else fail int) <?> fail int)
+@2@(enter int >>= 0(#0)) [0]
+1 . set 3@@taken 1@(edit int 3 >>= 0(#0)) [0]
+1 . set 5@@taken 2@(1(#0 5) <?> 2(#0 5)) [5]
+
+10000@task main() : (int, int) = new r = 0 in ((enter int >>= x . (r := x ; enter int)) >>? y . edit y) <&> share r
+@2@(((enter int >>= 0(#0)) >>? 1(#0)) <&> share int #0) [0]
+1 .F set 5@@taken 1@((enter int >>? 1(#0)) <&> share int #0) [5]
+
+10000@task main() : (int, int) = new r = 0 in ((r := 7 ; enter int) >>= x . edit x) <&> share r
+@2@((enter int >>= 0(#0)) <&> share int #0) [7]
+
 10000@task main() : int = main() <?> main()
 @2@(0() <?> 1()) []
 1 . left@@over
@@ -205,11 +224,6 @@ pub(super) const ACTS: &str = r#"10000@task main() : int = edit 7
 1 .F left@@not offered
 
 10000@task a() : int = edit 1 >>= x . b() task b() : int = edit 2 >>= x . a() task main() : int = a()
-@@opening over"#;
-
-/// An opening that is over at a million units, too.
-pub(super) const MILLION: &str =
-    r#"1000000@task a() : int = edit 1 >>= x . b() task b() : int = edit 2 >>= x . a() task main() : int = a()
 @@opening over"#;
 
 /// Openings and inputs with all the units that they take.
