@@ -17,7 +17,7 @@ use Rattle.task_model.specs.declared.stops.ActStop.{ActStop}
 use Rattle.task_model.specs.declared.stops.ActStop.TheVariants as acts
 use Rattle.task_model.specs.declared.tree.Tree.{Tree}
 use Rattle.task_model.specs.declared.value.Value.{Value}
-use Rattle.task_model.proofs.OutcomeLemmas.{none_lacks, lacks_none}
+use Rattle.task_laws.proofs.OutcomeLemmas.{none_lacks, lacks_none}
 use Rattle.task_engine.proofs.SignLemmas.{ran_spends}
 use Rattle.handle_input.specs.Answers.{plan_answer, TellsOutcome}
 

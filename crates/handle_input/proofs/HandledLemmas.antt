@@ -18,8 +18,8 @@ use Rattle.task_model.specs.declared.purse.Stop.TheVariants.{Over, Memory}
 use Rattle.task_model.specs.declared.tree.Tree as tree
 use Rattle.task_model.specs.declared.input.Turn.{Turn}
 use Rattle.task_model.specs.declared.input.Turn.TheVariants as turns
-use Rattle.task_model.proofs.PlanLemmas.{under_at, low_derives}
-use Rattle.task_model.proofs.RanLemmas.{ran_give}
+use Rattle.task_laws.proofs.PlanLemmas.{under_at, low_derives}
+use Rattle.task_laws.proofs.RanLemmas.{ran_give}
 use Rattle.host_eval.proofs.ListLemmas.{in_front}
 use Rattle.host_eval.proofs.RunLemmas.{ran_is, tail_of}
 use Rattle.task_engine.specs.Kinds.{pair_tree}

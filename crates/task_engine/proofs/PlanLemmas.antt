@@ -16,7 +16,7 @@ use Rattle.task_model.specs.Running.Plan.{evaluates, Plan, give, ask, known}
 use Rattle.task_model.specs.Running.Rules.{evaluate_rule, later, later_by}
 use Rattle.task_model.specs.Syntax.Calls.{RunsJudgement, RunsPlan}
 use Rattle.task_model.specs.declared.purse.Stop.{Stop}
-use Rattle.task_model.proofs.RanLemmas.{ran_give}
+use Rattle.task_laws.proofs.RanLemmas.{ran_give}
 use Rattle.typing_laws.specs.Well.{Well}
 use Rattle.typing_laws.proofs.CallLemmas.{well_known}
 use Rattle.host_eval.specs.ValueWords.{option_then, place_named}

@@ -12,7 +12,7 @@ use Rattle.task_model.specs.declared.purse.Stop.{Stop}
 use Rattle.task_model.specs.declared.purse.Stop.TheVariants.{Over, Memory}
 use Rattle.task_model.specs.declared.memory.OutOfMemory.{OutOfMemory}
 use Rattle.task_model.specs.declared.widget.Sign.{Sign}
-use Rattle.task_model.proofs.PlanLemmas.{low_work, under_work, under_at, low_back, low_derives}
+use Rattle.task_laws.proofs.PlanLemmas.{low_work, under_work, under_at, low_back, low_derives}
 use Rattle.task_engine.specs.TestAnswers.{TellsSign}
 
 -- what the callers of a plan that is no rule are told

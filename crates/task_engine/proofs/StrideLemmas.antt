@@ -28,7 +28,7 @@ use Rattle.typing_laws.proofs.ProgramLemmas.{facts_of}
 use Rattle.typing_laws.proofs.TreeLemmas.{good_applied, good_trial, good_side}
 use Rattle.task_engine.specs.Fitting.{ContFits, SideFits}
 use Rattle.typing_laws.proofs.RuleLemmas.{derives_typed}
-use Rattle.task_model.proofs.RanLemmas.{ran_give}
+use Rattle.task_laws.proofs.RanLemmas.{ran_give}
 use Rattle.task_engine.specs.Strides.{after_stride, Calm, state_at, attempt, after_attempt, Binds, BindsNone, AnswersStride}
 
 -- ---- what may be asked

@@ -10,7 +10,7 @@ use Rattle.task_model.specs.Running.Handling.{rebuilt, rebuilds, stopped, at_ste
 use Rattle.task_model.specs.Running.Address.{DownTerm, into_left, into_first, into_second, Address, address_turns, node_at, with_node, further_down, address_at_editor, address_at_step, address_of}
 use Rattle.task_model.specs.declared.input.Turn.{Turn}
 use Rattle.task_model.specs.declared.input.Turn.TheVariants as turns
-use Rattle.task_model.proofs.PlanLemmas.{work_after, after_work}
+use Rattle.task_laws.proofs.PlanLemmas.{work_after, after_work}
 use Rattle.task_laws.specs.ActsAt.{ActsAt}
 
 -- ---- options of addresses

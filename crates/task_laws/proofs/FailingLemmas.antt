@@ -12,8 +12,8 @@ use Rattle.task_model.specs.Running.Judgements.{Fails, IsWithinBudget}
 use Rattle.task_model.specs.Running.Sign.{Test, IsStepSign}
 use Rattle.task_model.specs.Running.Offer.{OfferTerm, next_offer, left_offer, right_offer, offered, both_offers, AreOffers}
 use Rattle.task_model.specs.declared.widget.Sign.TheVariants as signs
-use Rattle.task_model.proofs.PlanLemmas.{work_after, by_rule}
-use Rattle.task_model.proofs.SignLemmas.{sign_failing}
+use Rattle.task_laws.proofs.PlanLemmas.{work_after, by_rule}
+use Rattle.task_laws.proofs.SignLemmas.{sign_failing}
 
 -- whether a body with these slots is failing
 abbrev pub test_of : CheckedTerm → ℕ → List SlotTerm → List ValueTerm → Plan Bool

@@ -1,5 +1,5 @@
 -- Prefixes of histories, and their pages.
-use Rattle.std.proofs.Common.{◌≡◌, ◌∙◌, ℕ, zero, suc, min, List, [], ◌∷◌, refl, sym, ap, subst, arith}
+use Rattle.std.proofs.Common.{◌≡◌, ◌∙◌, ℕ, zero, suc, min, List, [], ◌∷◌, length, refl, sym, ap, subst, arith}
 use Rattle.task_model.specs.Terms.Text.{Text}
 use Rattle.task_model.specs.Terms.Tree.{State}
 use Rattle.task_model.specs.Running.Checked.{CheckedTerm}
@@ -11,8 +11,8 @@ use Rattle.task_model.specs.Checking.Accepted.{typed_program}
 use Rattle.task_model.specs.Running.State.{LeadTo, version_of, AreEntries, IsLegal, history_prefix, HasWidgets, IsPage}
 use Rattle.task_model.specs.declared.widget.Face.{Face}
 use Rattle.task_model.specs.declared.widget.Face.TheVariants as faces
-use Rattle.task_model.proofs.OutcomeLemmas.{reached_once}
-use Rattle.task_model.proofs.OfferLemmas.{widgets_exist, widgets_once}
+use Rattle.task_laws.proofs.OutcomeLemmas.{reached_once}
+use Rattle.task_laws.proofs.OfferLemmas.{widgets_exist, widgets_once}
 
 -- ---- prefixes
 pub prefix_whole : (H : List ItemTerm) → history_prefix H (version_of H) ≡ H
@@ -27,6 +27,18 @@ prefix_version (opened p budget ∷ items) m = prefix_version items m
 prefix_version (took e ∷ items) zero = omega arith
 prefix_version (took e ∷ items) (suc m) = let e1 = prefix_version items m in omega (arith, e1)
 
+-- ---- versions
+pub version_length : (items : List ItemTerm) → AreEntries items → version_of items ≡ length items
+version_length [] h = refl
+version_length (opened p budget ∷ items) h = absurd h
+version_length (took e ∷ items) h = ap suc (version_length items h.1)
+
+pub legal_length : (H : List ItemTerm) → IsLegal H → length H ≡ suc (version_of H)
+legal_length [] d = absurd d
+legal_length (took e ∷ items) d = absurd d
+legal_length (opened p budget ∷ items) d = ap suc (sym (version_length items d.1))
+
+-- ---- legal prefixes
 prefix_entries : (items : List ItemTerm) (m : ℕ) → AreEntries items → AreEntries (history_prefix items m)
 prefix_entries [] m d = d
 prefix_entries (opened p budget ∷ items) m d = absurd d

@@ -18,8 +18,8 @@ use Rattle.task_model.specs.Running.Offer.{OfferKindTerm, set_offer, offered, Is
 use Rattle.task_model.specs.declared.input.Turn.{Turn}
 use Rattle.task_model.specs.declared.widget.Sign.{Sign}
 use Rattle.task_model.specs.declared.widget.Sign.TheVariants as signs
-use Rattle.task_model.proofs.PlanLemmas.{work_after, after_work}
-use Rattle.task_model.proofs.SignLemmas.{sign_failing}
+use Rattle.task_laws.proofs.PlanLemmas.{work_after, after_work}
+use Rattle.task_laws.proofs.SignLemmas.{sign_failing}
 use Rattle.task_laws.proofs.FailingLemmas.{test_of}
 use Rattle.task_laws.proofs.LikeLemmas.{in_turn}
 use Rattle.task_laws.proofs.OfferListLemmas.{Matches, offered_some}

@@ -1,3 +1,11 @@
+pub mod WorkLemmas
+pub mod PlanLemmas
+mod DecideLemmas
+mod EqualityLemmas
+mod SignLemmas
+pub mod OfferLemmas
+pub mod OutcomeLemmas
+pub mod RanLemmas
 mod LikeLemmas
 mod TwinLemmas
 mod AlikeLemmas
@@ -18,4 +26,6 @@ mod OfferListLemmas
 mod LackingLemmas
 mod MatchLemmas
 pub mod HistoryLemmas
+pub mod EntryLemmas
+pub mod BeginningLemmas
 pub mod AddressLemmas

@@ -1,19 +1,26 @@
-ghost use Rattle.std.specs.Prelude.{◌≡◌, ◌↔◌, ℕ, min, Bool, true, List, [], length, map, Option, Some, None, slice_get};
+ghost use Rattle.std.specs.Prelude.{◌≡◌, ◌≢◌, ◌↔◌, ℕ, suc, ◌+◌, ◌≤◌, Bool, List, Some, min, true, [], ◌∷◌, ◌++◌, length, map, Option, None, slice_get};
+ghost use mathlib.Core.List.{IsPrefix};
 ghost use Rattle.std.specs.List.{All, Contains};
 ghost use Rattle.std.specs.List.Sorted.{IsStrictlyIncreasing};
 ghost use Rattle.task_model.specs.Terms.Value.{ValueTerm};
 ghost use Rattle.task_model.specs.Terms.Tree.{LaterTerm, TreeTerm, State, at};
-ghost use Rattle.task_model.specs.Running.Foot.{with_places, foot, AgreeOn};
+ghost use Rattle.task_model.specs.Terms.Input.{InputTerm, EntryTerm, ActTerm};
+ghost use Rattle.task_model.specs.Terms.Item.{ItemTerm, took};
 ghost use Rattle.task_model.specs.Running.Checked.{CheckedTerm, body_first};
-ghost use Rattle.task_model.specs.Running.Rules.{value_of, side, trial};
-ghost use Rattle.task_model.specs.Running.Judgements.{Fails, Strides, Settles, IsWithinBudget};
-ghost use Rattle.task_model.specs.Terms.Input.{ActTerm, InputTerm};
-ghost use Rattle.task_model.specs.Running.Work.{gives};
+ghost use Rattle.task_model.specs.Running.Work.{AtMostOne, rule, gives};
+ghost use Rattle.task_model.specs.Running.Plan.{Judgement, Derived, Plan, plan_work, Derives};
+ghost use Rattle.task_model.specs.Running.Rules.{rule_of, value_of, side, trial};
+ghost use Rattle.task_model.specs.Running.Judgements.{Applies, Side, Trial, Fails, Strides, Settles, IsWithinBudget};
 ghost use Rattle.task_model.specs.Running.Handling.{Handled};
+ghost use Rattle.task_model.specs.Running.Outcome.{Outcome, IsOutcome, not_offered};
+ghost use Rattle.task_model.specs.Running.Sign.{Test};
+ghost use Rattle.task_model.specs.Running.Offer.{OfferTerm, AreOffers, next_offer, SomeMatches};
+ghost use Rattle.task_model.specs.Showing.Widget.{WidgetTerm, AreWidgets};
+ghost use Rattle.task_model.specs.Running.State.{IsState, IsLegal, IsPage, history_prefix, version_of, entries_of};
+ghost use Rattle.task_model.specs.Running.Foot.{with_places, foot, AgreeOn};
 ghost use Rattle.task_model.specs.Running.Address.{Address, address_turns, address_of};
 ghost use Rattle.task_model.specs.declared.input.Turn.{Turn};
 ghost use Rattle.task_laws.specs.ActsAt.{ActsAt};
-ghost use Rattle.task_model.specs.Terms.Item.{ItemTerm};
 ghost use Rattle.task_model.specs.Syntax.Written.{IsWritten};
 ghost use Rattle.task_model.specs.Terms.Program.{ProgramTerm};
 ghost use Rattle.task_model.specs.Syntax.Grammar.{program, task, expression, Parse};
@@ -24,15 +31,51 @@ ghost use Rattle.task_model.specs.Checking.FullTask.{full_in, full_bodies};
 ghost use Rattle.task_laws.specs.BodyFronts.{edit_words, body_fronts};
 ghost use Rattle.task_laws.specs.ProgramNodes.{definitions_nodes};
 ghost use Rattle.task_model.specs.Checking.Placed.{IsPlaced, firsts_of};
-ghost use Rattle.task_model.specs.Running.Outcome.{not_offered, IsOutcome};
 ghost use Rattle.task_model.specs.Terms.Text.{Text};
-ghost use Rattle.task_model.specs.Running.State.{IsLegal, IsPage, history_prefix, version_of};
 ghost use Rattle.task_model.specs.declared.widget.Face.{Face};
-ghost use Rattle.task_model.specs.Running.Sign.{Test};
-ghost use Rattle.task_model.specs.Running.Offer.{next_offer, OfferTerm, AreOffers, SomeMatches};
-ghost use Rattle.task_model.specs.Showing.Widget.{WidgetTerm, AreWidgets};
 ghost use Rattle.task_laws.specs.TreePlaces.{places_in};
 ghost use Rattle.task_laws.specs.StoresGo.{StoresGo};
+
+/// Every judgement has at most one result, one number of units and one height, and so have tests, a cont applied to a value, sides and
+/// trials with the state that they lead to and whether it is failing, and the handling of inputs.
+pub fn one_result()
+    ensures judgements { (c : CheckedTerm) (q : Judgement) → AtMostOne (Derives (rule_of c) q) }
+    ensures tests { (c : CheckedTerm) (test : Plan Bool) → AtMostOne (Test c test) }
+    ensures applying { (c : CheckedTerm) (k : LaterTerm) (v : ValueTerm) (σ : List ValueTerm) → AtMostOne (Applies c k v σ) }
+    ensures sides { (c : CheckedTerm) (k : LaterTerm) (σ : List ValueTerm) → AtMostOne (Side c k σ) }
+    ensures trials { (c : CheckedTerm) (k : LaterTerm) (v : ValueTerm) (σ : List ValueTerm) → AtMostOne (Trial c k v σ) }
+    ensures handling { (c : CheckedTerm) (s : State) (i : InputTerm) → AtMostOne (Handled c s i) }
+{}
+
+/// What is derived is derived by its rule from what is derived, and the other way round: the judgements are the rules' and nothing else.
+pub fn by_the_rules()
+    ensures { (c : CheckedTerm) (q : Judgement) (v : Derived q) (n h : ℕ) →
+        Derives (rule_of c) q v n h ↔ rule (plan_work (Derives (rule_of c)) (rule_of c q)) v n h }
+{}
+
+/// An input has exactly one outcome.
+pub fn one_outcome()
+    ensures some { (c : CheckedTerm) (budget : ℕ) (s : State) (i : InputTerm) → (o : Outcome) × IsOutcome c budget s i o }
+    ensures one { (c : CheckedTerm) (budget : ℕ) (s : State) (i : InputTerm) (o p : Outcome) →
+        IsOutcome c budget s i o → IsOutcome c budget s i p → o ≡ p }
+{}
+
+/// A tree has exactly one list of offers and exactly one list of widgets.
+pub fn one_interface()
+    ensures offers { (c : CheckedTerm) (budget : ℕ) (t : TreeTerm) (σ : List ValueTerm) → (os : List OfferTerm)
+        × AreOffers c budget t σ os }
+    ensures one_offers { (c : CheckedTerm) (budget : ℕ) (t : TreeTerm) (σ : List ValueTerm) (os us : List OfferTerm) →
+        AreOffers c budget t σ os → AreOffers c budget t σ us → os ≡ us }
+    ensures widgets { (c : CheckedTerm) (budget : ℕ) (t : TreeTerm) (σ : List ValueTerm) → (ws : List WidgetTerm)
+        × AreWidgets c budget t σ ws }
+    ensures one_widgets { (c : CheckedTerm) (budget : ℕ) (t : TreeTerm) (σ : List ValueTerm) (ws us : List WidgetTerm) →
+        AreWidgets c budget t σ ws → AreWidgets c budget t σ us → ws ≡ us }
+{}
+
+/// A history has at most one state.
+pub fn one_state()
+    ensures { (H : List ItemTerm) (s t : State) → IsState H s → IsState H t → s ≡ t }
+{}
 
 /// A tree's foot has exactly the places that are in the tree, in increasing order and each once. Two stores agree on it
 /// where they have the same length and the same values at these places.
@@ -121,6 +164,32 @@ pub fn prefixes_are_legal()
     ensures whole { (H : List ItemTerm) → history_prefix H (version_of H) ≡ H }
     ensures legal { (H : List ItemTerm) (m : ℕ) → IsLegal H → IsLegal (history_prefix H m) }
     ensures versions { (H : List ItemTerm) (m : ℕ) → version_of (history_prefix H m) ≡ min m (version_of H) }
+{}
+
+/// Of two lists of items behind each other each seat's entries are those of the first and then those of the second, and the version is
+/// the sum of both. An entry is its seat's alone.
+pub fn entries_are_in_order()
+    ensures behind { (H K : List ItemTerm) (seat : ℕ) → entries_of (H ++ K) seat ≡ entries_of H seat ++ entries_of K seat }
+    ensures own { (H : List ItemTerm) (e : EntryTerm) → entries_of (H ++ took e ∷ []) e.seat ≡ entries_of H e.seat ++ e ∷ [] }
+    ensures other { (H : List ItemTerm) (e : EntryTerm) (seat : ℕ) → e.seat ≢ seat →
+        entries_of (H ++ took e ∷ []) seat ≡ entries_of H seat }
+    ensures seats { (H : List ItemTerm) (seat : ℕ) → All (λ e. e.seat ≡ seat) (entries_of H seat) }
+    ensures versions { (H K : List ItemTerm) → version_of (H ++ K) ≡ version_of H + version_of K }
+{}
+
+/// A list that begins a legal history, but the empty one, is legal and is the history's prefix of its own version; the history has the
+/// same prefixes up to that version, and no other such list has that version. A prefix begins its history. A legal history has one item
+/// more than its version says: so the version is less than the length of a list, and fits the same numbers.
+pub fn beginnings_are_prefixes()
+    ensures legal { (H K : List ItemTerm) → IsLegal K → IsPrefix H K → H ≢ [] → IsLegal H }
+    ensures prefix { (H K : List ItemTerm) → IsLegal K → IsPrefix H K → H ≢ [] → history_prefix K (version_of H) ≡ H }
+    ensures same { (H K : List ItemTerm) (m : ℕ) → IsLegal K → IsPrefix H K → H ≢ [] → m ≤ version_of H →
+        history_prefix K m ≡ history_prefix H m }
+    ensures one { (H J K : List ItemTerm) → IsLegal K → IsPrefix H K → H ≢ [] → IsPrefix J K → J ≢ [] → version_of H ≡ version_of J →
+        H ≡ J }
+    ensures versions { (H K : List ItemTerm) → IsPrefix H K → version_of H ≤ version_of K }
+    ensures begins { (H : List ItemTerm) (m : ℕ) → IsPrefix (history_prefix H m) H }
+    ensures lengths { (H : List ItemTerm) → IsLegal H → length H ≡ suc (version_of H) }
 {}
 
 /// An input acts at the address that its path leads to and changes nothing else of the tree; where its path leads to none it is lacking,

@@ -1,12 +1,4 @@
-pub mod WorkLemmas
-pub mod PlanLemmas
-pub mod DecideLemmas
-pub mod EqualityLemmas
-pub mod SignLemmas
-pub mod OfferLemmas
-pub mod OutcomeLemmas
 pub mod RowLemmas
-pub mod RanLemmas
 pub mod DemandLemmas
 pub mod BodyCounts
 pub mod BodyLemmas

@@ -13,7 +13,6 @@ mod input_copies;
 mod item;
 mod keyword;
 mod later_bodies;
-mod laws;
 mod limits;
 mod memory;
 mod numbered_body;
@@ -48,7 +47,6 @@ pub use input_copies::{copy_entry, copy_input};
 pub use item::Item;
 pub use keyword::Keyword;
 pub use later_bodies::LaterBodies;
-pub use laws::{by_the_rules, one_interface, one_outcome, one_result, one_state};
 pub use limits::{
     BUDGET_LIMIT, DEFAULT_BUDGET, HEIGHT_LIMIT, LINE_BYTE_LIMIT, LIST_ELEMENT_LIMIT,
     LITERAL_LEVEL_LIMIT, PROGRAM_BYTE_LIMIT, PROGRAM_LEVEL_LIMIT, SCOPE_NAME_LIMIT,

@@ -4,7 +4,7 @@ use Rattle.outer_io.specs.Causes.{Rose}
 use Rattle.task_model.specs.Terms.Text.{Text}
 use Rattle.task_model.specs.Terms.Tree.{State}
 use Rattle.task_model.specs.Running.Checked.{CheckedTerm}
-use Rattle.task_model.proofs.OutcomeLemmas.{opening_once}
+use Rattle.task_laws.proofs.OutcomeLemmas.{opening_once}
 use Rattle.world_core.specs.World.{WorldTerm}
 use Rattle.line_frame.specs.Told.{Told}
 use Rattle.line_frame.specs.Script.{TellsScript, cut_of, all_lines, lines_in, end_of}

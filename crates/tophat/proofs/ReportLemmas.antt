@@ -2,7 +2,7 @@
 use Rattle.std.proofs.Common.{◌≡◌, ℕ, List, length, Option, None, Some, inl, inr, refl, sym, ◌∙◌, ap, subst, arith}
 use Rattle.std.proofs.lemmas.Bool.Decides.{leb_tells}
 use Rattle.task_model.specs.Terms.Text.{Text}
-use Rattle.task_model.proofs.OutcomeLemmas.{Opens, opens, never_opens, opening_decided, opening_once}
+use Rattle.task_laws.proofs.OutcomeLemmas.{Opens, opens, never_opens, opening_decided, opening_once}
 use Rattle.world_core.specs.World.{WorldTerm}
 use Rattle.line_frame.specs.Told.{Told}
 use Rattle.line_frame.specs.Script.{TellsScript}

@@ -8,8 +8,8 @@ use Rattle.task_model.specs.Running.Outcome.{taken, not_offered, over_budget}
 use Rattle.task_model.specs.Showing.Page.{page_text}
 use Rattle.task_model.specs.declared.widget.Face.TheVariants as faces
 use Rattle.task_model.specs.Running.State.{version_of}
-use Rattle.task_model.proofs.OutcomeLemmas.{outcome_exists, outcome_once}
-use Rattle.task_model.proofs.OfferLemmas.{widgets_exist, widgets_once}
+use Rattle.task_laws.proofs.OutcomeLemmas.{outcome_exists, outcome_once}
+use Rattle.task_laws.proofs.OfferLemmas.{widgets_exist, widgets_once}
 use Rattle.task_model.specs.declared.stops.ActStop.TheVariants.{NotOffered, Over}
 use Rattle.world_core.specs.declared.answers.Taken.{Taken}
 use Rattle.world_core.specs.World.{WorldTerm, Replies}

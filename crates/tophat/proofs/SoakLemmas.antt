@@ -8,7 +8,7 @@ use Rattle.task_model.specs.Terms.Text.{Text}
 use Rattle.task_model.specs.Terms.Value.{value_term, unit_value}
 use Rattle.task_model.specs.declared.value.Value.{Value}
 use Rattle.task_model.specs.Showing.Widget.{stored}
-use Rattle.task_model.proofs.OutcomeLemmas.{outcome_exists, outcome_once}
+use Rattle.task_laws.proofs.OutcomeLemmas.{outcome_exists, outcome_once}
 use Rattle.task_model.specs.Terms.Input.{EntryTerm}
 use Rattle.task_model.specs.Running.Outcome.{Outcome, IsOutcome, taken, not_offered, over_budget}
 use Rattle.world_core.specs.World.{WorldTerm}

@@ -21,7 +21,8 @@ use Rattle.task_model.specs.declared.widget.Face.{Face}
 use Rattle.task_model.specs.declared.widget.Face.TheVariants as faces
 use Rattle.task_model.specs.declared.purse.Stop.{Stop}
 use Rattle.task_model.specs.declared.purse.Stop.TheVariants.{Over}
-use Rattle.task_model.proofs.OutcomeLemmas.{lead_to_more}
+use Rattle.task_laws.proofs.OutcomeLemmas.{lead_to_more}
+use Rattle.task_laws.proofs.HistoryLemmas.{version_length}
 use Rattle.typing_laws.specs.Assumed.{main_type}
 use Rattle.typing_laws.specs.Well.{MayAsk}
 use Rattle.typing_laws.proofs.HistoryLemmas.{main_fits, reached_kept}
@@ -34,11 +35,6 @@ pub entries_more : (items : List ItemTerm) (e : EntryTerm) → AreEntries items 
 entries_more [] e h s = (s, tt)
 entries_more (opened p b ∷ items) e h s = absurd h
 entries_more (took a ∷ items) e h s = (h.0, entries_more items e h.1 s)
-
-pub version_length : (items : List ItemTerm) → AreEntries items → version_of items ≡ length items
-version_length [] h = refl
-version_length (opened p b ∷ items) h = absurd h
-version_length (took a ∷ items) h = ap suc (version_length items h.1)
 
 pub standing_version : (w : WorldTerm) → IsStanding w → length w.history ≡ suc (version_of w.history)
 standing_version w s = ap length s.begins ∙ ap suc (sym (version_length s.entries s.valid)) ∙ ap (λ h. suc (version_of h)) (sym s.begins)

@@ -1,5 +1,5 @@
 -- Histories, and the states that they lead to (docs/RULES.md, "Histories").
-use Rattle.std.specs.Prelude.{◌≡◌, ℕ, zero, suc, ◌≤◌, List, [], ◌∷◌}
+use Rattle.std.specs.Prelude.{◌≡◌, ℕ, zero, suc, ◌≤◌, List, [], ◌∷◌, ◌==◌, if◌then◌else◌}
 use Rattle.task_model.specs.Terms.Env.{empty_env}
 use Rattle.task_model.specs.Terms.Task.{call_task}
 use Rattle.task_model.specs.Terms.Tree.{State}
@@ -44,6 +44,12 @@ abbrev pub version_of : List ItemTerm → ℕ
 version_of [] = 0
 version_of (opened p budget ∷ items) = version_of items
 version_of (took e ∷ items) = suc (version_of items)
+
+-- the entries of a seat, in order
+abbrev pub entries_of : List ItemTerm → ℕ → List EntryTerm
+entries_of [] seat = []
+entries_of (opened p budget ∷ items) seat = entries_of items seat
+entries_of (took e ∷ items) seat = if e.seat == seat then e ∷ entries_of items seat else entries_of items seat
 
 -- a seat is 1 to 64
 abbrev pub IsSeat : ℕ → Type 0

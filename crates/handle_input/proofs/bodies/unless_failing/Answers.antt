@@ -5,7 +5,7 @@ use Rattle.task_model.specs.Terms.Tree.{tree_term, at}
 use Rattle.task_model.specs.declared.tree.Tree.{Tree}
 use Rattle.task_model.specs.Running.Checked.{checked_term}
 use Rattle.task_model.specs.Running.Plan.{fails, normal}
-use Rattle.task_model.proofs.RanLemmas.{stopped, ran_give, ran_ask, ran_ask_stops}
+use Rattle.task_laws.proofs.RanLemmas.{stopped, ran_give, ran_ask, ran_ask_stops}
 use Rattle.typing_laws.proofs.CallLemmas.{well_ask, well_next}
 use Rattle.host_eval.specs.NamesTerm.{names_term}
 use Rattle.handle_input.proofs.HandledLemmas.{asked_spent}

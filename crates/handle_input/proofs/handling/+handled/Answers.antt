@@ -6,7 +6,7 @@ use Rattle.task_model.specs.Terms.Tree.{TreeTerm, tree_term, cont_term, then_tre
 use Rattle.task_model.specs.Terms.Input.{act_term}
 use Rattle.task_model.specs.Running.Checked.{checked_term}
 use Rattle.task_model.specs.Running.Handling.{handled, rebuilds, at_step}
-use Rattle.task_model.proofs.RanLemmas.{stopped, ran_give, ran_after, ran_after_stops}
+use Rattle.task_laws.proofs.RanLemmas.{stopped, ran_give, ran_after, ran_after_stops}
 use Rattle.host_eval.proofs.ListLemmas.{empty}
 use Rattle.host_eval.proofs.RunLemmas.{ran_is}
 use Rattle.handle_input.specs.Editing.{value_put, edited_tree}

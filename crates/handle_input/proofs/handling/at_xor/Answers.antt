@@ -1,7 +1,7 @@
 use Rattle.std.proofs.Common.{map, refl}
 use Rattle.task_model.specs.Terms.Value.{value_term}
 use Rattle.task_model.specs.Running.Checked.{checked_term}
-use Rattle.task_model.proofs.RanLemmas.{ran_give}
+use Rattle.task_laws.proofs.RanLemmas.{ran_give}
 use Rattle.host_eval.proofs.RunLemmas.{ran_is}
 use Rattle.task_engine.proofs.FittingLemmas.{left_fits, right_fits}
 use Rattle.handle_input.proofs.handling.at_xor.Goals as goal

@@ -1,7 +1,7 @@
 use Rattle.std.proofs.Common.{refl}
 use Rattle.task_model.specs.Terms.Input.{input_term}
 use Rattle.task_model.specs.Running.Handling.{settled}
-use Rattle.task_model.proofs.RanLemmas.{stopped, ran_give, ran_after, ran_after_stops}
+use Rattle.task_laws.proofs.RanLemmas.{stopped, ran_give, ran_after, ran_after_stops}
 use Rattle.handle_input.proofs.FitLemmas.{settling_well}
 use Rattle.handle_input.proofs.inputs.interacted.Goals as goal
 

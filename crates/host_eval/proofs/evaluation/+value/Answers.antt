@@ -12,7 +12,7 @@ use Rattle.task_model.specs.Running.Checked.{checked_term}
 use Rattle.task_model.specs.Running.Plan.{give}
 use Rattle.task_model.specs.Running.Rules.{bound}
 use Rattle.task_model.proofs.RowLemmas.{value_term-List, host_term-List, host_term-Call}
-use Rattle.task_model.proofs.RanLemmas.{stopped, ran_give, ran_ask, ran_ask_stops, ran_last, ran_after, ran_after_stops, ran_unit, asked_rule, asked_rule_stops}
+use Rattle.task_laws.proofs.RanLemmas.{stopped, ran_give, ran_ask, ran_ask_stops, ran_last, ran_after, ran_after_stops, ran_unit, asked_rule, asked_rule_stops}
 use Rattle.host_eval.specs.NamesTerm.{names_term}
 use Rattle.host_eval.proofs.RunLemmas.{ran_is, ran_known_ok, named_is, read_is, ran_chosen, ran_matched, ran_call, argument_is, lazy_is, strict_is, values_front, values_grown, values_none, slots_front, slots_grown, slots_none, slots_too_many, tail_of}
 use Rattle.typing_laws.proofs.CallLemmas.{well_ask, well_next, well_unit, well_first, well_after, well_known}

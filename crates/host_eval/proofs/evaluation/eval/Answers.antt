@@ -1,4 +1,4 @@
-use Rattle.task_model.proofs.RanLemmas.{spends_asked}
+use Rattle.task_laws.proofs.RanLemmas.{spends_asked}
 use Rattle.host_eval.proofs.WellLemmas.{value_typed}
 use Rattle.host_eval.proofs.evaluation.eval.Goals as goal
 

@@ -9,7 +9,7 @@ use Rattle.task_model.specs.Terms.Tree.{State}
 use Rattle.task_model.specs.Running.Checked.{checked_term, nodes_of}
 use Rattle.task_model.specs.Running.Plan.{Plan, gives_value, evaluates, give, ask}
 use Rattle.task_model.specs.Running.Rules.{bound, branch, later_by, evaluate_rule}
-use Rattle.task_model.proofs.RanLemmas.{stopped, ran_give, ran_ask, ran_ask_stops, ran_last, ran_after, ran_after_stops, ran_unit, asked_rule, asked_rule_stops}
+use Rattle.task_laws.proofs.RanLemmas.{stopped, ran_give, ran_ask, ran_ask_stops, ran_last, ran_after, ran_after_stops, ran_unit, asked_rule, asked_rule_stops}
 use Rattle.host_eval.specs.NamesTerm.{names_term}
 use Rattle.host_eval.proofs.RunLemmas.{ran_is, ran_known_ok, placed_is, chosen_is, ran_chosen, empty_or, matched_is, ran_matched}
 use Rattle.host_eval.proofs.WellLemmas.{well_is, well_found}

@@ -1,5 +1,5 @@
 use Rattle.std.proofs.Common.{refl}
-use Rattle.task_model.proofs.RanLemmas.{stopped, ran_give, ran_ask, ran_ask_stops}
+use Rattle.task_laws.proofs.RanLemmas.{stopped, ran_give, ran_ask, ran_ask_stops}
 use Rattle.host_eval.proofs.RunLemmas.{ran_known_ok}
 use Rattle.host_eval.proofs.WellLemmas.{well_found}
 use Rattle.typing_laws.proofs.CallLemmas.{well_ask, well_known}

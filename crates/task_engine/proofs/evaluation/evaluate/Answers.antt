@@ -1,4 +1,4 @@
-use Rattle.task_model.proofs.RanLemmas.{spends_asked}
+use Rattle.task_laws.proofs.RanLemmas.{spends_asked}
 use Rattle.task_engine.proofs.evaluation.evaluate.Goals as goal
 
 pub returns-clause-spends : goal.returns-clause-spends

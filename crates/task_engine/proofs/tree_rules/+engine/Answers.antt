@@ -11,7 +11,7 @@ use Rattle.task_model.specs.Terms.Tree.{tree_term, cont_term, delay_term, then_t
 use Rattle.task_model.specs.Running.Checked.{checked_term}
 use Rattle.task_model.specs.Running.Plan.{fails, normal, Plan, give, ask}
 use Rattle.task_model.specs.Running.Rules.{fired, value_of, opened_env}
-use Rattle.task_model.proofs.RanLemmas.{stopped, ran_give, ran_ask, ran_ask_stops, ran_last, ran_after, ran_after_stops, ran_last_stride, ran_more_strides, ran_stride_stops, ran_strides_unpaid, asked_rule, asked_rule_stops}
+use Rattle.task_laws.proofs.RanLemmas.{stopped, ran_give, ran_ask, ran_ask_stops, ran_last, ran_after, ran_after_stops, ran_last_stride, ran_more_strides, ran_stride_stops, ran_strides_unpaid, asked_rule, asked_rule_stops}
 use Rattle.task_model.specs.declared.purse.Stop.TheVariants.{Over}
 use Rattle.host_eval.proofs.RunLemmas.{ran_is, ran_known_ok}
 use Rattle.host_eval.proofs.WellLemmas.{well_is, well_found}

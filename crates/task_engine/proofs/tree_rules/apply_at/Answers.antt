@@ -8,7 +8,7 @@ use Rattle.task_model.specs.Terms.Tree.{cont_term, State}
 use Rattle.task_model.specs.Running.Checked.{checked_term}
 use Rattle.task_model.specs.Running.Plan.{evaluates, Plan, give, ask}
 use Rattle.task_model.specs.Running.Rules.{opened_env}
-use Rattle.task_model.proofs.RanLemmas.{ran_last}
+use Rattle.task_laws.proofs.RanLemmas.{ran_last}
 use Rattle.host_eval.proofs.RunLemmas.{ran_known_ok}
 use Rattle.host_eval.proofs.WellLemmas.{well_found}
 use Rattle.typing_laws.proofs.CallLemmas.{well_ask, well_known}

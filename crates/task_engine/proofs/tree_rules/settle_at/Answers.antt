@@ -1,5 +1,5 @@
 use Rattle.std.proofs.Common.{ap, ◌∙◌}
-use Rattle.task_model.proofs.RanLemmas.{stopped, asked_rule, asked_rule_stops}
+use Rattle.task_laws.proofs.RanLemmas.{stopped, asked_rule, asked_rule_stops}
 use Rattle.typing_laws.proofs.CallLemmas.{well_rule}
 use Rattle.task_engine.proofs.StrideLemmas.{well_stride_on}
 use Rattle.task_engine.proofs.tree_rules.settle_at.Goals as goal

@@ -1,6 +1,6 @@
 use Rattle.std.proofs.Common.{Ok, Err}
 use Rattle.task_model.specs.Terms.Input.{input_term}
-use Rattle.task_model.proofs.RanLemmas.{stopped}
+use Rattle.task_laws.proofs.RanLemmas.{stopped}
 use Rattle.world_core.specs.World.{world_term}
 use Rattle.world_core.proofs.RunLemmas.{prepared_some, replies_taken, replies_refused, rest_kept}
 use Rattle.world_core.proofs.world.World.handle.Goals as goal

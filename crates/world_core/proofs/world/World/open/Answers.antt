@@ -3,7 +3,7 @@ use Rattle.task_model.specs.Terms.Value.{value_term}
 use Rattle.task_model.specs.Terms.Tree.{tree_term, State, at}
 use Rattle.task_model.specs.Running.Checked.{SeenChecked, checked_term}
 use Rattle.task_model.specs.Running.State.{IsOpening}
-use Rattle.task_model.proofs.RanLemmas.{stopped}
+use Rattle.task_laws.proofs.RanLemmas.{stopped}
 use Rattle.world_core.specs.declared.answers.OpenStop.TheVariants.{Over}
 use Rattle.world_core.proofs.world.World.open.Goals as goal
 

@@ -4,7 +4,7 @@ use Rattle.task_model.specs.Terms.Tree.{tree_term, at}
 use Rattle.task_model.specs.Terms.Input.{input_term}
 use Rattle.task_model.specs.Running.Checked.{checked_term}
 use Rattle.task_model.specs.declared.item.Item.TheVariants.{Took}
-use Rattle.task_model.proofs.RanLemmas.{stopped}
+use Rattle.task_laws.proofs.RanLemmas.{stopped}
 use Rattle.handle_input.specs.Answers.{TellsOutcome}
 use Rattle.world_core.specs.World.{SeenWorld}
 use Rattle.world_core.proofs.KeptLemmas.{rest_is, rest_fits, refused, prepares}

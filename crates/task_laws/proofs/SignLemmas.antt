@@ -9,10 +9,10 @@ use Rattle.task_model.specs.Running.Judgements.{IsWithinBudget}
 use Rattle.task_model.specs.Running.Sign.{IsSign, Test, IsStepSign}
 use Rattle.task_model.specs.declared.widget.Sign.{Sign}
 use Rattle.task_model.specs.declared.widget.Sign.TheVariants as signs
-use Rattle.task_model.proofs.WorkLemmas.{Agree}
-use Rattle.task_model.proofs.PlanLemmas.{agree_work, at_most_one}
-use Rattle.task_model.proofs.DecideLemmas.{Ends, ends, ends_never, plan_ends}
-use Rattle.task_model.proofs.EqualityLemmas.{same_state}
+use Rattle.task_laws.proofs.WorkLemmas.{Agree}
+use Rattle.task_laws.proofs.PlanLemmas.{agree_work, at_most_one}
+use Rattle.task_laws.proofs.DecideLemmas.{Ends, ends, ends_never, plan_ends}
+use Rattle.task_laws.proofs.EqualityLemmas.{same_state}
 
 module _ (c : CheckedTerm) (budget : ℕ) where
   pub test_once : (p : Plan Bool) → Agree (Test c p) (Test c p)

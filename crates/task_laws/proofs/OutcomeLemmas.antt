@@ -14,10 +14,10 @@ use Rattle.task_model.specs.Running.Outcome.{Outcome, taken, not_offered, over_b
 use Rattle.task_model.specs.Terms.Program.{main_name}
 use Rattle.task_model.specs.Checking.Accepted.{typed_program}
 use Rattle.task_model.specs.Running.State.{IsOpening, LeadTo, IsReached, IsState}
-use Rattle.task_model.proofs.WorkLemmas.{Agree}
-use Rattle.task_model.proofs.PlanLemmas.{agree_work, at_most_one, work_after, after_work}
-use Rattle.task_model.proofs.DecideLemmas.{Ends, ends, ends_never, plan_ends}
-use Rattle.task_model.proofs.EqualityLemmas.{same_state}
+use Rattle.task_laws.proofs.WorkLemmas.{Agree}
+use Rattle.task_laws.proofs.PlanLemmas.{agree_work, at_most_one, work_after, after_work}
+use Rattle.task_laws.proofs.DecideLemmas.{Ends, ends, ends_never, plan_ends}
+use Rattle.task_laws.proofs.EqualityLemmas.{same_state}
 
 module _ (c : CheckedTerm) (budget : ℕ) where
   module _ (s : State) (i : InputTerm) where

@@ -3,9 +3,9 @@ use Rattle.std.proofs.Common.{[], ◌∷◌, ◌++◌}
 use Rattle.task_model.specs.Terms.Env.{plain_slot}
 use Rattle.task_model.specs.Running.Rules.{rule_of, applied, tested}
 use Rattle.task_model.specs.Running.Handling.{handles}
-use Rattle.task_model.proofs.PlanLemmas.{agree_work, at_most_one}
-use Rattle.task_model.proofs.SignLemmas.{test_once}
-use Rattle.task_model.proofs.laws.one_result.Goals as goal
+use Rattle.task_laws.proofs.PlanLemmas.{agree_work, at_most_one}
+use Rattle.task_laws.proofs.SignLemmas.{test_once}
+use Rattle.task_laws.proofs.laws.one_result.Goals as goal
 
 pub returns-clause-judgements : goal.returns-clause-judgements
 returns-clause-judgements k = λ c q v w n m h g. (at_most_one (rule_of c) q).by v w n m h g

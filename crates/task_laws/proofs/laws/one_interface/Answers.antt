@@ -1,5 +1,5 @@
-use Rattle.task_model.proofs.OfferLemmas.{offers_exist, offers_once, widgets_exist, widgets_once}
-use Rattle.task_model.proofs.laws.one_interface.Goals as goal
+use Rattle.task_laws.proofs.OfferLemmas.{offers_exist, offers_once, widgets_exist, widgets_once}
+use Rattle.task_laws.proofs.laws.one_interface.Goals as goal
 
 pub returns-clause-offers : goal.returns-clause-offers
 returns-clause-offers k = λ c budget t σ. offers_exist c budget t σ

@@ -3,7 +3,7 @@ use Rattle.std.proofs.Common.{◌≡◌, ℕ, zero, suc, ◌+◌, max, ◌≤◌
 use Rattle.task_model.specs.Terms.Tree.{State}
 use Rattle.task_model.specs.Running.Work.{Work, never, then_on, rule}
 use Rattle.task_model.specs.Running.Plan.{Judgement, strides, Derived, Plan, give, stuck, ask, unit, stride_on, after, StrideList, last_stride, more_strides, plan_work, derives_at, Derives}
-use Rattle.task_model.proofs.WorkLemmas.{Agree, agree_never, agree_never', agree_gives, agree_then, agree_rule, agree_unit, Low, low_same, low_then, low_unit, Under, under_never, under_gives, under_then, under_unit}
+use Rattle.task_laws.proofs.WorkLemmas.{Agree, agree_never, agree_never', agree_gives, agree_then, agree_rule, agree_unit, Low, low_same, low_then, low_unit, Under, under_never, under_gives, under_then, under_unit}
 
 module _ (one one' : State → Work State) (r : (s : State) → Agree (one s) (one' s)) where
   agree_from : (s t u : State) (n n' h h' : ℕ) → StrideList one s t n h → StrideList one' s u n' h' → (t ≡ u) × (n ≡ n') × (h ≡ h')

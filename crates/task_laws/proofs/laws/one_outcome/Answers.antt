@@ -1,5 +1,5 @@
-use Rattle.task_model.proofs.OutcomeLemmas.{outcome_exists, outcome_once}
-use Rattle.task_model.proofs.laws.one_outcome.Goals as goal
+use Rattle.task_laws.proofs.OutcomeLemmas.{outcome_exists, outcome_once}
+use Rattle.task_laws.proofs.laws.one_outcome.Goals as goal
 
 pub returns-clause-some : goal.returns-clause-some
 returns-clause-some k = λ c budget s i. outcome_exists c budget s i

@@ -6,7 +6,7 @@ use Rattle.task_model.specs.Running.Checked.{CheckedTerm}
 use Rattle.task_model.specs.Running.Rules.{value_of, side}
 use Rattle.task_model.specs.Running.Offer.{OfferTerm, next_offer, left_offer, right_offer, offered, both_offers, AreOffers}
 use Rattle.task_model.specs.Showing.Widget.{WidgetTerm, then_shape, step_shape, and_shape, or_shape, pick_shape, here, both_widgets, AreWidgets}
-use Rattle.task_model.proofs.SignLemmas.{sign_exists, sign_once, step_sign_exists, step_sign_once}
+use Rattle.task_laws.proofs.SignLemmas.{sign_exists, sign_once, step_sign_exists, step_sign_once}
 
 both_offers-same : (xs ys us zs : List OfferTerm) → xs ≡ us → ys ≡ zs → both_offers xs ys ≡ both_offers us zs
 both_offers-same xs ys us zs e q = ap (λ z. both_offers z ys) e ∙ ap (both_offers us) q

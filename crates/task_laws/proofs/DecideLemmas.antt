@@ -5,8 +5,8 @@ use mathlib.Core.Logic.{inl, inr}
 use Rattle.task_model.specs.Terms.Tree.{State}
 use Rattle.task_model.specs.Running.Work.{Work, then_on, rule, unit_and}
 use Rattle.task_model.specs.Running.Plan.{Judgement, strides, Derived, Plan, give, stuck, ask, unit, stride_on, StrideList, last_stride, more_strides, Parts, plan_work, derives_at, Derives}
-use Rattle.task_model.proofs.WorkLemmas.{Agree}
-use Rattle.task_model.proofs.PlanLemmas.{agree_at, agree_strides, low_work, under_work, under_at, low_back, low_derives}
+use Rattle.task_laws.proofs.WorkLemmas.{Agree}
+use Rattle.task_laws.proofs.PlanLemmas.{agree_at, agree_strides, low_work, under_work, under_at, low_back, low_derives}
 
 -- a derivation of at most B units, or none
 pub data Bounded {A : Type 0} (w : Work A) (B : ℕ) : Type 0 where

@@ -13,8 +13,8 @@ use Rattle.task_model.specs.Syntax.Calls.{RunsJudgement, RunsPlan}
 use Rattle.task_model.specs.declared.purse.Stop.{Stop}
 use Rattle.task_model.specs.declared.purse.Stop.TheVariants.{Over, Memory}
 use Rattle.task_model.specs.declared.memory.OutOfMemory.{OutOfMemory}
-use Rattle.task_model.proofs.WorkLemmas.{Agree, Low}
-use Rattle.task_model.proofs.PlanLemmas.{agree_at, agree_work, low_at, under_at, work_after, after_work}
+use Rattle.task_laws.proofs.WorkLemmas.{Agree, Low}
+use Rattle.task_laws.proofs.PlanLemmas.{agree_at, agree_work, low_at, under_at, work_after, after_work}
 
 -- ---- what a call answers
 -- nothing spent

@@ -1,5 +1,0 @@
-use Rattle.task_model.proofs.OutcomeLemmas.{state_once}
-use Rattle.task_model.proofs.laws.one_state.Goals as goal
-
-pub returns : goal.returns
-returns k = λ H s t d e. state_once H s t d e
