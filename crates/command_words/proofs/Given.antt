@@ -1,5 +1,5 @@
 -- From what `clap` found to a command.
-use Rattle.std.proofs.Common.{◌≡◌, ◌∙◌, ap, sym, subst, refl, ℕ, true, List, ◌∷◌, Option, Some, None, true≢false, Result, Err, codes, ◌⊎◌, inl, inr, ⊎_elim, []}
+use Rattle.std.proofs.Common.{◌≡◌, ◌∙◌, ap, sym, subst, refl, true, List, ◌∷◌, Option, Some, None, true≢false, Result, Err, codes, ◌⊎◌, inl, inr, ⊎_elim, []}
 use Rattle.std.specs.Prelude.{not}
 use Rattle.std.specs.List.{list_all}
 use Rattle.std.proofs.lemmas.Bool.{and_parts, or_cases}

@@ -12,3 +12,4 @@ pub mod Strict
 pub mod Given
 pub mod Ranges
 pub mod NumberLemmas
+pub mod RunWords

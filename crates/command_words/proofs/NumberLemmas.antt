@@ -21,7 +21,7 @@ all_digits (c ∷ cs) e = go (is_ascii_digit c) e (λ h. all_digits cs h)
     go false h later = h
 
 module _ (t : Text) (digits : list_all is_ascii_digit t ≡ true) (short : length t ≤ 20) (low high : ℕ) where
-  in_range : 0 < length t → low ≤ digits_value 10 t → digits_value 10 t ≤ high → number_in low high t ≡ Some (digits_value 10 t)
+  pub in_range : 0 < length t → low ≤ digits_value 10 t → digits_value 10 t ≤ high → number_in low high t ≡ Some (digits_value 10 t)
   in_range some above below = rw (
     lt-ltb 0 (length t) some,
     le-leb (length t) 20 short,

@@ -1,11 +1,22 @@
-ghost use Rattle.std.specs.Prelude.{◌≡◌, ◌↔◌, List, None, Some, true};
+ghost use Rattle.std.specs.Prelude.{◌≡◌, ◌↔◌, ℕ, List, [], ◌∷◌, None, Some, codes, decimal, false, true};
 ghost use Rattle.std.specs.List.{list_all};
 ghost use Rattle.task_model.specs.Terms.Text.{Text};
+ghost use Rattle.task_model.specs.Running.State.{IsBudget};
+ghost use Rattle.command_words.specs.Commands.{command_of, run};
 ghost use Rattle.command_words.specs.WordGrammar.{Follows, is_option_name};
-ghost use Rattle.command_words.specs.WordReading.{Use, read};
+ghost use Rattle.command_words.specs.WordReading.{Use, begins_with_dash, read};
 
 /// The reading of the words behind a command's name is a grammar with a rule for each thing that a word may do.
 pub fn words_follow_the_grammar()
     ensures { (places options words : List Text) (uses : List Use) → list_all is_option_name options ≡ true
         → (read words places options None ≡ Some uses) ↔ Follows places options words uses }
+{}
+
+/// `run FILE --budget N` asks for the run of that file within that budget, where the name doesn't begin with `-`; and
+/// `run --budget N -- FILE` does for every name (docs/FORMATS.md, "Words").
+pub fn runs_are_read()
+    ensures plain { (file : Text) (budget : ℕ) → IsBudget budget → begins_with_dash file ≡ false
+        → command_of (codes "run" ∷ file ∷ codes "--budget" ∷ decimal budget ∷ []) ≡ Some (run file budget) }
+    ensures behind_dashes { (file : Text) (budget : ℕ) → IsBudget budget
+        → command_of (codes "run" ∷ codes "--budget" ∷ decimal budget ∷ codes "--" ∷ file ∷ []) ≡ Some (run file budget) }
 {}

@@ -11,6 +11,6 @@ mod stop;
 mod top;
 
 pub use command::Command;
-pub use laws::words_follow_the_grammar;
+pub use laws::{runs_are_read, words_follow_the_grammar};
 pub use stop::WordStop;
 pub use top::read_command;

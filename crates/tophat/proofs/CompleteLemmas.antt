@@ -1,6 +1,5 @@
 -- Where every line is in the grammar, all of them are answered.
-use Rattle.std.proofs.Common.{◌≡◌, ℕ, ◌+◌, ◌≤◌, List, [], ◌∷◌, length, Option, None, Some, ◌⊎◌, inl, inr, refl, sym, ◌∙◌, ap, subst, arith}
-use Rattle.outer_io.specs.Causes.{Rose}
+use Rattle.std.proofs.Common.{◌≡◌, ℕ, ◌+◌, ◌≤◌, List, [], ◌∷◌, length, Option, None, Some, inl, inr, refl, sym, ◌∙◌, ap, subst, arith}
 use Rattle.task_model.specs.Terms.Text.{Text}
 use Rattle.task_model.specs.Terms.Tree.{State}
 use Rattle.task_model.specs.Running.Checked.{CheckedTerm}
@@ -19,10 +18,7 @@ use Rattle.tophat.specs.Session.{Tells}
 use Rattle.tophat.specs.Top.{Report, limits, world, none, world_at, Opened, OpensVerdict, ReportsOpened, ReportsTold, Reports}
 use Rattle.tophat.specs.Promise.{Promised, WritesReport}
 use Rattle.tophat.specs.Complete.{lines_of, AreLinesWithin, IsRunnable, AnswersAll, ReportsAll, AnsweredAll, Completes}
-use Rattle.tophat.specs.Went.{Counted, Went}
 use Rattle.tophat.proofs.LineLemmas.{line_apart}
-use Rattle.tophat.proofs.PromiseLemmas.{promised}
-use Rattle.tophat.proofs.WorkLemmas.{is_read_fault, is_write_fault}
 
 tells_all : (longest : ℕ) (w : WorldTerm) (number : ℕ) (lines : List Text) (finish : Finish) (told : Told) → AreLinesWithin longest lines
     → Tells longest w number lines finish told → (told.finish ≡ finish) × AnswersAll w lines told.output
@@ -88,7 +84,7 @@ answered_all w lines report before now failed status fine five six all (inr (inl
 answered_all w lines report before now failed status fine five six all (inr (inr (inl e), part)) = absurd (fine (six e))
 answered_all w lines report before now failed status fine five six all (inr (inr (inr e), part)) = inr e
 
-completes : (command : Option CommandTerm) (holds : Option (Option Text)) (left taken now : Option Text) (failed : Type 0) (status : ℕ)
+pub completes : (command : Option CommandTerm) (holds : Option (Option Text)) (left taken now : Option Text) (failed : Type 0) (status : ℕ)
     → Promised limits command holds left taken now status → (status ≡ 5 → failed) → (status ≡ 6 → failed)
     → Completes limits command holds left taken now failed status
 completes None holds left taken now failed status p five six = tt
@@ -102,16 +98,3 @@ completes (Some (run name budget)) (Some (Some bytes)) (Some script) (Some befor
     let r = p.1 (accepted c) h.program in
     answered_all (world_at c budget s) (lines_of script) r.0 before now failed status fine five six
     (complete_report name budget bytes script c s r.0 h r.1) r.2
-
--- the same by how a command went
-pub went_complete : (command : Option CommandTerm) (holds : Option (Option Text))
-    (left_old left_new taken_old taken_new said_old said_new : Option Text)
-    (files input out err : Counted) (unread unwritten : Type 0) (status : ℕ)
-    → Went limits command holds left_old left_new taken_old taken_new said_old said_new files input out err unread unwritten status
-    → Completes limits command holds left_old taken_old taken_new
-    (Rose files.before files.now ⊎ (Rose input.before input.now ⊎ Rose out.before out.now)) status
-went_complete command holds left_old left_new taken_old taken_new said_old said_new files input out err unread unwritten status w =
-    completes command holds left_old taken_old taken_new _ status
-    (promised limits command holds left_old left_new taken_old taken_new said_old said_new files input out err unread unwritten status w)
-    (λ e. elim (is_read_fault w.ending (sym w.status_is ∙ e)) [ inl p ↦ inl (w.file_fault p) | inr q ↦ inr (inl (w.read_fault q)) ])
-    (λ e. inr (inr (w.write_fault (is_write_fault w.ending (sym w.status_is ∙ e)))))

@@ -8,6 +8,8 @@ mod ReportLemmas
 mod WorkLemmas
 mod PromiseLemmas
 mod CompleteLemmas
+mod FulfilLemmas
+mod StatusLemmas
 mod EntryLines
 mod SmallTypes
 mod SmallTrees

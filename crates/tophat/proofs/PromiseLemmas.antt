@@ -1,4 +1,4 @@
--- The promise follows from how a command went.
+-- What is promised, from how a command ended.
 use Rattle.std.proofs.Common.{◌≡◌, ℕ, ◌++◌, Option, None, Some, ◌⊎◌, inl, inr, refl, sym, ◌∙◌, ap, subst, arith}
 use Rattle.std.specs.Prelude.{MatchOption, Result, Ok, Err, IfOk, IfErr}
 use Rattle.std.specs.Io.KnownBytes.{Appends}
@@ -18,8 +18,9 @@ use Rattle.tophat.specs.Ending.{status_of, text_of}
 use Rattle.tophat.specs.Promise.{IsCutShort, WritesReport, Promised, HasVerdictBy}
 use Rattle.tophat.specs.Verdict.{IsVerdictOf}
 use Rattle.tophat.specs.Top.{Limits, Report, named, NeedsMore, source_of, Reports}
-use Rattle.tophat.specs.Worked.{HasVerdictAt, IfNotRun, IfSilent, Writes}
-use Rattle.tophat.specs.Went.{Counted, Went}
+use Rattle.tophat.specs.Worked.{HasVerdictAt, IfNotRun, IfSilent, Worked, Writes, word_ending}
+use Rattle.tophat.specs.Objects.{Objects, IsUntouched}
+use Rattle.tophat.specs.Asks.{Asks, AsksFor}
 use Rattle.tophat.proofs.ReportLemmas.{report_exists}
 use Rattle.tophat.proofs.WorkLemmas.{is_usage}
 
@@ -53,69 +54,77 @@ readable_by file (Unopened Memory) status e r = inl (inr (inr e))
 readable_by file ending status e r = inr r
 
 pub promised : (l : Limits) (command : Option CommandTerm) (holds : Option (Option Text))
-    (left_old left_new taken_old taken_new said_old said_new : Option Text)
-    (files input out err : Counted) (unread unwritten : Type 0) (status : ℕ)
-    → Went l command holds left_old left_new taken_old taken_new said_old said_new files input out err unread unwritten status
-    → Promised l command holds left_old taken_old taken_new status
-promised l command None left_old left_new taken_old taken_new said_old said_new files input out err unread unwritten status w = tt
-promised l command (Some file) None left_new taken_old taken_new said_old said_new files input out err unread unwritten status w = tt
-promised l command (Some file) (Some script) left_new None taken_new said_old said_new files input out err unread unwritten status w = tt
-promised l command (Some file) (Some script) left_new (Some first) taken_new said_old said_new files input out err unread unwritten status w
-    = (
-      subst (λ (f : Option Text). HasVerdictBy status (source_of command f)) (sym w.worked.file_told)
-          (readable_by (source_of command w.worked.file) w.ending status w.status_is w.worked.verdict_is),
-      λ verdict h.
-          let d = w.worked in
-          let r = report_exists l command file verdict script in
-          let known : IsVerdictOf (source_of command d.file) verdict =
-          subst (λ (f : Option Text). IsVerdictOf (source_of command f) verdict) d.file_told h in
-          let reports : Reports l command d.file verdict d.script r.0 =
-          subst (λ (z : Text). Reports l command d.file verdict z r.0) d.script_told
-          (subst (λ (f : Option Text). Reports l command f verdict script r.0) d.file_told r.1) in (
-            r.0,
-            r.1,
-            writes_report r.0 first d.written taken_new w.ending status w.status_is (took_is first taken_new d.written d.took)
-                (d.comes verdict known r.0 reports),
-          ),
-    )
+    (left_old left_new taken_old taken_new : Option Text) (ending : Ending) (status : ℕ) → status ≡ status_of ending
+    → Worked l command holds left_old left_new taken_old taken_new ending → Promised l command holds left_old taken_old taken_new status
+promised l command None left_old left_new taken_old taken_new ending status e d = tt
+promised l command (Some file) None left_new taken_old taken_new ending status e d = tt
+promised l command (Some file) (Some script) left_new None taken_new ending status e d = tt
+promised l command (Some file) (Some script) left_new (Some first) taken_new ending status e d = (
+  subst (λ (f : Option Text). HasVerdictBy status (source_of command f)) (sym d.file_told)
+      (readable_by (source_of command d.file) ending status e d.verdict_is),
+  λ verdict h.
+      let r = report_exists l command file verdict script in
+      let known : IsVerdictOf (source_of command d.file) verdict =
+      subst (λ (f : Option Text). IsVerdictOf (source_of command f) verdict) d.file_told h in
+      let reports : Reports l command d.file verdict d.script r.0 =
+      subst (λ (z : Text). Reports l command d.file verdict z r.0) d.script_told
+      (subst (λ (f : Option Text). Reports l command f verdict script r.0) d.file_told r.1) in (
+        r.0,
+        r.1,
+        writes_report r.0 first d.written taken_new ending status e (took_is first taken_new d.written d.took)
+            (d.comes verdict known r.0 reports),
+      ),
+)
 
 -- status 2 comes where the words are outside the grammar, unless memory ran out, and nowhere else
-pub usage_is : (asked : Result Command WordStop) (command : Option CommandTerm) (ending : Ending) (status : ℕ)
-    (no_file no_read no_write : Type 0)
-    → IsAsked command asked → status ≡ status_of ending → IfOk asked (λ _. ending ≡ Usage → ⊥)
-    → (asked ≡ Err Outside → ending ≡ Usage) → (asked ≡ Err words.Memory → ending ≡ Unopened Memory) → IfErr asked (λ _. no_file)
-    → IfNotRun ending no_read → IfSilent ending no_write
-    → MatchOption command (((status ≡ 2) ⊎ (status ≡ 8)) × no_file × no_read × no_write) (λ _. status ≡ 2 → ⊥)
-usage_is (Ok asked) (Some command) ending status no_file no_read no_write g is some outside memory file run silent = λ two. some
-    (is_usage ending (sym is ∙ two))
-usage_is (Ok asked) None ending status no_file no_read no_write g is some outside memory file run silent = absurd (cc)
-usage_is (Err Outside) None ending status no_file no_read no_write g is some outside memory file run silent =
-    let e = outside refl in (
-      inl (is ∙ ap status_of e),
-      file,
-      subst (λ (z : Ending). IfNotRun z no_read) e run,
-      subst (λ (z : Ending). IfSilent z no_write) e silent,
-    )
-usage_is (Err Outside) (Some command) ending status no_file no_read no_write g is some outside memory file run silent = absurd (cc)
-usage_is (Err words.Memory) None ending status no_file no_read no_write g is some outside memory file run silent =
-    let e = memory refl in (
-      inr (is ∙ ap status_of e),
-      file,
-      subst (λ (z : Ending). IfNotRun z no_read) e run,
-      subst (λ (z : Ending). IfSilent z no_write) e silent,
-    )
-usage_is (Err words.Memory) (Some command) ending status no_file no_read no_write g is some outside memory file run silent = λ two.
-    let e = is ∙ ap status_of (memory refl) in absurd (omega (arith, e, two))
+pub usage_is : (asked : Result Command WordStop) (command : Option CommandTerm) (ending : Ending) (status : ℕ) → IsAsked command asked
+    → status ≡ status_of ending → IfOk asked (λ _. ending ≡ Usage → ⊥) → IfErr asked (λ stop. ending ≡ word_ending stop)
+    → MatchOption command ((status ≡ 2) ⊎ (status ≡ 8)) (λ _. status ≡ 2 → ⊥)
+usage_is (Ok asked) (Some command) ending status g is some none = λ two. some (is_usage ending (sym is ∙ two))
+usage_is (Ok asked) None ending status g is some none = absurd (cc)
+usage_is (Err Outside) None ending status g is some none = inl (is ∙ ap status_of none)
+usage_is (Err Outside) (Some command) ending status g is some none = absurd (cc)
+usage_is (Err words.Memory) None ending status g is some none = inr (is ∙ ap status_of none)
+usage_is (Err words.Memory) (Some command) ending status g is some none = λ two.
+    let e = is ∙ ap status_of none in absurd (omega (arith, e, two))
+
+-- at wrong words, or where memory ran out there, all is as it was
+all_untouched : (stop : WordStop) (ending : Ending) (o : Objects) → ending ≡ word_ending stop → o.files.Untouched
+    → IfNotRun ending o.input.Untouched → IfSilent ending o.out.Untouched → IsUntouched o
+all_untouched Outside ending o e file run silent = (
+  file,
+  subst (λ (z : Ending). IfNotRun z o.input.Untouched) e run,
+  subst (λ (z : Ending). IfSilent z o.out.Untouched) e silent,
+)
+all_untouched words.Memory ending o e file run silent = (
+  file,
+  subst (λ (z : Ending). IfNotRun z o.input.Untouched) e run,
+  subst (λ (z : Ending). IfSilent z o.out.Untouched) e silent,
+)
+
+-- what is asked of the objects, by what the words ask for
+pub asks_is : (l : Limits) (asked : Result Command WordStop) (command : Option CommandTerm) (ending : Ending) (o : Objects) (status : ℕ)
+    → IsAsked command asked → status ≡ status_of ending → IfOk asked (λ c. AsksFor l (command_term c) o.files o.input)
+    → IfErr asked (λ stop. ending ≡ word_ending stop) → IfErr asked (λ _. o.files.Untouched) → IfNotRun ending o.input.Untouched
+    → IfSilent ending o.out.Untouched → Asks l command o status
+asks_is l (Ok c) command ending o status g is some none file run silent =
+    subst (λ (k : Option CommandTerm). Asks l k o status) (sym g) (inl some)
+asks_is l (Err Outside) command ending o status g is some none file run silent =
+    subst (λ (k : Option CommandTerm). Asks l k o status) (sym g) (all_untouched Outside ending o none file run silent)
+asks_is l (Err words.Memory) None ending o status g is some none file run silent =
+    all_untouched words.Memory ending o none file run silent
+asks_is l (Err words.Memory) (Some command) ending o status g is some none file run silent =
+    inr (is ∙ ap status_of none, all_untouched words.Memory ending o none file run silent)
 
 -- the name that is told of the file of a command, where any is
 pub named_text : (asked : Result Command WordStop) (command : Option CommandTerm) (ending : Ending) (name : Text) → IsAsked command asked
-    → IfOk asked (λ c. name ≡ named (Some (command_term c))) → (asked ≡ Err Outside → ending ≡ Usage)
-    → (asked ≡ Err words.Memory → ending ≡ Unopened Memory) → text_of name ending ≡ text_of (named command) ending
-named_text (Ok asked) command ending name g is outside memory = ap (λ (z : Text). text_of z ending) (is ∙ ap named (sym g))
-named_text (Err Outside) command ending name g is outside memory =
-    subst (λ (z : Ending). text_of name z ≡ text_of (named command) z) (sym (outside refl)) refl
-named_text (Err words.Memory) command ending name g is outside memory =
-    subst (λ (z : Ending). text_of name z ≡ text_of (named command) z) (sym (memory refl)) refl
+    → IfOk asked (λ c. name ≡ named (Some (command_term c))) → IfErr asked (λ stop. ending ≡ word_ending stop)
+    → text_of name ending ≡ text_of (named command) ending
+named_text (Ok asked) command ending name g is none = ap (λ (z : Text). text_of z ending) (is ∙ ap named (sym g))
+named_text (Err Outside) command ending name g is none =
+    subst (λ (z : Ending). text_of name z ≡ text_of (named command) z) (sym none) refl
+named_text (Err words.Memory) command ending name g is none =
+    subst (λ (z : Ending). text_of name z ≡ text_of (named command) z) (sym none) refl
 
 -- no command of today needs more
 pub needs_no_more : (c : Option CommandTerm) → NeedsMore c → ⊥

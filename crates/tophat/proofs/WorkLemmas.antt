@@ -4,7 +4,7 @@ use Rattle.std.proofs.lemmas.List.{length-replicate}
 use Rattle.std.proofs.KnownBytes.{Appends-nil, Consumes-nil}
 use Rattle.std.specs.Io.KnownBytes.{Appends}
 use Rattle.std.specs.Prelude.{Ok, Err}
-use Rattle.outer_io.specs.Causes.{Rose}
+use Rattle.outer_io.specs.Causes.{Rose, next_count}
 use Rattle.outer_io.specs.Files.{AnswersFile}
 use Rattle.outer_io.specs.Sink.{IsStart}
 use Rattle.outer_io.specs.Sink as sinks
@@ -37,7 +37,8 @@ use Rattle.tophat.specs.Verdict.{Verdict, accepted, refused, IsVerdict, IsOnlyVe
 use Rattle.tophat.specs.Session.{Tells}
 use Rattle.tophat.specs.Top.{Limits, limits, Report, ends, writes, reported, source_of, soak_budget, Opened, world, none, checks, ReportsFile, ReportsOpened, ReportsVerdict, ReportsTold, Reports}
 use Rattle.tophat.specs.Sources.{FindsFile, WritesText, TellsText, ReportsCheck, ReportsInputs}
-use Rattle.tophat.specs.Went.{Heard, Counted, NoneFailed, FailedBy, IsWriteFault, file_faults_after, input_faults_after, output_faults_after}
+use Rattle.tophat.specs.Objects.{Counted, Around}
+use Rattle.tophat.specs.Ended.{Heard, NoneFailed, FailedBy, HasRisen, file_faults_after, input_faults_after, output_faults_after}
 use Rattle.tophat.specs.Worked.{IsFile, IfRan, Writes, HasVerdictAt, HasVerdictAfter, Worked, Opens, OpensBytes, word_ending}
 use Rattle.tophat.specs.SoakReport.{IsSummary}
 use Rattle.tophat.proofs.ReportLemmas.{opens_once, soak_verdict_once}
@@ -352,7 +353,7 @@ refused_tells bytes Memory one = tt
 
 -- the text of a program was written, or a first part of it
 pub check_written : (name : Text) (holds : Option (Option Text)) (bytes : Rowed ℕ) (slice : Text) (left old new : Option Text) (text : Text)
-    (ending : Ending) → slice ≡ bytes.list → FindsFile 1048576 holds (Ok bytes) → TellsText (ReportsCheck slice) (Ok text)
+    (ending : Ending) → slice ≡ bytes.list → FindsFile limits.file holds (Ok bytes) → TellsText (ReportsCheck slice) (Ok text)
     → HasVerdictAfter {A = Text} (Ok text) slice → WritesText old new text ending
     → Worked limits (Some (check name)) holds left left old new ending
 check_written name holds bytes slice left old new text ending same found t h w =
@@ -363,7 +364,7 @@ check_written name holds bytes slice left old new text ending same found t h w =
 
 -- the program isn't accepted, or memory ran out
 pub check_refused : (name : Text) (holds : Option (Option Text)) (bytes : Rowed ℕ) (slice : Text) (left out : Option Text) (why : NoWorld)
-    → slice ≡ bytes.list → FindsFile 1048576 holds (Ok bytes) → TellsText (ReportsCheck slice) (Err why)
+    → slice ≡ bytes.list → FindsFile limits.file holds (Ok bytes) → TellsText (ReportsCheck slice) (Err why)
     → HasVerdictAfter {A = Text} (Err why) slice → Worked limits (Some (check name)) holds left left out out (Unopened why)
 check_refused name holds bytes slice left out why same found t h =
     worked_none limits (Some (check name)) holds (Some bytes.list) bytes.list (ReportsCheck bytes.list) found.0 refl
@@ -404,10 +405,10 @@ soak_tells_none count seed OverBudget o = λ report d.
     soak_verdict_once count seed d.0 report (ends (Unopened OverBudget)) d.2 (none (Unopened OverBudget), o d.0 d.1, refl)
 
 -- ---- ends
-pub heard : (old new : Option Text) (before now : ℕ) (text : Text) (written : Written) → sinks.Wrote old new text written
-    → (written ≡ Failed → Rose before now) → Heard old new before now text
-heard old new before now text Whole w f = record { part = text; start = ([], sym (append-nil text)); took = w; whole = inl refl }
-heard old new before now text Failed w f = record { part = w.0; start = w.1; took = w.2; whole = inr (f refl) }
+pub heard : (sink : Around (Option Text)) (text : Text) (written : Written) → sinks.Wrote sink.before sink.now text written
+    → (written ≡ Failed → Rose sink.faults.before sink.faults.now) → Heard sink text
+heard sink text Whole w f = record { part = text; start = ([], sym (append-nil text)); took = w; whole = inl refl }
+heard sink text Failed w f = record { part = w.0; start = w.1; took = w.2; whole = inr (f refl) }
 
 pub is_read_fault : (ending : Ending) → status_of ending ≡ 5 → (ending ≡ FileFault) ⊎ (ending ≡ Ran finishes.ReadFault)
 is_read_fault FileFault e = inl refl
@@ -417,9 +418,9 @@ is_read_fault (Unopened OverBudget) e = absurd (omega arith)
 is_read_fault (Unopened Memory) e = absurd (omega arith)
 is_read_fault ending e = absurd (omega arith)
 
-pub is_write_fault : (ending : Ending) → status_of ending ≡ 6 → IsWriteFault ending
-is_write_fault (Ran finishes.WriteFault) e = tt
-is_write_fault WriteFault e = tt
+pub is_write_fault : (ending : Ending) → status_of ending ≡ 6 → (ending ≡ Ran finishes.WriteFault) ⊎ (ending ≡ WriteFault)
+is_write_fault (Ran finishes.WriteFault) e = inl refl
+is_write_fault WriteFault e = inr refl
 is_write_fault (Unopened (Refused place refusal)) e = absurd (omega arith)
 is_write_fault (Unopened OverBudget) e = absurd (omega arith)
 is_write_fault (Unopened Memory) e = absurd (omega arith)
@@ -432,6 +433,24 @@ is_usage (Unopened (Refused place refusal)) e = absurd (omega arith)
 is_usage (Unopened OverBudget) e = absurd (omega arith)
 is_usage (Unopened Memory) e = absurd (omega arith)
 is_usage ending e = absurd (omega arith)
+
+-- a count that is one more has risen
+risen : (count : Counted) → count.now ≡ next_count count.before → HasRisen count
+risen count e = subst (λ (z : ℕ). z ≤ count.now) e (omega arith)
+
+-- at an end by a fault the count of that object has risen
+pub files_risen : (ending : Ending) (count : Counted) → count.now ≡ file_faults_after count.before ending → ending ≡ FileFault
+    → HasRisen count
+files_risen ending count c e = risen count (c ∙ ap (file_faults_after count.before) e)
+
+pub input_risen : (ending : Ending) (count : Counted) → count.now ≡ input_faults_after count.before ending → ending ≡ Ran finishes.ReadFault
+    → HasRisen count
+input_risen ending count c e = risen count (c ∙ ap (input_faults_after count.before) e)
+
+pub output_risen : (ending : Ending) (count : Counted) → count.now ≡ output_faults_after count.before ending
+    → (ending ≡ Ran finishes.WriteFault) ⊎ (ending ≡ WriteFault) → HasRisen count
+output_risen ending count c (inl e) = risen count (c ∙ ap (output_faults_after count.before) e)
+output_risen ending count c (inr e) = risen count (c ∙ ap (output_faults_after count.before) e)
 
 -- at an end by no fault none failed
 none_failed : (code status : ℕ) (files input out : Counted) → status ≡ code → (code ≡ 5 → ⊥) → (code ≡ 6 → ⊥) → NoneFailed files

@@ -6,7 +6,10 @@ pub mod SoakReport
 pub mod Top
 pub mod Worked
 pub mod Sources
-pub mod Went
+pub mod Objects
+pub mod Ended
+pub mod Asks
 pub mod Promise
 pub mod Complete
+pub mod Fulfils
 pub mod Replay

@@ -1,10 +1,8 @@
-ghost use Rattle.std.specs.Prelude.{◌≡◌, ◌⊎◌, None, IfSome, MatchOption};
-ghost use Rattle.outer_io.specs.Causes.{Rose};
+ghost use Rattle.std.specs.Prelude.{◌≡◌, None, IfSome, MatchOption};
 ghost use Rattle.command_words.specs.Commands.{command_of};
-ghost use Rattle.tophat.specs.Top.{limits, named, NeedsMore};
-ghost use Rattle.tophat.specs.Went.{FailedBy, Went};
-ghost use Rattle.tophat.specs.Promise.{Promised};
-ghost use Rattle.tophat.specs.Complete.{Completes};
+ghost use Rattle.tophat.specs.Top.{limits, NeedsMore};
+ghost use Rattle.tophat.specs.Objects.{around};
+ghost use Rattle.tophat.specs.Fulfils.{Fulfils};
 
 use crate::work::{named_file, work};
 use command_words::read_command;
@@ -31,41 +29,13 @@ pub fn plain<F: Files, I: Source, O: Sink, E: Sink>(
     ensures other { MatchOption result (NeedsMore (command_of words.now)) (λ _. NeedsMore (command_of words.now) → ⊥) }
     ensures untouched { result ≡ None → (files.new ≡ files.old) × (input.new ≡ input.old) × (out.new ≡ out.old) × (err.new ≡ err.old) }
 
-    // What was written to both sinks, and the status. Where no line was run the input is untouched, and where nothing was to be written
-    // the output.
-    ensures went { IfSome result (λ status. Went limits (command_of words.now) (F.holds files.old (named (command_of words.now)))
-        (I.left input.old) (I.left input.new)
-        (O.taken out.old) (O.taken out.new) (E.taken err.old) (E.taken err.new)
-        (record { before = F.faults files.old; now = F.faults files.new })
-        (record { before = I.faults input.old; now = I.faults input.new })
-        (record { before = O.faults out.old; now = O.faults out.new }) (record { before = E.faults err.old; now = E.faults err.new })
-        (input.new ≡ input.old) (out.new ≡ out.old) status) }
-
-    // Where the objects tell their bytes: the status and the output are the reported ones, or the status is 5, 6 or 8
-    // and the output is the first part of that.
-    ensures told { IfSome result (λ status. Promised limits (command_of words.now) (F.holds files.old (named (command_of words.now)))
-        (I.left input.old) (O.taken out.old) (O.taken out.new) status) }
-
-    // Status 2 comes where the words are outside the grammar, unless memory runs out there, and nowhere else; all is then untouched.
-    ensures usage { IfSome result (λ status. MatchOption (command_of words.now)
-        (((status ≡ 2) ⊎ (status ≡ 8)) × (files.new ≡ files.old) × (input.new ≡ input.old) × (out.new ≡ out.old)) (λ _. status ≡ 2 → ⊥)) }
-
-    // A fault is answered only where a count rose.
-    ensures read_fault { IfSome result (λ status. status ≡ 5 → Rose (F.faults files.old) (F.faults files.new)
-        ⊎ Rose (I.faults input.old) (I.faults input.new)) }
-    ensures write_fault { IfSome result (λ status. status ≡ 6 → Rose (O.faults out.old) (O.faults out.new)) }
-
-    // A call that fails ends the run, and no other end hides it: at 5 one request or read failed, at 6 one write, and else none.
-    ensures faults { IfSome result (λ status. FailedBy status (record { before = F.faults files.old; now = F.faults files.new })
-        (record { before = I.faults input.old; now = I.faults input.new }) (record { before = O.faults out.old; now = O.faults out.new })) }
-
-    // Where the objects tell their bytes and no count rose, a run of an accepted program that opens, on lines that are all in the grammar,
-    // answers every line, at status 0, unless memory runs out.
-    ensures complete { IfSome result (λ status. Completes limits (command_of words.now) (F.holds files.old (named (command_of words.now)))
-        (I.left input.old)
-        (O.taken out.old) (O.taken out.new)
-        (Rose (F.faults files.old) (F.faults files.new) ⊎ (Rose (I.faults input.old) (I.faults input.new)
-        ⊎ Rose (O.faults out.old) (O.faults out.new))) status) }
+    // Else the promise is kept, as `tophat` gives it.
+    ensures answered { IfSome result (Fulfils limits (command_of words.now) (record {
+      files = around F.holds F.faults files.old files.new;
+      input = around I.left I.faults input.old input.new;
+      out = around O.taken O.faults out.old out.new;
+      err = around E.taken E.faults err.old err.new;
+    })) }
 {
     let asked = read_command(alloc, words);
     let ending = work::<F, I, O, Brand>(alloc, &asked, files, input, out, Blank::new(1));

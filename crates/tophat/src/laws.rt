@@ -1,4 +1,4 @@
-ghost use Rattle.std.specs.Prelude.{◌≡◌, ℕ, List, ◌∷◌, Option, Some};
+ghost use Rattle.std.specs.Prelude.{◌≡◌, ◌⊎◌, ◌++◌, ℕ, List, [], ◌∷◌, Option, Some};
 ghost use Rattle.task_model.specs.Terms.Text.{Text};
 ghost use Rattle.task_model.specs.Terms.Tree.{State};
 ghost use Rattle.task_model.specs.Running.Checked.{CheckedTerm};
@@ -9,11 +9,19 @@ ghost use Rattle.task_model.specs.Terms.Item.{ItemTerm, opened};
 ghost use Rattle.task_model.specs.Running.State.{IsLegal, IsPage};
 ghost use Rattle.task_model.specs.declared.widget.Face.TheVariants as faces;
 ghost use Rattle.command_words.specs.Commands.{CommandTerm, run};
-ghost use Rattle.tophat.specs.Verdict.{Verdict, IsVerdict, accepted};
-ghost use Rattle.tophat.specs.Top.{Limits, Report, Reports, ReportsLines, limits, world_at};
+ghost use Rattle.tophat.specs.Ending.{status_of};
+ghost use Rattle.tophat.specs.Verdict.{Verdict, IsVerdict, IsVerdictOf, accepted};
+ghost use Rattle.tophat.specs.Top.{Limits, Report, Reports, ReportsLines, limits, source_of, world_at};
+ghost use Rattle.tophat.specs.Worked.{IfSilent};
+ghost use Rattle.tophat.specs.Promise.{IsCutShort, Promised};
 ghost use Rattle.tophat.specs.Complete.{IsRunnable, ReportsAll, lines_of};
 ghost use Rattle.tophat.specs.Replay.{AskAgain, IsReplayable, replay_script, replayed};
 ghost use Rattle.line_frame.specs.declared.finish.Finish.{Finish};
+ghost use Rattle.line_frame.specs.declared.finish.Finish.TheVariants as finishes;
+ghost use Rattle.tophat.specs.declared.ending.Ending.{Ending};
+ghost use Rattle.tophat.specs.declared.ending.Ending.TheVariants as endings;
+ghost use Rattle.tophat.specs.declared.no_world.NoWorld.TheVariants as reasons;
+ghost use Rattle.tophat.specs.declared.refusal.Refusal.{Refusal};
 
 /// A command has exactly one report on a file, a verdict on its source and a script, and there is one on each first part of a script.
 pub fn one_report()
@@ -46,4 +54,30 @@ pub fn histories_are_replayed()
         IsReplayable limits p budget items seat → IsPage faces.Text (opened p budget ∷ items) seat page →
         Reports limits (Some (run name budget)) (Some (program_text p)) (accepted (typed_program p)) (replay_script items seat)
         (replayed items page) }
+{}
+
+/// Where the objects tell their bytes and the status is none of 5, 6 and 8, it is the reported one, and all that is reported was written.
+pub fn all_was_written()
+    ensures { (l : Limits) (command : Option CommandTerm) (file : Option Text) (script before : Text) (now : Option Text) (status : ℕ) →
+        Promised l command (Some file) (Some script) (Some before) now status → (IsCutShort status → ⊥) → (verdict : Verdict) →
+        IsVerdictOf (source_of command file) verdict → (report : Report) → Reports l command file verdict script report →
+        (status ≡ status_of report.ending) × (now ≡ Some (before ++ report.output)) }
+{}
+
+/// The ends of each status (docs/FORMATS.md, "Statuses"), and where no output is reported: at all ends but those of scripts and written texts.
+pub fn statuses_tell_ends()
+    ensures zero { (ending : Ending) → status_of ending ≡ 0 → (ending ≡ endings.Ran finishes.Done) ⊎ (ending ≡ endings.Wrote) }
+    ensures one { (ending : Ending) → status_of ending ≡ 1 → (place : ℕ) × (refusal : Refusal)
+        × (ending ≡ endings.Unopened (reasons.Refused place refusal)) }
+    ensures two { (ending : Ending) → status_of ending ≡ 2 → ending ≡ endings.Usage }
+    ensures three { (ending : Ending) → status_of ending ≡ 3 → (line : ℕ) × (column : ℕ) × (ending ≡ endings.Ran (finishes.Bad line column)) }
+    ensures four { (ending : Ending) → status_of ending ≡ 4 → ending ≡ endings.Unopened reasons.OverBudget }
+    ensures five { (ending : Ending) → status_of ending ≡ 5 → (ending ≡ endings.FileFault) ⊎ (ending ≡ endings.Ran finishes.ReadFault) }
+    ensures six { (ending : Ending) → status_of ending ≡ 6 → (ending ≡ endings.Ran finishes.WriteFault) ⊎ (ending ≡ endings.WriteFault) }
+    ensures seven { (ending : Ending) → status_of ending ≡ 7 → (ending ≡ endings.Absent) ⊎ ((ending ≡ endings.FileTooLong)
+        ⊎ (ending ≡ endings.Ran finishes.InputTooLong)) }
+    ensures eight { (ending : Ending) → status_of ending ≡ 8 → (ending ≡ endings.Unopened reasons.Memory)
+        ⊎ (ending ≡ endings.Ran finishes.Memory) }
+    ensures silent { (l : Limits) (command : Option CommandTerm) (file : Option Text) (verdict : Verdict) (script : Text) (report : Report)
+        → Reports l command file verdict script report → IfSilent report.ending (report.output ≡ []) }
 {}

@@ -18,7 +18,9 @@ mod verdict;
 mod work;
 
 pub use commands::plain;
-pub use laws::{all_lines_are_answered, histories_are_replayed, one_report};
+pub use laws::{
+    all_lines_are_answered, all_was_written, histories_are_replayed, one_report, statuses_tell_ends,
+};
 pub use no_world::NoWorld;
 pub use opening::open_bytes;
 pub use refusal::Refusal;

@@ -71,12 +71,13 @@ impl<L: Ledger> Runner<L> {
 impl<L: Ledger> Machine for Runner<L> {
     ghost use Rattle.world_core.specs.World.{world_term};
     ghost use Rattle.tophat.specs.Session.{Tells};
+    ghost use Rattle.tophat.specs.Top.{limits};
 
-    ghost LONGEST = { 1048576 };
+    ghost LONGEST = { limits.line };
 
     const LONGEST: usize = LINE_BYTE_LIMIT;
 
-    ghost tells = { λ r. Tells 1048576 (world_term r.world) };
+    ghost tells = { λ r. Tells limits.line (world_term r.world) };
 
     ghost no_lines = { λ _ _ _ _ told. told };
 

@@ -1,17 +1,15 @@
-ghost use Rattle.std.specs.Prelude.{◌≡◌, ◌<◌, Some, Ok, Err, Option, IfErr, IfOk, MatchResult};
-ghost use Rattle.outer_io.specs.Causes.{Rose};
+ghost use Rattle.std.specs.Prelude.{◌≡◌, ◌<◌, Some, Option, IfErr, IfOk, MatchResult};
 ghost use Rattle.task_model.specs.Running.State.{IsBudget};
 ghost use Rattle.command_words.specs.Commands.{CommandTerm, command_term, run, check, soak, IsAsked, IsInRange};
-ghost use Rattle.command_words.specs.declared.stop.WordStop.TheVariants as stops;
 ghost use Rattle.tophat.specs.Top.{limits, named};
 ghost use Rattle.tophat.specs.Worked.{Worked, IfNotRun, IfSilent, RunsBytes, HasVerdictAfter, IsTextEnd, IsRunEnd, word_ending};
 ghost use Rattle.tophat.specs.Sources.{FindsFile, WritesText, TellsText, ReportsCheck};
 ghost use Rattle.task_model.specs.Terms.Text.{Text};
-ghost use Rattle.tophat.specs.Went.{IsWriteFault, file_faults_after, input_faults_after, output_faults_after};
+ghost use Rattle.tophat.specs.Objects.{around};
+ghost use Rattle.tophat.specs.Asks.{AsksFor, AsksOnce};
+ghost use Rattle.tophat.specs.Ended.{file_faults_after, input_faults_after, output_faults_after};
 ghost use Rattle.line_frame.specs.RunFaults.{read_faults_after_run, write_faults_after_run};
-ghost use Rattle.line_frame.specs.declared.finish.Finish.TheVariants as finishes;
 ghost use Rattle.tophat.specs.declared.ending.Ending.TheVariants as endings;
-ghost use Rattle.tophat.specs.declared.no_world.NoWorld.TheVariants as reasons;
 
 use crate::ending::Ending;
 use crate::no_world::NoWorld;
@@ -43,14 +41,12 @@ pub(crate) fn work<F: Files, I: Source, O: Sink, L: Ledger>(
     ensures worked { (command : Option CommandTerm) → IsAsked command asked.now → Worked limits command (F.holds files.old (named command))
         (I.left input.old) (I.left input.new) (O.taken out.old) (O.taken out.new) result }
     ensures usage { IfOk asked.now (λ _. result ≡ endings.Usage → ⊥) }
-    ensures outside { asked.now ≡ Err stops.Outside → result ≡ endings.Usage }
-    ensures memory { asked.now ≡ Err stops.Memory → result ≡ endings.Unopened reasons.Memory }
-    ensures no_command { IfErr asked.now (λ _. files.new ≡ files.old) }
+    ensures no_command { IfErr asked.now (λ stop. result ≡ word_ending stop) }
+    ensures no_request { IfErr asked.now (λ _. files.new ≡ files.old) }
+    ensures asks { IfOk asked.now (λ c. AsksFor limits (command_term c) (around F.holds F.faults files.old files.new)
+        (around I.left I.faults input.old input.new)) }
     ensures not_run { IfNotRun result (input.new ≡ input.old) }
     ensures silent { IfSilent result (out.new ≡ out.old) }
-    ensures file_failed { result ≡ endings.FileFault → Rose (F.faults files.old) (F.faults files.new) }
-    ensures read_failed { result ≡ endings.Ran finishes.ReadFault → Rose (I.faults input.old) (I.faults input.new) }
-    ensures write_failed { IsWriteFault result → Rose (O.faults out.old) (O.faults out.new) }
     ensures file_count { F.faults files.new ≡ file_faults_after (F.faults files.old) result }
     ensures input_count { I.faults input.new ≡ input_faults_after (I.faults input.old) result }
     ensures output_count { O.faults out.new ≡ output_faults_after (O.faults out.old) result }
@@ -99,8 +95,8 @@ pub(crate) fn named_file(asked: &Result<Command, WordStop>) -> &[u8]
 
 // The bytes of the file of this name, or how the command ends.
 fn read_file<F: Files>(alloc: Global, name: &TaskText, files: &mut F) -> Result<Row<u8>, Ending>
-    ensures file { FindsFile 1048576 (F.holds files.old name.now) result }
-    ensures failed { result ≡ Err endings.FileFault → Rose (F.faults files.old) (F.faults files.new) }
+    ensures file { FindsFile limits.file (F.holds files.old name.now) result }
+    ensures asked { AsksOnce limits.file name.now (around F.holds F.faults files.old files.new) }
     ensures count { MatchResult result (λ _. F.faults files.new ≡ F.faults files.old)
         (λ ending. F.faults files.new ≡ file_faults_after (F.faults files.old) ending) }
 {
@@ -129,9 +125,7 @@ fn run_file<F: Files, I: Source, O: Sink, L: Ledger>(
     ensures usage { result ≡ endings.Usage → ⊥ }
     ensures not_run { IfNotRun result ((input.new ≡ input.old) × (out.new ≡ out.old)) }
     ensures no_text { IsTextEnd result → ⊥ }
-    ensures file_failed { result ≡ endings.FileFault → Rose (F.faults files.old) (F.faults files.new) }
-    ensures read_failed { result ≡ endings.Ran finishes.ReadFault → Rose (I.faults input.old) (I.faults input.new) }
-    ensures write_failed { result ≡ endings.Ran finishes.WriteFault → Rose (O.faults out.old) (O.faults out.new) }
+    ensures asked { AsksOnce limits.file name.now (around F.holds F.faults files.old files.new) }
     ensures file_count { F.faults files.new ≡ file_faults_after (F.faults files.old) result }
     ensures input_count { I.faults input.new ≡ input_faults_after (I.faults input.old) result }
     ensures output_count { O.faults out.new ≡ output_faults_after (O.faults out.old) result }
@@ -158,8 +152,6 @@ fn run_bytes<I: Source, O: Sink, L: Ledger>(
     ensures ran { RunsBytes limits budget bytes.now (I.left input.old) (I.left input.new) (O.taken out.old) (O.taken out.new) result }
     ensures verdict_is { HasVerdictAfter result bytes.now }
     ensures not_run { IfErr result (λ _. (input.new ≡ input.old) × (out.new ≡ out.old)) }
-    ensures read_failed { result ≡ Ok finishes.ReadFault → Rose (I.faults input.old) (I.faults input.new) }
-    ensures write_failed { result ≡ Ok finishes.WriteFault → Rose (O.faults out.old) (O.faults out.new) }
     ensures read_count { IfOk result (λ finish. I.faults input.new ≡ read_faults_after_run (I.faults input.old) finish) }
     ensures write_count { IfOk result (λ finish. O.faults out.new ≡ write_faults_after_run (O.faults out.old) finish) }
 {
@@ -183,8 +175,7 @@ fn check_file<F: Files, O: Sink>(
         left left (O.taken out.old) (O.taken out.new) result }
     ensures ends { IsRunEnd result → ⊥ }
     ensures silent { IfSilent result (out.new ≡ out.old) }
-    ensures file_failed { result ≡ endings.FileFault → Rose (F.faults files.old) (F.faults files.new) }
-    ensures write_failed { result ≡ endings.WriteFault → Rose (O.faults out.old) (O.faults out.new) }
+    ensures asked { AsksOnce limits.file name.now (around F.holds F.faults files.old files.new) }
     ensures file_count { F.faults files.new ≡ file_faults_after (F.faults files.old) result }
     ensures output_count { O.faults out.new ≡ output_faults_after (O.faults out.old) result }
 {
@@ -221,7 +212,6 @@ fn soak<O: Sink, L: Ledger>(
     ensures ends { IsRunEnd result → ⊥ }
     ensures no_file { result ≡ endings.FileFault → ⊥ }
     ensures silent { IfSilent result (out.new ≡ out.old) }
-    ensures write_failed { result ≡ endings.WriteFault → Rose (O.faults out.old) (O.faults out.new) }
     ensures output_count { O.faults out.new ≡ output_faults_after (O.faults out.old) result }
 {
     match soaked_text(alloc, count, seed, &mut steps) {
@@ -232,7 +222,6 @@ fn soak<O: Sink, L: Ledger>(
 
 fn write_text<O: Sink>(out: &mut O, text: &TaskText) -> Ending
     ensures wrote { WritesText (O.taken out.old) (O.taken out.new) text.now result }
-    ensures write_failed { result ≡ endings.WriteFault → Rose (O.faults out.old) (O.faults out.new) }
     ensures output_count { O.faults out.new ≡ output_faults_after (O.faults out.old) result }
 {
     match write_all(out, text.as_str().as_bytes()) {

@@ -285,6 +285,27 @@ fn long_lines(rt: HostRuntime) -> Result<(), Fail> {
     Ok(())
 }
 
+// 64 lines of comment of the most bytes, each with its LF, fill a script to its limit; one byte more is too much.
+#[test]
+fn long_scripts(rt: HostRuntime) -> Result<(), Fail> {
+    let comment = between(rt.alloc(), b"\n", (b'#', MOST - 1), (b' ', 0))?;
+    let mut script = Row::new(rt.alloc());
+    for _ in 0..64 {
+        script.extend(comment.as_slice())?;
+    }
+    assert_eq!(rt; script.as_slice().len(), 67_108_864);
+    let table: [(&[u8], u8, &[u8]); 2] = [(b"", 0, b""), (b"#", 7, b"tophat: input too long\n")];
+    for (more, status, err) in table {
+        script.extend(more)?;
+        let case = Case {
+            script: script.as_slice(),
+            ..RUN
+        };
+        expect(&rt, &case, 65_536, (status, b"", err))?;
+    }
+    Ok(())
+}
+
 // How many bytes a source has left, if few.
 fn left<I: Source>(input: &mut I) -> u64 {
     let mut room = [0u8; 64];

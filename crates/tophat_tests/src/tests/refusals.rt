@@ -69,6 +69,14 @@ task main() : int = new r = 1 in edit r
 
 task main() : int = let r = 1 in share r
 = 1 tophat: p.th: byte 33: NotRef
+
+fun f({200 p@ : int, }q : int) : int = 1
+task main() : int = edit 1
+= 1 tophat: p.th: byte 2298: TooManyNames
+
+fun f(x : {64 [}int{64 ]}) : int = 1
+task main() : int = edit 1
+= 1 tophat: p.th: byte 6: BigType
 "#;
 
 /// Lines outside the grammar, a row a line: the column, and the line.
