@@ -1,6 +1,6 @@
 -- When a log of what was overwritten tells that nothing changed.
 use Rattle.std.proofs.Common.{◌≡◌, ◌↔◌, ◌⊎◌, inl, inr, ℕ, zero, suc, ◌<◌, ◌≤◌, Bool, true, false, cond, true≢false, List, [], ◌∷◌, ◌++◌, length, take, drop, get_or, map, Option, Some, None, refl, sym, ap, ◌∙◌, subst, arith, drop-cons}
-use Rattle.std.specs.Prelude.{slice_get, slice_set, ◌==◌}
+use Rattle.std.specs.Prelude.{slice_get, slice_set, ◌==◌, if◌then◌else◌}
 use Rattle.std.specs.Option.{option_map}
 use Rattle.std.proofs.lemmas.List.{length-map}
 use Rattle.std.proofs.lemmas.Bool.Decides.{nat_tests}
@@ -8,7 +8,12 @@ use Rattle.task_model.specs.Terms.Value.{ValueTerm, value_term}
 use Rattle.task_model.specs.declared.value.Value.{Value}
 use Rattle.shared_store.specs.declared.store.Overwritten.{Overwritten}
 use Rattle.shared_store.specs.Log.{rewound}
-use Rattle.task_engine.specs.Writes.{is_written, IsSame, IsRight}
+use Rattle.task_engine.specs.Writes.{IsSame, IsRight}
+
+-- a place is written by one of these
+abbrev pub is_written : List (Overwritten Value) → ℕ → Bool
+is_written [] n = false
+is_written (w ∷ ws) n = if w.place == n then true else is_written ws n
 
 abbrev term_at : List Value → ℕ → Option ValueTerm
 term_at xs n = option_map value_term (slice_get xs n)
@@ -71,6 +76,18 @@ written_more (u ∷ seen) w n = by_test (u.place == n) (written_more seen w n)
     by_test true e = refl
     by_test false e = e
 
+either_first : (a b : Bool) → cond a true b ≡ cond b true a
+either_first true true = refl
+either_first true false = refl
+either_first false true = refl
+either_first false false = refl
+
+-- a set of the places that were written has this one too
+pub told_more : (seen : List (Overwritten Value)) (w : Overwritten Value) (n : ℕ) (old new : Bool) → old ≡ is_written seen n
+    → new ≡ cond (w.place == n) true old → new ≡ is_written (seen ++ w ∷ []) n
+told_more seen w n old new e f =
+    f ∙ ap (cond (w.place == n) true) e ∙ either_first (w.place == n) (is_written seen n) ∙ sym (written_more seen w n)
+
 unwritten : (seen : List (Overwritten Value)) (w : Overwritten Value) (n : ℕ) → is_written (seen ++ w ∷ []) n ≡ false
     → (is_written seen n ≡ false) × ((w.place == n) ≡ false)
 unwritten seen w n e = by_test (is_written seen n) (w.place == n) (sym (written_more seen w n) ∙ e)
@@ -125,10 +142,10 @@ module _ (seen : List (Overwritten Value)) (w : Overwritten Value) (ys xs : List
       let same : value_term u ≡ value_term w.value = cc in
       same
 
-  pub write_up : IsRight w seen xs → SameElsewhere (seen ++ w ∷ []) ys xs → SameElsewhere seen (slice_set ys w.place w.value) xs
+  pub write_up : IsRight w (is_written seen w.place) xs → SameElsewhere (seen ++ w ∷ []) ys xs → SameElsewhere seen (slice_set ys w.place w.value) xs
   write_up right e n un = by_test (w.place == n) refl
     where
-      by_right : IsRight w seen xs → w.place ≡ n → term_at (slice_set ys w.place w.value) n ≡ term_at xs n
+      by_right : IsRight w (is_written seen w.place) xs → w.place ≡ n → term_at (slice_set ys w.place w.value) n ≡ term_at xs n
       by_right (inl h) p = subst (λ k. term_at (slice_set ys w.place w.value) k ≡ term_at xs k) p (there (slice_get xs w.place) refl h)
       by_right (inr h) p = absurd (true≢false (sym h ∙ ap (is_written seen) p ∙ un))
 
@@ -141,10 +158,10 @@ module _ (seen : List (Overwritten Value)) (w : Overwritten Value) (ys xs : List
       let h = unwritten seen w n un in
       sym (ap (option_map value_term) (set_apart ys w.place n w.value h.1)) ∙ e n h.0
 
-  pub write_right : SameElsewhere seen (slice_set ys w.place w.value) xs → IsRight w seen xs
+  pub write_right : SameElsewhere seen (slice_set ys w.place w.value) xs → IsRight w (is_written seen w.place) xs
   write_right e = by_test (is_written seen w.place) refl
     where
-      by_test : (b : Bool) → is_written seen w.place ≡ b → IsRight w seen xs
+      by_test : (b : Bool) → is_written seen w.place ≡ b → IsRight w (is_written seen w.place) xs
       by_test true h = inr h
       by_test false h = inl (back (slice_get xs w.place) refl (e w.place h))
 
@@ -178,7 +195,7 @@ module _ (ws : List (Overwritten Value)) (xs : List Value) (i : ℕ) (w : Overwr
   front : drop i ws ≡ w ∷ drop (suc i) ws
   front = drop-cons ws i w lt ∙ ap (λ z. z ∷ drop (suc i) ws) (sym is)
 
-  pub walk_up : IsRight w (take i ws) xs → Remains ws xs (suc i) → Remains ws xs i
+  pub walk_up : IsRight w (is_written (take i ws) w.place) xs → Remains ws xs (suc i) → Remains ws xs i
   walk_up right e =
       subst (λ l. SameElsewhere (take i ws) (rewound l xs) xs) (sym front)
       (write_up (take i ws) w ys xs (rewound_long (drop (suc i) ws) xs) right
@@ -192,7 +209,7 @@ module _ (ws : List (Overwritten Value)) (xs : List Value) (i : ℕ) (w : Overwr
       subst (λ l. SameElsewhere l ys xs) (sym (take_more ws i w lt is))
       (write_down (take i ws) w ys xs (rewound_long (drop (suc i) ws) xs) (whole e))
 
-  pub walk_right : Remains ws xs i → IsRight w (take i ws) xs
+  pub walk_right : Remains ws xs i → IsRight w (is_written (take i ws) w.place) xs
   walk_right e = write_right (take i ws) w ys xs (rewound_long (drop (suc i) ws) xs) (whole e)
 
 pub walk_end : (ws : List (Overwritten Value)) (xs : List Value) (i : ℕ) → length ws < suc i → Remains ws xs i

@@ -6,3 +6,4 @@ pub mod ChangeLemmas
 pub mod StrideLemmas
 pub mod SignLemmas
 pub mod FittingLemmas
+pub mod QuietLemmas

@@ -170,10 +170,12 @@ asked_judged {c = c} {s = s} {old = old} {new = new} t σ τ τ' (Ok None) r j l
     let same = subst (λ z. IfOk z (λ o. τ' ≡ τ)) j l in
     subst (RunsJudgement c (strides s) (λ o. at (after_stride t o) (map value_term τ')) old new) (sym j)
     (subst (λ ys. RunsJudgement c (strides s) (λ o. at (after_stride t o) (map value_term ys)) old new (Ok None)) (sym same) a)
-asked_judged {c = c} {s = s} {old = old} {new = new} t σ τ τ' (Ok (Some u)) r (inr q) l a =
+asked_judged {c = c} {s = s} {old = old} {new = new} t σ τ τ' (Ok (Some u)) r (inr (inl q)) l a =
     let same = subst (λ z. IfOk z (λ o. τ' ≡ τ)) q.0 l in
     subst (RunsJudgement c (strides s) (λ o. at (after_stride t o) (map value_term τ')) old new) (sym q.0)
     (subst (λ ys. RunsJudgement c (strides s) (λ o. at (after_stride t o) (map value_term ys)) old new (Ok (Some u))) (sym same) a)
+asked_judged {c = c} {s = s} {old = old} {new = new} t σ τ τ' (Ok (Some u)) r (inr (inr e)) l a =
+    subst (RunsJudgement c (strides s) (λ o. at (after_stride t o) (map value_term τ')) old new) (sym e) (record { runs = tt })
 asked_judged {c = c} {s = s} {old = old} {new = new} t σ τ τ' (Ok (Some u)) r (inl q) l a =
     let same = subst (λ z. IfOk z (λ o. τ' ≡ τ)) q.0 l in
     let tree = ap (λ (x : State). x.tree) q.1 in
@@ -198,8 +200,10 @@ judged_none t σ τ (Ok None) r j k =
     subst (λ z. IfOk z (λ o. o ≡ None → map value_term τ ≡ map value_term σ)) (sym j) (λ e. ap (map value_term) (k refl))
 judged_none t σ τ (Ok (Some u)) r (inl q) k =
     subst (λ z. IfOk z (λ o. o ≡ None → map value_term τ ≡ map value_term σ)) (sym q.0) (λ e. ap (λ (x : State). x.store) q.1)
-judged_none t σ τ (Ok (Some u)) r (inr q) k =
+judged_none t σ τ (Ok (Some u)) r (inr (inl q)) k =
     subst (λ z. IfOk z (λ o. o ≡ None → map value_term τ ≡ map value_term σ)) (sym q.0) (λ e. absurd (cc))
+judged_none t σ τ (Ok (Some u)) r (inr (inr e)) k =
+    subst (λ z. IfOk z (λ o. o ≡ None → map value_term τ ≡ map value_term σ)) (sym e) tt
 
 pub judged_some : (t : TreeTerm) (σ τ : List Value) (strode r : Result (Option tree.Tree) Stop) → AnswersStride t σ τ strode r
     → IfOk r (λ o. IfSome o (λ u. at (tree_term u) (map value_term τ) ≡ at t (map value_term σ) → ⊥))
@@ -209,8 +213,10 @@ judged_some t σ τ (Ok None) r j =
     subst (λ z. IfOk z (λ o. IfSome o (λ u. at (tree_term u) (map value_term τ) ≡ at t (map value_term σ) → ⊥))) (sym j) tt
 judged_some t σ τ (Ok (Some u)) r (inl q) =
     subst (λ z. IfOk z (λ o. IfSome o (λ u. at (tree_term u) (map value_term τ) ≡ at t (map value_term σ) → ⊥))) (sym q.0) tt
-judged_some t σ τ (Ok (Some u)) r (inr q) =
+judged_some t σ τ (Ok (Some u)) r (inr (inl q)) =
     subst (λ z. IfOk z (λ o. IfSome o (λ u. at (tree_term u) (map value_term τ) ≡ at t (map value_term σ) → ⊥))) (sym q.0) q.1
+judged_some t σ τ (Ok (Some u)) r (inr (inr e)) =
+    subst (λ z. IfOk z (λ o. IfSome o (λ u. at (tree_term u) (map value_term τ) ≡ at t (map value_term σ) → ⊥))) (sym e) tt
 
 -- ---- the end of a trial's layer
 pub ran_kept : {c : CheckedTerm} {p : Plan (Option State)} {old new : Left} (τ τ' : List Value) (r : Result (Option tree.Tree) Stop)
@@ -276,7 +282,8 @@ pub judged_keeps : (P : Type 0) (t : TreeTerm) (σ τ : List Value) (strode r : 
 judged_keeps P t σ τ (Err e) r j k = subst (λ z. IfOk z (λ o. P)) (sym j) tt
 judged_keeps P t σ τ (Ok None) r j k = subst (λ z. IfOk z (λ o. P)) (sym j) k
 judged_keeps P t σ τ (Ok (Some u)) r (inl q) k = subst (λ z. IfOk z (λ o. P)) (sym q.0) k
-judged_keeps P t σ τ (Ok (Some u)) r (inr q) k = subst (λ z. IfOk z (λ o. P)) (sym q.0) k
+judged_keeps P t σ τ (Ok (Some u)) r (inr (inl q)) k = subst (λ z. IfOk z (λ o. P)) (sym q.0) k
+judged_keeps P t σ τ (Ok (Some u)) r (inr (inr e)) k = subst (λ z. IfOk z (λ o. P)) (sym e) tt
 
 pub none_moved : (σ τ τ' : List Value) (r : Result (Option tree.Tree) Stop) → IfOk r (λ o. τ' ≡ τ)
     → IfOk r (λ o. o ≡ None → map value_term τ ≡ map value_term σ) → IfOk r (λ o. o ≡ None → map value_term τ' ≡ map value_term σ)

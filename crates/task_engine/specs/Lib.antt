@@ -7,3 +7,4 @@ pub mod Fitting
 pub mod TestAnswers
 pub mod Kinds
 pub mod Stores
+pub mod Quiet

@@ -3,6 +3,7 @@ use Rattle.std.specs.Prelude.{◌≡◌, ℕ, List, map, Option, Some, None, Res
 use Rattle.task_model.specs.Terms.Value.{ValueTerm, value_term}
 use Rattle.task_model.specs.declared.value.Value.{Value}
 use Rattle.task_model.specs.declared.purse.Stop.{Stop}
+use Rattle.task_model.specs.declared.purse.Stop.TheVariants.{Memory}
 use Rattle.task_model.specs.Terms.Task.{BodyTerm}
 use Rattle.task_model.specs.Terms.Tree.{LaterTerm, TreeTerm, edit_tree, enter_tree, share_tree, then_tree, next_tree, fail_tree, and_tree, or_tree, xor_tree, tree_term, State, at}
 use Rattle.task_model.specs.Running.Checked.{CheckedTerm}
@@ -49,10 +50,12 @@ Binds c i = (b : BodyTerm) → slice_get c.program.bodies i ≡ Some b → IsSom
 abbrev pub BindsNone : CheckedTerm → ℕ → Type 0
 BindsNone c i = (b : BodyTerm) → slice_get c.program.bodies i ≡ Some b → b.binder ≡ None
 
--- what is answered of a stride from a tree over these values: nothing where tree and values are as they were
+-- what is answered of a stride from a tree over these values: nothing where tree and values are as they were. Whether they are may need
+-- more memory than there is.
 abbrev pub AnswersStride : TreeTerm → List Value → List Value → Result (Option Tree) Stop → Result (Option Tree) Stop → Type 0
 AnswersStride t σ τ (Err s) r = r ≡ Err s
 AnswersStride t σ τ (Ok None) r = r ≡ Ok None
 AnswersStride t σ τ (Ok (Some u)) r =
     ((r ≡ Ok None) × (at (tree_term u) (map value_term τ) ≡ at t (map value_term σ)))
     ⊎ ((r ≡ Ok (Some u)) × (at (tree_term u) (map value_term τ) ≡ at t (map value_term σ) → ⊥))
+    ⊎ (r ≡ Err Memory)

@@ -8,6 +8,7 @@ mod engine;
 mod evaluation;
 mod kept;
 mod kinds;
+mod quiet;
 mod signs;
 mod states;
 mod strode;

@@ -18,12 +18,14 @@ ghost use Rattle.task_engine.specs.Strides.{Calm, after_stride, state_at, attemp
 use crate::engine::{Engine, binder_of};
 use crate::evaluation::evaluate_at;
 use crate::kinds::{PairKind, StepKind};
+use crate::quiet::quiet_value;
 use crate::strode::{or_of, pair_of, step_of, strode_has_value, strode_tree, strode_value};
 use crate::unchanged::is_unchanged;
 use host_eval::Names;
 use shared_store::Store;
+use std::alloc::Global;
 use std::sync::Arc;
-use task_model::{Cont, Delay, Purse, Slot, Stop, Task, Tree, Value};
+use task_model::{Cont, Delay, OutOfMemory, Purse, Slot, Stop, Task, Tree, Value};
 use task_tree::same;
 
 /// Whether a tree is failing. The store stays.
@@ -306,7 +308,8 @@ pub(crate) fn settle_at(
     Ok(u)
 }
 
-// One stride, which answers nothing where it changes neither tree nor store.
+// One stride, which answers nothing where it changes neither tree nor store. A tree in which nothing fires is looked through without the
+// rules.
 #[cycle(engine)]
 fn changing(
     engine: &Engine,
@@ -324,9 +327,33 @@ fn changing(
     ensures asked { RunsJudgement (checked_term engine.now) (strides (state_in store.old t.now)) (state_after (tree_term t.now) store.new)
         purse.old purse.new result }
 {
+    match quiet_value(t, store, purse.height_left()) {
+        Some(_) => Ok(None),
+        None => changing_by_rules(engine, t, store, purse),
+    }
+}
+
+// The same by the rules, under a layer.
+#[cycle(engine)]
+fn changing_by_rules(
+    engine: &Engine,
+    t: &Tree,
+    store: &mut Store<Value>,
+    purse: &mut Purse,
+) -> Result<Option<Tree>, Stop>
+    requires accepted { IsAccepted (checked_term engine.now) }
+    requires may { MayStride engine.now (tree_term t.now) store.old }
+    ensures height { OnOk result (purse.new.height ≡ purse.old.height) }
+    ensures layers { store.new.layers ≡ store.old.layers }
+    ensures none { IfOk result (λ o. o ≡ None → values_in store.new ≡ values_in store.old) }
+    ensures other { IfOk result
+        (λ o. IfSome o (λ u. at (tree_term u) (values_in store.new) ≡ at (tree_term t.now) (values_in store.old) → ⊥)) }
+    ensures asked { RunsJudgement (checked_term engine.now) (strides (state_in store.old t.now)) (state_after (tree_term t.now) store.new)
+        purse.old purse.new result }
+{
     store.begin()?;
     let strode = stride_at(engine, t, store, purse);
-    judged(t, strode, store)
+    judged(engine.alloc(), t, strode, store)
 }
 
 /// One stride. Nothing is answered where nothing fires: the tree and the store are as they were.
@@ -613,6 +640,7 @@ pub(crate) fn apply_at(
 
 // The end of a stride's layer: nothing is answered where tree and values are as they were. After a stop what it wrote is undone.
 fn judged(
+    alloc: Global,
     t: &Tree,
     strode: Result<Option<Tree>, Stop>,
     store: &mut Store<Value>,
@@ -629,9 +657,9 @@ fn judged(
             Ok(None)
         }
         Ok(Some(u)) => {
-            let same = is_same_state(t, &u, store);
+            let same = is_same_state(alloc, t, &u, store);
             store.keep();
-            if same { Ok(None) } else { Ok(Some(u)) }
+            if same? { Ok(None) } else { Ok(Some(u)) }
         }
         Err(stop) => {
             store.drop_layer();
@@ -655,10 +683,16 @@ fn end_trial(attempted: &Result<Option<Tree>, Stop>, store: &mut Store<Value>)
     }
 }
 
-fn is_same_state(t: &Tree, u: &Tree, store: &Store<Value>) -> bool
+fn is_same_state(
+    alloc: Global,
+    t: &Tree,
+    u: &Tree,
+    store: &Store<Value>,
+) -> Result<bool, OutOfMemory>
     requires { 0 < length store.now.layers }
-    ensures { (σ : List values.Value) → slice_get store.now.layers 0 ≡ Some σ → IsTrue result
-        ↔ (at (tree_term u.now) (values_in store.now) ≡ at (tree_term t.now) (map value_term σ)) }
+    ensures { IfOk result (λ same. (σ : List values.Value) → slice_get store.now.layers 0 ≡ Some σ → IsTrue same
+        ↔ (at (tree_term u.now) (values_in store.now) ≡ at (tree_term t.now) (map value_term σ))) }
 {
-    is_unchanged(store) && same(u, t)
+    let unchanged = is_unchanged(alloc, store)?;
+    Ok(unchanged && same(u, t))
 }

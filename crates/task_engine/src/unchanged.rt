@@ -1,50 +1,60 @@
-ghost use Rattle.std.specs.Prelude.{◌≡◌, ◌↔◌, ◌<◌, List, map, length, slice_get, IsTrue, Some};
+ghost use Rattle.std.specs.Prelude.{◌≡◌, ◌↔◌, ◌<◌, List, map, length, slice_get, IfOk, IsTrue, Some, nat_eq};
+ghost use Rattle.std.specs.HashSet.{contains};
 ghost use Rattle.task_model.specs.Terms.Value.{value_term};
 ghost use Rattle.task_model.specs.declared.value.Value.{Value};
 ghost use Rattle.shared_store.specs.Log.{rewound};
-ghost use Rattle.task_engine.specs.Writes as writes;
 ghost use Rattle.task_engine.specs.Writes.{IsAsBefore, IsRight};
 
 use host_eval::same_value;
 use shared_store::{Overwritten, Store};
-use task_model::Value;
+use std::alloc::Global;
+use std::collections::HashSet;
+use task_model::{OutOfMemory, Value};
 
-/// Whether the values are those of the newest layer. It takes no memory.
-pub(crate) fn is_unchanged(store: &Store<Value>) -> bool
+/// Whether the values are those of the newest layer. It looks at each write of the layer once.
+pub(crate) fn is_unchanged(alloc: Global, store: &Store<Value>) -> Result<bool, OutOfMemory>
     requires { 0 < length store.now.layers }
-    ensures { (σ : List Value) → slice_get store.now.layers 0 ≡ Some σ → IsTrue result
-        ↔ (map value_term store.now.list ≡ map value_term σ) }
+    ensures { IfOk result (λ same. (σ : List Value) → slice_get store.now.layers 0 ≡ Some σ → IsTrue same
+        ↔ (map value_term store.now.list ≡ map value_term σ)) }
 {
     let changes = store.changes();
     let values = store.as_slice();
     if changes.count != values.len() as u64 {
-        return false;
+        return Ok(false);
     }
-    are_as_before(changes.overwritten, values)
+    are_as_before(alloc, changes.overwritten, values)
 }
 
 // Whether the values are as before these were overwritten: of each place the first one tells.
-fn are_as_before(overwritten: &[Overwritten<Value>], values: &[Value]) -> bool
-    ensures { IsTrue result ↔ (map value_term (rewound overwritten.now values.now) ≡ map value_term values.now) }
+fn are_as_before(
+    alloc: Global,
+    overwritten: &[Overwritten<Value>],
+    values: &[Value],
+) -> Result<bool, OutOfMemory>
+    ensures { IfOk result (λ same. IsTrue same
+        ↔ (map value_term (rewound overwritten.now values.now) ≡ map value_term values.now)) }
 {
+    let mut told = HashSet::new(alloc);
     let mut i = 0;
     while i < overwritten.len() {
-        if !is_right(&overwritten[i], &overwritten[..i], values) {
-            return false;
+        let entry = &overwritten[i];
+        if !is_right(entry, &told, values) {
+            return Ok(false);
         }
+        told.insert(entry.place)?;
         i += 1;
     }
-    true
+    Ok(true)
 }
 
-// Whether an entry tells nothing new: an earlier one tells of its place, or its value stands there.
-fn is_right(entry: &Overwritten<Value>, earlier: &[Overwritten<Value>], values: &[Value]) -> bool
-    ensures { IsTrue result ↔ IsRight entry.now earlier.now values.now }
+// Whether an entry tells nothing new: an earlier one told of its place, or its value stands there.
+fn is_right(entry: &Overwritten<Value>, told: &HashSet<usize>, values: &[Value]) -> bool
+    ensures { IsTrue result ↔ IsRight entry.now (contains nat_eq told.now entry.now.place) values.now }
 {
     if is_as_before(entry, values) {
         return true;
     }
-    is_written(earlier, entry.place)
+    told.contains(&entry.place)
 }
 
 fn is_as_before(entry: &Overwritten<Value>, values: &[Value]) -> bool
@@ -54,17 +64,4 @@ fn is_as_before(entry: &Overwritten<Value>, values: &[Value]) -> bool
         Some(v) => same_value(v, &entry.value),
         None => true,
     }
-}
-
-fn is_written(overwritten: &[Overwritten<Value>], place: usize) -> bool
-    ensures { result ≡ writes.is_written overwritten.now place }
-{
-    let mut rest = overwritten;
-    while let [entry, more @ ..] = rest {
-        if entry.place == place {
-            return true;
-        }
-        rest = more;
-    }
-    false
 }

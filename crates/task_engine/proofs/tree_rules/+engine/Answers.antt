@@ -18,6 +18,7 @@ use Rattle.host_eval.proofs.WellLemmas.{well_is, well_found}
 use Rattle.typing_laws.proofs.CallLemmas.{well_rule, well_ask, well_next, well_first, well_after, well_known}
 use Rattle.task_engine.specs.Strides.{after_stride}
 use Rattle.task_engine.proofs.StrideLemmas.{may_fail, may_stride, well_fails, well_strides, may_stride_on, well_stride_on, sides_bind, then_binds, side_env, restored, same_store, fired_is, attempt_is, with_some, with_none, asked_judged, ran_kept, judged_none, judged_some, judged_keeps, none_moved, some_moved, none_is, valueless, calm_on, step_calm, ran_strode}
+use Rattle.task_engine.proofs.QuietLemmas.{quiet_runs}
 use Rattle.task_engine.proofs.tree_rules.+engine.Goals as goal
 
 -- ---- under a rule
@@ -298,37 +299,42 @@ stride_all-strides-preserved t c =
           (Some c.in-Some.next) r (rw c.in-Some.is at c.in_ok-changed.ensures.asked) (rw c.in-Some.is at c.in_ok-changed.ensures.other) a);
     }
 
-pub changing-stride_at-strode-requires : goal.changing-stride_at-strode-requires
-changing-stride_at-strode-requires t c =
+pub changing-returns-in-Some-clause-asked : goal.changing-returns-in-Some-clause-asked
+changing-returns-in-Some-clause-asked t c =
+    quiet_runs (checked_term c.args.engine.now) (tree_term c.args.t.now) (map value_term c.args.store.now.list) c.args.purse.now
+    c.height_left.result c.in-Some.field-0 _ refl c.height_left.ensures (c.in-Some.ensures (checked_term c.args.engine.now))
+
+pub changing_by_rules-stride_at-strode-requires : goal.changing_by_rules-stride_at-strode-requires
+changing_by_rules-stride_at-strode-requires t c =
     (search rules, (c.requires.accepted, rw c.in_ok-begin.ensures.list c.requires.may))
 
-pub changing-judged-requires : goal.changing-judged-requires
-changing-judged-requires t c =
+pub changing_by_rules-judged-requires : goal.changing_by_rules-judged-requires
+changing_by_rules-judged-requires t c =
     rw (c.stride_at-strode.ensures.layers, c.in_ok-begin.ensures.ok) (omega arith)
 
-pub changing-returns-clause-layers : goal.changing-returns-clause-layers
-changing-returns-clause-layers t c =
+pub changing_by_rules-returns-clause-layers : goal.changing_by_rules-returns-clause-layers
+changing_by_rules-returns-clause-layers t c =
     c.judged.ensures.layers _ _ (c.stride_at-strode.ensures.layers ∙ c.in_ok-begin.ensures.ok)
 
-pub changing-returns-clause-asked : goal.changing-returns-clause-asked
-changing-returns-clause-asked t c =
+pub changing_by_rules-returns-clause-asked : goal.changing_by_rules-returns-clause-asked
+changing_by_rules-returns-clause-asked t c =
     asked_judged _ _ _ _ _ _ (c.judged.ensures.judged _ _ (c.stride_at-strode.ensures.layers ∙ c.in_ok-begin.ensures.ok))
     c.judged.ensures.list
     (rw c.in_ok-begin.ensures.list at c.stride_at-strode.ensures.asked)
 
-pub changing-returns-clause-height : goal.changing-returns-clause-height
-changing-returns-clause-height t c =
+pub changing_by_rules-returns-clause-height : goal.changing_by_rules-returns-clause-height
+changing_by_rules-returns-clause-height t c =
     judged_keeps (c.stride_at-strode.new.purse.height ≡ c.args.purse.now.height) _ _ _ _ _
     (c.judged.ensures.judged _ _ (c.stride_at-strode.ensures.layers ∙ c.in_ok-begin.ensures.ok)) c.stride_at-strode.ensures.height
 
-pub changing-returns-clause-none : goal.changing-returns-clause-none
-changing-returns-clause-none t c =
+pub changing_by_rules-returns-clause-none : goal.changing_by_rules-returns-clause-none
+changing_by_rules-returns-clause-none t c =
     none_moved _ _ _ _ c.judged.ensures.list (judged_none _ _ _ _ _
     (c.judged.ensures.judged _ _ (c.stride_at-strode.ensures.layers ∙ c.in_ok-begin.ensures.ok))
     (rw c.in_ok-begin.ensures.list at c.stride_at-strode.ensures.kept))
 
-pub changing-returns-clause-other : goal.changing-returns-clause-other
-changing-returns-clause-other t c =
+pub changing_by_rules-returns-clause-other : goal.changing_by_rules-returns-clause-other
+changing_by_rules-returns-clause-other t c =
     some_moved _ _ _ _ _ c.judged.ensures.list
     (judged_some _ _ _ _ _ (c.judged.ensures.judged _ _ (c.stride_at-strode.ensures.layers ∙ c.in_ok-begin.ensures.ok)))
 

@@ -41,11 +41,14 @@ decreases-fired_at l = 8 * l.purse.now.height + 3
 abbrev pub decreases-fired : goal.decreases-fired
 decreases-fired l = 8 * l.purse.now.height + 4
 
+abbrev pub decreases-changing_by_rules : goal.decreases-changing_by_rules
+decreases-changing_by_rules l = 8 * l.purse.now.height + 1
+
 abbrev pub decreases-changing : goal.decreases-changing
-decreases-changing l = 8 * l.purse.now.height + 1
+decreases-changing l = 8 * l.purse.now.height + 2
 
 abbrev pub decreases-stride_all : goal.decreases-stride_all
-decreases-stride_all l = 8 * l.purse.now.height + 2
+decreases-stride_all l = 8 * l.purse.now.height + 3
 
 abbrev pub decreases-both_fail : goal.decreases-both_fail
 decreases-both_fail l = 8 * l.purse.now.height + 4

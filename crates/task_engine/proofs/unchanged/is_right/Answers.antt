@@ -7,6 +7,6 @@ returns-then-is_as_before c = (λ e. inl (c.is_as_before.ensures.0 c.if-is_as_be
 
 pub returns : goal.returns
 returns c = (
-  λ e. inr (sym c.is_written.ensures ∙ e),
-  λ e. c.is_written.ensures ∙ right_or (λ h. true≢false (sym (c.is_as_before.ensures.1 h) ∙ c.if-is_as_before.false)) e,
+  λ e. inr (sym c.contains.ensures ∙ e),
+  λ e. c.contains.ensures ∙ right_or (λ h. true≢false (sym (c.is_as_before.ensures.1 h) ∙ c.if-is_as_before.false)) e,
 )
