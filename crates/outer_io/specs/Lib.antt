@@ -5,3 +5,4 @@ pub mod PlainFiles
 pub mod PlainSource
 pub mod Sink
 pub mod Source
+pub mod SystemCalls

@@ -10,10 +10,14 @@ mod mem_sink;
 mod mem_source;
 mod plain_files;
 mod plain_source;
+mod read_calls;
 mod reader_source;
 mod sink;
 mod source;
+mod system_answer;
 mod system_files;
+mod system_stream;
+mod write_calls;
 mod writer_sink;
 
 pub use files::{FileAnswer, Files};

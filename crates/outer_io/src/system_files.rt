@@ -1,10 +1,10 @@
 ghost use Rattle.std.specs.Prelude.{◌≡◌, ◌≢◌, ◌+◌, ◌≤◌, ◌↔◌, min, IfErr, IfOk, IfSome, IsErrAnd, None, Some, option_map};
 ghost use Rattle.std.specs.IoError.{error_kind};
-ghost use Rattle.outer_io.specs.Files.{AnswersFile, HasAtMost};
+ghost use Rattle.outer_io.specs.Files.{AnswersFile, HasAtMost, faults_after_request};
 
 use crate::files::{FileAnswer, Files};
-use crate::reader_source::read_some;
-use crate::source::Got;
+use crate::reader_source::ReaderSource;
+use crate::source::{Got, Source};
 use std::alloc::Global;
 use std::io::{ErrorKind, Read};
 use std::{fs, io};
@@ -75,7 +75,7 @@ fn read_opened<F: Read + Drop>(alloc: Global, opened: io::Result<F>, limit: u64)
     ensures failed { IfErr opened (λ error. error_kind error ≢ ErrorKind.NotFound → result ≡ FileAnswer.Failed) }
 {
     match opened {
-        Ok(mut file) => read_file(alloc, &mut file, limit),
+        Ok(file) => read_file(alloc, &mut ReaderSource::new(file), limit),
         Err(error) if error.kind() == ErrorKind::NotFound => FileAnswer::Absent,
         Err(_) => FileAnswer::Failed,
     }
@@ -84,18 +84,19 @@ fn read_opened<F: Read + Drop>(alloc: Global, opened: io::Result<F>, limit: u64)
 // How many bytes one read of a file gives at most.
 const ROOM: usize = 65536;
 
-/// Reads a file that was opened to its end, or to the first byte beyond the limit.
-pub fn read_file<F: Read>(alloc: Global, file: &mut F, limit: u64) -> FileAnswer
-    ensures file { AnswersFile (option_map Some (F.remaining file.old)) limit result }
+/// Reads a file to its end, or to the first byte beyond the limit.
+pub fn read_file<I: Source>(alloc: Global, file: &mut I, limit: u64) -> FileAnswer
+    ensures file { AnswersFile (option_map Some (I.left file.old)) limit result }
     ensures within { HasAtMost limit result }
     ensures exists { result ≡ FileAnswer.Absent → ⊥ }
+    ensures exact { I.faults file.new ≡ faults_after_request (I.faults file.old) result }
 {
     let mut bytes = Row::new(alloc);
     let mut room = [0u8; ROOM];
     'file: loop {
         let left = limit - bytes.as_slice().len() as u64;
         let piece = &mut room[..piece_for(left)];
-        match read_some(file, piece) {
+        match file.read(piece) {
             Got::Took(count) if count as u64 > left => return FileAnswer::TooLong,
             Got::Took(count) => {
                 if bytes.extend(&piece[..count]).is_err() {

@@ -1,10 +1,12 @@
-ghost use Rattle.std.specs.Prelude.{◌≡◌, ◌≢◌, ◌==◌, ◌<◌, ◌≤◌, if◌then◌else◌, IfErr, IfOk, None, Some, length};
-ghost use Rattle.std.specs.IoError.{error_kind};
-ghost use Rattle.outer_io.specs.Sink.{Took};
+ghost use Rattle.std.specs.Prelude.{◌≡◌, ◌<◌, ◌≤◌, length};
+ghost use Rattle.outer_io.specs.Causes.{Rose};
+ghost use Rattle.outer_io.specs.Sink.{Took, faults_after_write};
+ghost use Rattle.outer_io.specs.SystemCalls.{IsWriteOf};
 
 use crate::sink::{Put, Sink};
-use std::io;
-use std::io::{ErrorKind, Write};
+use crate::system_stream::SystemStream;
+use crate::write_calls::write_some;
+use std::io::Write;
 
 /// A sink over a writer that keeps nothing back, as the standard output: what a write takes has
 /// reached the system when the write returns. It tells what the writer tells.
@@ -13,7 +15,7 @@ use std::io::{ErrorKind, Write};
 /// fault, and so is a write that takes nothing.
 #[derive(Drop)]
 pub struct WriterSink<W> {
-    inner: W,
+    calls: SystemStream<W>,
     faults: u64,
 }
 
@@ -23,46 +25,30 @@ impl<W: Write> WriterSink<W> {
         ensures taken { ⟦<WriterSink<W> as Sink>⟧.taken result ≡ W.contents inner }
         ensures faults { ⟦<WriterSink<W> as Sink>⟧.faults result ≡ 0 }
     {
-        WriterSink { inner, faults: 0 }
+        WriterSink {
+            calls: SystemStream::new(inner),
+            faults: 0,
+        }
     }
 }
 
 impl<W: Write> Sink for WriterSink<W> {
-    ghost taken = { λ s. W.contents s.inner };
+    ghost taken = { λ s. W.contents s.calls.stream };
 
     ghost faults = { λ s. s.faults };
 
-    fn write(&mut self, piece: &[u8]) -> Put {
-        let put = write_some(&mut self.inner, piece);
+    fn write(&mut self, piece: &[u8]) -> Put
+        requires { 0 < length piece.now }
+        ensures bytes { Took (W.contents self.old.calls.stream) (W.contents self.new.calls.stream) piece.now result }
+        ensures count { self.old.faults ≤ self.new.faults }
+        ensures failed { result ≡ Put.Failed → Rose self.old.faults self.new.faults }
+        ensures exact { self.new.faults ≡ faults_after_write self.old.faults result }
+        ensures told { IsWriteOf self.new.calls.last self.new.calls.interruptions result }
+    {
+        let put = write_some(&mut self.calls, piece);
         if put == Put::Failed {
             self.faults = self.faults.saturating_add(1);
         }
         put
-    }
-}
-
-// Writes the first bytes, and tries again where a signal interrupts the write.
-fn write_some<W: Write>(writer: &mut W, piece: &[u8]) -> Put
-    ensures { Took (W.contents writer.old) (W.contents writer.new) piece.now result }
-{
-    for _ in 0..u64::MAX {
-        if let Some(put) = put_of(writer.write(piece)) {
-            return put;
-        }
-    }
-    Put::Failed
-}
-
-// What a write took. None: a signal interrupted it.
-fn put_of(written: io::Result<usize>) -> Option<Put>
-    ensures ok { IfOk written (λ count. result ≡ Some (if count == 0 then Put.Failed else Put.Took count)) }
-    ensures interrupted { IfErr written (λ error. error_kind error ≡ ErrorKind.Interrupted → result ≡ None) }
-    ensures failed { IfErr written (λ error. error_kind error ≢ ErrorKind.Interrupted → result ≡ Some Put.Failed) }
-{
-    match written {
-        Ok(0) => Some(Put::Failed),
-        Ok(count) => Some(Put::Took(count)),
-        Err(error) if error.kind() == ErrorKind::Interrupted => None,
-        Err(_) => Some(Put::Failed),
     }
 }

@@ -43,11 +43,11 @@ fn a_file_is_read_whole(rt: HostRuntime) {
         (true, 4, "failed"),
         (true, 3, "too long"),
     ] {
-        let mut file = FlakyReader {
+        let mut file = ReaderSource::new(FlakyReader {
             bytes: b"abcd",
             breaks,
             is_quiet: true,
-        };
+        });
         assert_eq!(rt; shown(&read_file(rt.alloc(), &mut file, limit)), want);
     }
 }
