@@ -1,5 +1,4 @@
 pub mod ListLemmas
-pub mod TermLemmas
 pub mod CharacterLemmas
 pub mod EqualLemmas
 pub mod RunLemmas

@@ -22,8 +22,8 @@ use crate::operators::{computed, decider, list_of, operated};
 use crate::unary::Unary;
 use std::alloc::Global;
 use task_model::{
-    Checked, Host, Kind, Op, OutOfMemory, Param, Purse, Reads, Row, Slot, Stop, TaskText, Value,
-    copy_text, shared,
+    Checked, Elements, Host, Kind, Op, OutOfMemory, Param, Purse, Reads, Row, Slot, Stop, TaskText,
+    Value, copy_text, shared,
 };
 
 /// The value of an expression. `Over` comes where no derivation is within the purse.
@@ -97,7 +97,7 @@ fn value_form<R: Reads>(
         }
         Host::Pair(a, b) => pair_form(alloc, checked, a, b, names, reads, purse),
         Host::List(items) => list_form(alloc, checked, items.as_slice(), names, reads, purse),
-        Host::Nil(_) => Ok(Value::List(shared(alloc, Row::new(alloc))?)),
+        Host::Nil(_) => Ok(Value::List(Elements::of(alloc, Row::new(alloc))?)),
         Host::Neg(a) => unary_form(alloc, checked, Unary::Neg, a, names, reads, purse),
         Host::Not(a) => unary_form(alloc, checked, Unary::Not, a, names, reads, purse),
         Host::Fst(a) => unary_form(alloc, checked, Unary::First, a, names, reads, purse),
@@ -329,7 +329,7 @@ fn case_form<R: Reads>(
         (R.values reads.now)) value_term purse.old purse.new result }
 {
     let v = value_at(alloc, checked, list, names, reads, purse)?;
-    let parts = HeadAndTail::of(alloc, &v)?;
+    let parts = HeadAndTail::of(&v)?;
     match parts {
         None => value_at(alloc, checked, empty, names, reads, purse),
         Some(parts) => {

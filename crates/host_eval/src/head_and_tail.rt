@@ -1,11 +1,11 @@
 ghost use Rattle.std.specs.Prelude.{◌≡◌, map, IfOk, IsSome, Some};
 ghost use Rattle.std.specs.Option.{option_map};
+ghost use Rattle.task_model.specs.Terms.Elements.{elements};
 ghost use Rattle.task_model.specs.Terms.Value.{list_value, as_values, value_term};
 ghost use Rattle.host_eval.specs.ValueWords as words;
 ghost use Rattle.host_eval.specs.HeadAndTail.{head_and_tail};
 
-use std::alloc::Global;
-use task_model::{OutOfMemory, Value, copy_value, copy_values, shared};
+use task_model::{Elements, OutOfMemory, Value, copy_value};
 
 /// The first element of a list, and the list of the others.
 #[derive(Drop)]
@@ -15,27 +15,26 @@ pub struct HeadAndTail {
 }
 
 impl HeadAndTail {
-    /// The parts of a list, or none where it is empty. The tail is a new list of shared values.
-    pub fn of(alloc: Global, list: &Value) -> Result<Option<HeadAndTail>, OutOfMemory>
+    /// The parts of a list, or none where it is empty. They stand in the list's memory.
+    pub fn of(list: &Value) -> Result<Option<HeadAndTail>, OutOfMemory>
         requires fits { IsSome (words.list_parts (value_term list.now)) }
         ensures { IfOk result (λ o. words.list_parts (value_term list.now) ≡ Some (option_map head_and_tail o)) }
     {
         match list {
-            Value::List(items) => Ok(HeadAndTail::of_items(alloc, items.as_slice())?),
+            Value::List(items) => Ok(HeadAndTail::of_elements(items)?),
             _ => unreachable!(),
         }
     }
 
-    fn of_items(alloc: Global, items: &[Value]) -> Result<Option<HeadAndTail>, OutOfMemory>
-        ensures { IfOk result (λ o. words.list_parts (list_value (as_values (map value_term items.now)))
+    fn of_elements(items: &Elements<Value>) -> Result<Option<HeadAndTail>, OutOfMemory>
+        ensures { IfOk result (λ o. words.list_parts (list_value (as_values (map value_term (elements items.now))))
             ≡ Some (option_map head_and_tail o)) }
     {
-        let [first, rest @ ..] = items else {
+        let [first, ..] = items.as_slice() else {
             return Ok(None);
         };
         let head = copy_value(first)?;
-        let rest = shared(alloc, copy_values(alloc, rest)?)?;
-        let tail = Value::List(rest);
+        let tail = Value::List(items.rest()?);
         Ok(Some(HeadAndTail { head, tail }))
     }
 }

@@ -9,7 +9,6 @@ mod lookups;
 mod named;
 mod names;
 mod operators;
-mod same;
 mod unary;
 
 pub use definitions::function_named;
@@ -18,5 +17,4 @@ pub use head_and_tail::HeadAndTail;
 pub use lookups::{place_named, truth};
 pub use names::{Links, Names};
 pub use operators::{computed, decider, list_of, operated};
-pub use same::{same_value, same_values};
 pub use unary::Unary;

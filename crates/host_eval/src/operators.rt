@@ -1,14 +1,15 @@
-ghost use Rattle.std.specs.Prelude.{◌≡◌, ◌∷◌, ◌++◌, map, IfOk, IsSome, Some};
+ghost use Rattle.std.specs.Prelude.{◌≡◌, ◌∷◌, ◌++◌, map, take, IfOk, IsSome, Some};
 ghost use Rattle.task_model.specs.Syntax.Characters.{cut_text};
 ghost use Rattle.task_model.specs.Terms.Value.{text_value, value_term};
 ghost use Rattle.task_model.specs.Running.Operators as rules;
 ghost use Rattle.host_eval.specs.ValueWords as words;
 
 use crate::characters::{characters, cut_join};
-use crate::same::same_value;
 use crate::unary::Unary;
 use std::alloc::Global;
-use task_model::{LIST_ELEMENT_LIMIT, Op, OutOfMemory, Row, TaskText, Value, copy_value, shared};
+use task_model::{
+    Elements, LIST_ELEMENT_LIMIT, Op, OutOfMemory, Row, TaskText, Value, copy_value, same_value,
+};
 
 /// What a form with one operand gives.
 pub fn computed(form: Unary, v: &Value) -> Result<Value, OutOfMemory>
@@ -136,14 +137,24 @@ fn consed(alloc: Global, v: &Value, w: &Value) -> Result<Value, OutOfMemory>
 fn prepended(alloc: Global, v: &Value, items: &[Value]) -> Result<Value, OutOfMemory>
     ensures { IfOk result (λ w. value_term w ≡ rules.list_of (value_term v.now ∷ map value_term items.now)) }
 {
+    let kept = kept_behind_one(items);
     let mut all = Row::new(alloc);
+    all.reserve(kept.len() + 1)?;
     all.push(copy_value(v)?)?;
-    let mut rest = items;
-    while let [item, more @ ..] = rest {
+    for item in kept {
         all.push(copy_value(item)?)?;
-        rest = more;
     }
     list_of(alloc, all)
+}
+
+// Those that a list keeps behind one in front of all.
+fn kept_behind_one(items: &[Value]) -> &[Value]
+    ensures { result.now ≡ take 1023 items.now }
+{
+    if items.len() < LIST_ELEMENT_LIMIT {
+        return items;
+    }
+    &items[..LIST_ELEMENT_LIMIT - 1]
 }
 
 /// Values as a list value, of which the first 1,024 are kept.
@@ -151,7 +162,7 @@ pub fn list_of(alloc: Global, mut items: Row<Value>) -> Result<Value, OutOfMemor
     ensures { IfOk result (λ w. value_term w ≡ rules.list_of (map value_term items.list)) }
 {
     items.truncate(LIST_ELEMENT_LIMIT);
-    Ok(Value::List(shared(alloc, items)?))
+    Ok(Value::List(Elements::of(alloc, items)?))
 }
 
 fn joined_texts(alloc: Global, v: &Value, w: &Value) -> Result<Value, OutOfMemory>

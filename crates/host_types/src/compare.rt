@@ -1,26 +1,11 @@
-ghost use Rattle.std.specs.Prelude.{◌≡◌, ◌↔◌, ◌+◌, ◌<◌, IsTrue, nat_le, MatchOption, MatchResult};
+ghost use Rattle.std.specs.Prelude.{◌≡◌, ◌+◌, ◌<◌, nat_le, MatchOption, MatchResult};
 ghost use Rattle.task_model.specs.Terms.Basic.{basic_term};
 ghost use Rattle.task_model.specs.Checking.TypeParts.{symbols_of};
 ghost use Rattle.task_model.specs.Checking.TypeFault.{sized, compared, IsMet};
 ghost use Rattle.host_types.specs.Answer.{IsStop};
 
 use crate::fault::CheckStop;
-use task_model::{Basic, TYPE_SYMBOL_LIMIT, TypeKind, copy_basic};
-
-/// Whether two types are the same. It stops at the first difference, and takes no memory.
-pub fn same_basic(a: &Basic, b: &Basic) -> bool
-    ensures { IsTrue result ↔ (basic_term a.now ≡ basic_term b.now) }
-{
-    match (a, b) {
-        (Basic::Unit, Basic::Unit) => true,
-        (Basic::Bool, Basic::Bool) => true,
-        (Basic::Int, Basic::Int) => true,
-        (Basic::Text, Basic::Text) => true,
-        (Basic::Pair(a, b), Basic::Pair(c, d)) => same_basic(a, c) && same_basic(b, d),
-        (Basic::List(a), Basic::List(b)) => same_basic(a, b),
-        _ => false,
-    }
-}
+use task_model::{Basic, TYPE_SYMBOL_LIMIT, TypeKind, copy_basic, same_basic};
 
 /// How many of so many symbols a type leaves, if it has no more.
 fn spare_symbols(basic: &Basic, most: usize) -> Option<usize>

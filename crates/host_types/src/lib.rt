@@ -15,7 +15,6 @@ mod operators;
 mod tasks;
 
 pub use checking::check;
-pub use compare::same_basic;
 pub use fault::CheckStop;
 pub use laws::{
     examples, met_is_typed, met_task_is_typed, typed_is_met, typed_task_is_met, types_are_counted,

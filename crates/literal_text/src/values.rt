@@ -2,7 +2,8 @@ ghost use Rattle.std.specs.Prelude.{◌≤◌, None, Some};
 ghost use Rattle.exact_reading.specs.Reading.{Right, seen, Always};
 ghost use Rattle.task_model.specs.Terms.Basic.{basic_term};
 ghost use Rattle.task_model.specs.Terms.Value.{value_term};
-ghost use Rattle.literal_text.specs.LiteralReading.{Lit, ListLiteral, NoElements, Elements, UnitLiteral, UnitEnd, PairEnd, BoolLiteral, NoBlank, Ends, want_of, fewest, fewest_levels};
+ghost use Rattle.literal_text.specs.LiteralReading.{Lit, ListLiteral, NoElements, UnitLiteral, UnitEnd, PairEnd, BoolLiteral, NoBlank, Ends, want_of, fewest, fewest_levels};
+ghost use Rattle.literal_text.specs.LiteralReading as literals;
 
 use crate::ints::int;
 use crate::texts::text;
@@ -11,7 +12,7 @@ use crate::words::{begins, word};
 use exact_reading::{ParseStop, unexpected};
 use std::alloc::Global;
 use std::sync::Arc;
-use task_model::{Basic, LIST_ELEMENT_LIMIT, Row, Value};
+use task_model::{Basic, Elements, LIST_ELEMENT_LIMIT, Row, Value};
 
 /// A literal of what is wanted, of at most so many levels.
 #[cycle(value)]
@@ -136,7 +137,7 @@ fn elements<'a>(
     bytes: &'a [u8],
 ) -> Result<(Value, &'a [u8]), ParseStop>
     requires { fewest (want_of item) ≤ room }
-    ensures { Right (Elements (want_of item.entry) room) Always NoBlank bytes.now (seen (λ r. (value_term r.0, r.1.now)) result) }
+    ensures { Right (literals.Elements (want_of item.entry) room) Always NoBlank bytes.now (seen (λ r. (value_term r.0, r.1.now)) result) }
 {
     let mut items = Vec::new(alloc);
     let (first, mut rest) = value(alloc, item, room, bytes)?;
@@ -151,14 +152,20 @@ fn elements<'a>(
         rest = after;
     }
     let rest = word(rest, b"]")?;
-    Ok((Value::List(Arc::new(alloc, Row::of_vec(items))?), rest))
+    let Ok(items) = Elements::of(alloc, Row::of_vec(items)) else {
+        return Err(ParseStop::Memory);
+    };
+    Ok((Value::List(items), rest))
 }
 
 fn no_elements(alloc: Global, bytes: &[u8]) -> Result<(Value, &[u8]), ParseStop>
     ensures { Right NoElements Always NoBlank bytes.now (seen (λ r. (value_term r.0, r.1.now)) result) }
 {
     let rest = word(bytes, b"]")?;
-    Ok((Value::List(Arc::new(alloc, Row::new(alloc))?), rest))
+    let Ok(none) = Elements::of(alloc, Row::new(alloc)) else {
+        return Err(ParseStop::Memory);
+    };
+    Ok((Value::List(none), rest))
 }
 
 fn unit(bytes: &[u8]) -> Result<(Value, &[u8]), ParseStop>

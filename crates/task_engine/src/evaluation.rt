@@ -323,7 +323,7 @@ fn case_form(
         purse.old purse.new result }
 {
     let v = host_value(engine, list, names, store, purse)?;
-    let parts = HeadAndTail::of(engine.alloc(), &v)?;
+    let parts = HeadAndTail::of(&v)?;
     match parts {
         None => evaluate_at(engine, empty, names, store, purse),
         Some(parts) => {

@@ -5,11 +5,10 @@ ghost use Rattle.task_model.specs.declared.value.Value.{Value};
 ghost use Rattle.shared_store.specs.Log.{rewound};
 ghost use Rattle.task_engine.specs.Writes.{IsAsBefore, IsRight};
 
-use host_eval::same_value;
 use shared_store::{Overwritten, Store};
 use std::alloc::Global;
 use std::collections::HashSet;
-use task_model::{OutOfMemory, Value};
+use task_model::{OutOfMemory, Value, same_value};
 
 /// Whether the values are those of the newest layer. It looks at each write of the layer once.
 pub(crate) fn is_unchanged(alloc: Global, store: &Store<Value>) -> Result<bool, OutOfMemory>

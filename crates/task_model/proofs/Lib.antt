@@ -1,4 +1,5 @@
 pub mod RowLemmas
+pub mod TermLemmas
 pub mod DemandLemmas
 pub mod BodyCounts
 pub mod BodyLemmas

@@ -4,6 +4,7 @@ pub mod Loans
 pub mod Left
 pub mod Text
 pub mod Basic
+pub mod Elements
 pub mod Value
 pub mod Env
 pub mod Host

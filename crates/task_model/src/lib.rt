@@ -4,6 +4,7 @@
 
 mod basic;
 mod checked;
+mod elements;
 mod env;
 mod has;
 mod hex;
@@ -22,6 +23,7 @@ mod program_copies;
 mod purse;
 mod reads;
 mod row;
+mod same;
 mod scope;
 mod steps;
 mod stops;
@@ -38,6 +40,7 @@ mod widget;
 
 pub use basic::Basic;
 pub use checked::Checked;
+pub use elements::Elements;
 pub use env::{Env, Slot};
 pub use has::value_has;
 pub use hex::hex_value;
@@ -60,6 +63,7 @@ pub use program_copies::{copy_host, copy_program, copy_task};
 pub use purse::{Purse, Stop};
 pub use reads::Reads;
 pub use row::Row;
+pub use same::{same_basic, same_value};
 pub use scope::{Scope, copy_scope};
 pub use steps::Steps;
 pub use stops::ActStop;
@@ -71,5 +75,5 @@ pub use tree_copies::{copy_cont, copy_delay, copy_tree};
 pub use turns::Turns;
 pub use type_kind::TypeKind;
 pub use value::Value;
-pub use value_copies::{copy_basic, copy_slots, copy_texts, copy_value, copy_values};
+pub use value_copies::{copy_basic, copy_slots, copy_texts, copy_value};
 pub use widget::{Face, Shape, Sign, Widget};

@@ -1,4 +1,4 @@
-use crate::row::Row;
+use crate::elements::Elements;
 use crate::text::TaskText;
 use std::sync::Arc;
 
@@ -10,5 +10,5 @@ pub enum Value {
     Int(i64),
     Text(TaskText),
     Pair(Arc<Value>, Arc<Value>),
-    List(Arc<Row<Value>>),
+    List(Elements<Value>),
 }

@@ -1,6 +1,6 @@
-ghost use Rattle.std.specs.Prelude.{◌≡◌, IfOk, map};
+ghost use Rattle.std.specs.Prelude.{◌≡◌, IfOk, IsOk, map};
 ghost use Rattle.task_model.specs.Terms.Basic.{basic_term};
-ghost use Rattle.task_model.specs.Terms.Value.{value_term};
+ghost use Rattle.task_model.specs.Terms.Value.{value_term, IsImmediate};
 ghost use Rattle.task_model.specs.Terms.Env.{slot_term};
 
 use crate::basic::Basic;
@@ -30,7 +30,8 @@ pub fn copy_basic(b: &Basic) -> Result<Basic, OutOfMemory>
 
 /// An equal value, in the same memory.
 pub fn copy_value(v: &Value) -> Result<Value, OutOfMemory>
-    ensures { IfOk result (λ copy. value_term copy ≡ value_term v.now) }
+    ensures copy { IfOk result (λ copy. value_term copy ≡ value_term v.now) }
+    ensures immediate { IsImmediate (value_term v.now) → IsOk result }
 {
     match v {
         Value::Unit => Ok(Value::Unit),
@@ -41,20 +42,8 @@ pub fn copy_value(v: &Value) -> Result<Value, OutOfMemory>
             let first = share(first)?;
             Ok(Value::Pair(first, share(second)?))
         }
-        Value::List(items) => Ok(Value::List(share(items)?)),
+        Value::List(items) => Ok(Value::List(items.copy()?)),
     }
-}
-
-/// Equal values, in order.
-pub fn copy_values(alloc: Global, values: &[Value]) -> Result<Row<Value>, OutOfMemory>
-    ensures { IfOk result (λ copies. map value_term copies.list ≡ map value_term values.now) }
-{
-    let mut copies = Row::new(alloc);
-    copies.reserve(values.len())?;
-    for v in values {
-        copies.push(copy_value(v)?)?;
-    }
-    Ok(copies)
 }
 
 /// Equal texts, in order.

@@ -4,8 +4,8 @@ use std::alloc::Global;
 use std::process::Abort;
 use std::test::Fail;
 use task_model::{
-    Basic, LIST_ELEMENT_LIMIT, OutOfMemory, Row, TEXT_BYTE_LIMIT, TaskText, Value, copy_value,
-    shared, value_has,
+    Basic, Elements, LIST_ELEMENT_LIMIT, OutOfMemory, Row, TEXT_BYTE_LIMIT, TaskText, Value,
+    copy_value, shared, value_has,
 };
 
 fn text_of(alloc: Global, length: usize) -> Result<Value, OutOfMemory> {
@@ -21,7 +21,7 @@ fn bools_of(alloc: Global, length: usize) -> Result<Value, OutOfMemory> {
     for _ in 0..length {
         items.push(Value::Bool(true))?;
     }
-    Ok(Value::List(shared(alloc, items)?))
+    Ok(Value::List(Elements::of(alloc, items)?))
 }
 
 // Whether the value has the type, and a copy of it has.
@@ -46,5 +46,19 @@ fn texts_and_lists_have_limits(rt: HostRuntime) -> Result<(), Fail> {
         let list = bools_of(rt.alloc(), LIST_ELEMENT_LIMIT + beyond)?;
         assert_has(&rt, &list, &bools, want)?;
     }
+    Ok(())
+}
+
+#[test]
+fn rests_of_elements(rt: HostRuntime) -> Result<(), Fail> {
+    let alloc = rt.alloc();
+    let all = Elements::of(alloc, Row::of_vec(vec![in alloc; 7, 8, 9]?))?;
+    let rest = all.rest()?;
+    assert_eq!(rt; rest.as_slice(), [8, 9].as_slice());
+    let last = rest.copy()?.rest()?;
+    assert_eq!(rt; last.as_slice(), [9].as_slice());
+    let none = last.rest()?.rest()?;
+    assert_eq!(rt; none.as_slice().len(), 0);
+    assert_eq!(rt; all.as_slice(), [7, 8, 9].as_slice());
     Ok(())
 }

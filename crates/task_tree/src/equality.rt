@@ -3,9 +3,7 @@ ghost use Rattle.task_model.specs.Terms.Value.{value_term};
 ghost use Rattle.task_model.specs.Terms.Env.{slot_term};
 ghost use Rattle.task_model.specs.Terms.Tree.{cont_term, delay_term, tree_term};
 
-use host_eval::same_value;
-use host_types::same_basic;
-use task_model::{Cont, Delay, Slot, Tree};
+use task_model::{Cont, Delay, Slot, Tree, same_basic, same_value};
 
 fn same_slot(a: &Slot, b: &Slot) -> bool
     ensures { IsTrue result ↔ (slot_term a.now ≡ slot_term b.now) }

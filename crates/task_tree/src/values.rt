@@ -1,8 +1,9 @@
-ghost use Rattle.std.specs.Prelude.{◌≡◌, slice_get, IfOk};
+ghost use Rattle.std.specs.Prelude.{◌≡◌, slice_get, IfOk, IsOk};
 ghost use Rattle.std.specs.Option.{is_some, option_map};
+ghost use Rattle.task_model.specs.Terms.Basic.{BasicTerm};
 ghost use Rattle.task_model.specs.Terms.Value as terms;
-ghost use Rattle.task_model.specs.Terms.Value.{value_term};
-ghost use Rattle.task_model.specs.Terms.Tree.{tree_term};
+ghost use Rattle.task_model.specs.Terms.Value.{ValueTerm, value_term, IsImmediate};
+ghost use Rattle.task_model.specs.Terms.Tree.{tree_term, edit_tree};
 ghost use Rattle.task_model.specs.Running.Rules as rules;
 
 use std::alloc::Global;
@@ -25,9 +26,11 @@ pub fn has_value<R: Reads>(t: &Tree, store: &R) -> bool
     }
 }
 
-/// The value that a tree has over a store. Its parts are shared, so only pairs take memory.
+/// The value that a tree has over a store. Its parts are shared, so only pairs take memory, and an editor of unit, bool or int
+/// always has one.
 pub fn value<R: Reads>(alloc: Global, t: &Tree, store: &R) -> Result<Option<Value>, OutOfMemory>
-    ensures { IfOk result (λ v. option_map value_term v ≡ rules.value_of (tree_term t.now) (R.values store.now)) }
+    ensures value { IfOk result (λ v. option_map value_term v ≡ rules.value_of (tree_term t.now) (R.values store.now)) }
+    ensures immediate { (b : BasicTerm) (v : ValueTerm) → tree_term t.now ≡ edit_tree b v → IsImmediate v → IsOk result }
 {
     match t {
         Tree::Edit(_, v) => Ok(Some(copy_value(v)?)),

@@ -1,6 +1,6 @@
 -- Values as plain terms: no pointers and no spare room. Two values are equal where their terms are (docs/LANGUAGE.md, "Types and
 -- values"; docs/RULES.md, "Inputs").
-use Rattle.std.specs.Prelude.{ℕ, ℤ, suc, Bool, true, false, nat_le, List, [], ◌∷◌, length, if◌then◌else◌}
+use Rattle.std.specs.Prelude.{ℕ, ℤ, zero, suc, Bool, true, false, nat_le, List, [], ◌∷◌, length, if◌then◌else◌}
 use Rattle.task_model.specs.Terms.Text.{Text}
 use Rattle.task_model.specs.Terms.Basic.{BasicTerm, unit_type, bool_type, int_type, text_type, pair_type, list_type}
 use Rattle.task_model.specs.declared.value.Value as value
@@ -23,6 +23,12 @@ abbrev pub as_values : List ValueTerm → ValueTerms
 as_values [] = no_values
 as_values (v ∷ vs) = more_values v (as_values vs)
 
+-- the elements behind the first so many
+abbrev pub later_values : ℕ → ValueTerms → ValueTerms
+later_values zero vs = vs
+later_values (suc n) no_values = no_values
+later_values (suc n) (more_values v vs) = later_values n vs
+
 abbrev mutual
   -- the term of a value
   pub value_term : value.Value → ValueTerm
@@ -31,11 +37,20 @@ abbrev mutual
   value_term (value.Int i) = int_value i
   value_term (value.Text t) = text_value t
   value_term (value.Pair' p a q b) = pair_value (value_term a) (value_term b)
-  value_term (value.List' p shape row) = list_value (row_values row)
+  value_term (value.List' p shape row from) = list_value (later_values from (row_values row))
 
   pub row_values : {m : _} → value.Row_of-Value m → ValueTerms
   row_values value.end_of-Value = no_values
   row_values (value.more_of-Value v rest) = more_values (value_term v) (row_values rest)
+
+-- a value that stands in one place, so that a copy of it takes no memory
+abbrev pub IsImmediate : ValueTerm → Type 0
+IsImmediate unit_value = Unit {0}
+IsImmediate (bool_value b) = Unit {0}
+IsImmediate (int_value i) = Unit {0}
+IsImmediate (text_value t) = ⊥
+IsImmediate (pair_value v w) = ⊥
+IsImmediate (list_value vs) = ⊥
 
 -- how many elements
 abbrev pub count_of : ValueTerms → ℕ

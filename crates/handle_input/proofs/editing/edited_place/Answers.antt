@@ -6,4 +6,4 @@ use Rattle.handle_input.proofs.editing.edited_place.Goals as goal
 pub returns-clause-written : goal.returns-clause-written
 returns-clause-written c =
     let list = ap (map value_term) c.in_ok-set.ensures.ok ∙ map-set value_term c.args.store.now.list _ _ in
-    rw (← c.in-Some.ensures.put, c.in_ok-b.ensures, list, c.in_ok-copy_value.ensures) refl
+    rw (← c.in-Some.ensures.put, c.in_ok-b.ensures, list, c.in_ok-copy_value.ensures.copy) refl

@@ -2,7 +2,6 @@ use Rattle.std.proofs.Common.{◌≡◌, Some, map, Bool, true, false, ap, ◌�
 use mathlib.Core.Bool.{beq}
 use Rattle.std.specs.Prelude.{slice_get}
 use Rattle.task_model.specs.Running.Operators.{same_bool}
-use Rattle.task_model.specs.Terms.Rowed.{Rowed}
 use Rattle.task_model.specs.declared.value.Value as value
 use Rattle.task_model.specs.Terms.Value.{list_value, as_values, value_term}
 use Rattle.task_model.specs.Terms.Env.{plain_slot, EnvTerm}
@@ -106,10 +105,10 @@ pub value_form-returns-in-List-clause-ran : goal.value_form-returns-in-List-clau
 value_form-returns-in-List-clause-ran g t c =
     ran_arm _ _ (ap host_term c.in-List.is ∙ host_term-List c.in-List.items) (rw c.as_slice-in-List.ensures at c.list_form.ensures.ran)
 
-pub value_form-returns-in_ok-shared-in-Nil-clause-ran : goal.value_form-returns-in_ok-shared-in-Nil-clause-ran
-value_form-returns-in_ok-shared-in-Nil-clause-ran g t c =
-    let none = ap (λ (r : Rowed value.Value). r.list) c.in_ok-shared-in-Nil.ensures ∙ c.new.ensures.list in
-    rw c.in-Nil.is (ran_give (value_term-List c.in_ok-shared-in-Nil.field-0 ∙ ap (λ l. list_value (as_values (map value_term l))) none))
+pub value_form-returns-in_ok-of-in-Nil-clause-ran : goal.value_form-returns-in_ok-of-in-Nil-clause-ran
+value_form-returns-in_ok-of-in-Nil-clause-ran g t c =
+    let none = c.in_ok-of-in-Nil.ensures ∙ c.new.ensures.list in
+    rw c.in-Nil.is (ran_give (value_term-List c.in_ok-of-in-Nil.field-0 ∙ ap (λ l. list_value (as_values (map value_term l))) none))
 
 pub value_form-pair_form-requires : goal.value_form-pair_form-requires
 value_form-pair_form-requires g t c =

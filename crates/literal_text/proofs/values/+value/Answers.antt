@@ -3,7 +3,6 @@ use Rattle.std.proofs.lemmas.Result.{err_from_is_err_and}
 use Rattle.std.proofs.lemmas.List.{length-map}
 use Rattle.task_model.specs.Terms.Text.{Text}
 use Rattle.task_model.specs.Terms.Basic.{BasicTerm, basic_term, pair_type, list_type}
-use Rattle.task_model.specs.Terms.Rowed.{Rowed}
 use Rattle.task_model.specs.Terms.Value.{ValueTerm, value_term, pair_value, list_value, as_values}
 use Rattle.task_model.specs.declared.value.Value as value_type
 use Rattle.task_model.proofs.RowLemmas.{value_term-List}
@@ -186,8 +185,8 @@ pub elements-returns : goal.elements-returns
 elements-returns t c =
     let few : length (map value_term c.loop-items.items.items) ≤ 1024 = let m = length-map c.loop-items.items.items value_term in
     let le = c.loop-items.invariant.few in omega (arith, m, le) in
-    let all = ap (λ (r : Rowed value_type.Value). r.list) c.in_ok-new.ensures.ok ∙ c.of_vec.ensures.list in
-    same_answer (sym (value_term-List c.in_ok-new.field-0 ∙ ap (λ l. list_value (as_values (map value_term l))) all))
+    let all = c.in-Ok.ensures ∙ c.of_vec.ensures.list in
+    same_answer (sym (value_term-List c.in-Ok.items ∙ ap (λ l. list_value (as_values (map value_term l))) all))
     (c.loop-items.invariant.goes_on _ (lists.close _ _ few c.loop-items-test.ensures (literals.word_right c.in_ok-rest.ensures)))
 
 -- ---- by the wanted type

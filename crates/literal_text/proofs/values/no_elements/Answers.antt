@@ -1,7 +1,5 @@
 use Rattle.std.proofs.Common.{ap, sym, ◌∙◌, map}
 use Rattle.std.proofs.lemmas.Result.{err_from_is_err_and}
-use Rattle.task_model.specs.Terms.Rowed.{Rowed}
-use Rattle.task_model.specs.declared.value.Value as value
 use Rattle.task_model.specs.Terms.Value.{value_term, list_value, as_values}
 use Rattle.task_model.proofs.RowLemmas.{value_term-List}
 use Rattle.exact_reading.proofs.Productions.{same_answer}
@@ -16,6 +14,6 @@ returns-in_err-rest c =
 
 pub returns : goal.returns
 returns c =
-    let none = ap (λ (r : Rowed value.Value). r.list) c.in_ok-new.ensures.ok ∙ c.new.ensures.list in
-    same_answer (sym (value_term-List c.in_ok-new.field-0 ∙ ap (λ l. list_value (as_values (map value_term l))) none))
+    let none = c.in-Ok.ensures ∙ c.new.ensures.list in
+    same_answer (sym (value_term-List c.in-Ok.none ∙ ap (λ l. list_value (as_values (map value_term l))) none))
     (no_elements (word_right c.in_ok-rest.ensures))

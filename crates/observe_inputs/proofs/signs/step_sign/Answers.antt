@@ -7,5 +7,5 @@ use Rattle.observe_inputs.proofs.signs.step_sign.Goals as goal
 pub test_next-requires : goal.test_next-requires
 test_next-requires g c = record {
   fits = step_fits _ _ _ _ _ c.requires.fits
-      (sym c.in_ok-v.ensures ∙ ap (option_map value_term) c.in-Some.is);
+      (sym c.in_ok-v.ensures.value ∙ ap (option_map value_term) c.in-Some.is);
 }

@@ -1,6 +1,6 @@
 use Rattle.std.proofs.Common.{◌≡◌, ◌<◌, length, arith, true≢false, sym, ◌∙◌}
 use Rattle.task_model.specs.Terms.Env.{slot_term}
-use Rattle.host_eval.proofs.TermLemmas.{differ_at}
+use Rattle.task_model.proofs.TermLemmas.{differ_at}
 use Rattle.task_tree.proofs.equality.same_slots.Goals as goal
 
 pub returns-then-not-same_slot : goal.returns-then-not-same_slot

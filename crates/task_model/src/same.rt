@@ -1,9 +1,26 @@
 ghost use Rattle.std.specs.Prelude.{◌≡◌, ◌↔◌, IsTrue, map};
+ghost use Rattle.task_model.specs.Terms.Basic.{basic_term};
 ghost use Rattle.task_model.specs.Terms.Value.{value_term};
 
-use task_model::Value;
+use crate::basic::Basic;
+use crate::value::Value;
 
-/// Whether two values are equal.
+/// Whether two types are the same. It stops at the first difference, and takes no memory.
+pub fn same_basic(a: &Basic, b: &Basic) -> bool
+    ensures { IsTrue result ↔ (basic_term a.now ≡ basic_term b.now) }
+{
+    match (a, b) {
+        (Basic::Unit, Basic::Unit) => true,
+        (Basic::Bool, Basic::Bool) => true,
+        (Basic::Int, Basic::Int) => true,
+        (Basic::Text, Basic::Text) => true,
+        (Basic::Pair(a, b), Basic::Pair(c, d)) => same_basic(a, c) && same_basic(b, d),
+        (Basic::List(a), Basic::List(b)) => same_basic(a, b),
+        _ => false,
+    }
+}
+
+/// Whether two values are equal. It stops at the first difference, and takes no memory.
 #[cycle(same)]
 pub fn same_value(a: &Value, b: &Value) -> bool
     ensures { IsTrue result ↔ (value_term a.now ≡ value_term b.now) }
@@ -19,9 +36,9 @@ pub fn same_value(a: &Value, b: &Value) -> bool
     }
 }
 
-/// Whether two lists have equal values, one by one.
+// Whether two lists have equal values, one by one.
 #[cycle(same)]
-pub fn same_values(xs: &[Value], ys: &[Value]) -> bool
+fn same_values(xs: &[Value], ys: &[Value]) -> bool
     ensures { IsTrue result ↔ (map value_term xs.now ≡ map value_term ys.now) }
 {
     if xs.len() != ys.len() {
