@@ -1,5 +1,5 @@
 -- A list that begins a history: its prefix of that version.
-use Rattle.std.proofs.Common.{◌≡◌, ◌≢◌, ℕ, zero, suc, ◌+◌, ◌≤◌, List, [], ◌∷◌, ◌++◌, refl, sym, ap, ◌∙◌, subst, arith}
+use Rattle.std.proofs.Common.{◌≡◌, ◌≢◌, ℕ, zero, suc, ◌≤◌, List, [], ◌∷◌, ◌++◌, refl, sym, ap, ◌∙◌, subst, arith}
 use mathlib.Core.List.{IsPrefix}
 use Rattle.task_model.specs.Terms.Item.{ItemTerm, opened, took}
 use Rattle.task_model.specs.Running.State.{version_of, AreEntries, IsLegal, history_prefix}

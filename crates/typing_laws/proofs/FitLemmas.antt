@@ -52,6 +52,7 @@ module _ (Σ Σ' : List BasicTerm) (g : Grows Σ Σ') where
           body = h.body;
           is = h.is;
           scope = h.scope;
+          part = h.part;
           names = h.names;
           slots = slots_grow k.slots h.scope h.slots;
           inner = h.inner;

@@ -19,6 +19,7 @@ use Rattle.task_model.specs.Running.Plan.{normal}
 use Rattle.task_model.specs.Checking.Typing.{HaveTypes}
 use Rattle.task_model.specs.Running.State.{IsOpening, LeadTo, IsReached}
 use Rattle.task_model.specs.Checking.Accepted.{IsAccepted}
+use Rattle.task_model.specs.Checking.Parts.{task_part, of_opening}
 use Rattle.task_model.specs.Checking.Fits.{any_call, StateHas}
 use Rattle.host_types.proofs.TypingLemmas.{first, second, no_unmet, demanded_true}
 use Rattle.typing_laws.specs.Assumed.{IsListed, EvaluationFits, main_type}
@@ -86,6 +87,7 @@ module _ (c : CheckedTerm) (accepted : IsAccepted c) where
       let params = main_params c.program 0 0 c.program.defs met d t is what in
       record {
         scope = [];
+        part = of_opening [] (task_part (call_task main_name [])) refl refl;
         fits = record {
           typed = (
             d,

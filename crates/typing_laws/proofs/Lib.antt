@@ -15,3 +15,4 @@ pub mod RuleLemmas
 pub mod HandlingLemmas
 pub mod HistoryLemmas
 pub mod CallLemmas
+mod TypedPartLemmas

@@ -1,5 +1,6 @@
 -- What may be evaluated, and the bodies of a task that stands in a program.
 use Rattle.std.proofs.Common.{◌≡◌, ℕ, ◌+◌, List, [], ◌∷◌, ◌++◌, drop, Option, Some, None, refl, sym, ap, ◌∙◌, subst}
+use Rattle.std.specs.Prelude.{slice_get}
 use Rattle.std.specs.List.{All}
 use Rattle.std.proofs.lemmas.List.{map-append}
 use Rattle.std.proofs.lemmas.List.Elements.{All-head, All-tail}
@@ -7,8 +8,8 @@ use Rattle.task_model.specs.Terms.Text.{Text}
 use Rattle.task_model.specs.Terms.Basic.{BasicTerm}
 use Rattle.task_model.specs.Terms.Value.{ValueTerm}
 use Rattle.task_model.specs.Terms.Env.{SlotTerm, plain_slot, EnvTerm}
-use Rattle.task_model.specs.Terms.Task.{TaskTerm, xor_task}
-use Rattle.task_model.specs.Terms.Program.{plain_kind, ParamTerm}
+use Rattle.task_model.specs.Terms.Task.{TaskTerm, xor_task, BodyTerm}
+use Rattle.task_model.specs.Terms.Program.{plain_kind, ParamTerm, ProgramTerm}
 use Rattle.task_model.specs.Running.Checked.{CheckedTerm, Start, starts_in, nodes_of, body_nodes, counts_of, param_names, names_with}
 use Rattle.task_model.specs.Checking.Names.{bind_value}
 use Rattle.task_model.specs.Running.Rules.{later}
@@ -17,6 +18,7 @@ use Rattle.task_model.specs.Checking.TypeOf.{listed_types, task_type}
 use Rattle.task_model.specs.Checking.TaskDemands.{bodies_in_place}
 use Rattle.task_model.specs.Checking.TaskTyping.{HasTask}
 use Rattle.task_model.specs.Checking.Placed.{Placed}
+use Rattle.task_model.specs.Checking.Parts.{Part, task_part, body_part, in_scope, task_of_body, body_parts, type_there, parts_in, IsPart, inside}
 use Rattle.task_model.specs.Checking.Fits.{StoreHas, SlotsHave, EnvHas, any_call, TaskFits, BindsAs, LaterHas}
 use Rattle.task_laws.proofs.ParseLemmas.{both}
 use Rattle.host_types.proofs.CountLemmas.{counted}
@@ -27,6 +29,27 @@ use Rattle.typing_laws.proofs.FitLemmas.{slots_push}
 use Rattle.typing_laws.proofs.UniqueLemmas.{task_type_is}
 use Rattle.typing_laws.proofs.PartLemmas.{drop_first, drop_second, all_first, all_second, step_there, sides_there, body_nodes_are, types_are}
 use Rattle.typing_laws.proofs.ValueLemmas.{types_at}
+
+-- ---- parts
+-- what stands in a part is one
+pub part_of : {p : ProgramTerm} {s : List ParamTerm} {q : Part} (k : ℕ) (s' : List ParamTerm) (q' : Part) → IsPart p s q
+    → slice_get (parts_in p s q) k ≡ Some (in_scope s' q') → IsPart p s' q'
+part_of {s = s} {q = q} k s' q' h e = inside s q k (in_scope s' q') s' q' h e refl refl
+
+body_task : (s : List ParamTerm) (o : Option Text) (a : Option BasicTerm) (inner : List ParamTerm) (t : TaskTerm) → BindsAs s o a inner
+    → slice_get (task_of_body s o a t) 0 ≡ Some (in_scope inner (task_part t))
+body_task s None None inner t h = ap (λ z. Some (in_scope z (task_part t))) (sym h)
+body_task s (Some x) (Some a) inner t h = ap (λ z. Some (in_scope z (task_part t))) (sym h)
+body_task s None (Some a) inner t h = absurd h
+body_task s (Some x) None inner t h = absurd h
+
+-- and so is the task of a body
+pub part_of_body : (p : ProgramTerm) (s : List ParamTerm) (j : ℕ) (a : Option BasicTerm) (d : BodyTerm) (inner : List ParamTerm)
+    → IsPart p s (body_part j a) → slice_get p.bodies j ≡ Some d → BindsAs s d.binder a inner → IsPart p inner (task_part d.task)
+part_of_body p s j a d inner h is binds =
+    part_of 0 inner (task_part d.task) h
+    (subst (λ z. slice_get (body_parts s a z) 0 ≡ Some (in_scope inner (task_part d.task))) (sym is)
+    (body_task s d.binder a inner d.task binds))
 
 -- ---- the names of a body's task, and its slots
 pub names_bound : (s : List ParamTerm) (xs : List Text) (o : Option Text) (a : Option BasicTerm) (inner : List ParamTerm)
@@ -61,9 +84,9 @@ module _ (c : CheckedTerm) where
   Typed s t b = HasTask (any_call c.program) s t b
 
   pub evaluation : (Σ : List BasicTerm) (t : TaskTerm) (env : EnvTerm) (σ : List ValueTerm) (s : List ParamTerm) (b : BasicTerm)
-      → TaskFits c s env.first (placed_task t) b → StandsIn c.program env.names env.first t → EnvHas Σ env s → StoreHas σ Σ
-      → EvaluationFits c (types_at Σ b) t env σ
-  evaluation Σ t env σ s b f g n h = record { scope = s; fits = f; stands = g; names = n; store = h }
+      → IsPart c.program s (task_part t) → TaskFits c s env.first (placed_task t) b → StandsIn c.program env.names env.first t
+      → EnvHas Σ env s → StoreHas σ Σ → EvaluationFits c (types_at Σ b) t env σ
+  evaluation Σ t env σ s b q f g n h = record { scope = s; part = q; fits = f; stands = g; names = n; store = h }
 
   -- ---- two parts, the second behind the first
   pub two_fit : (s s' : List ParamTerm) (n : ℕ) (t u : TaskTerm) (xs : List Text) (a d : BasicTerm) (behind : List BasicTerm)
@@ -97,13 +120,14 @@ module _ (c : CheckedTerm) where
 
   -- ---- a step, and its body
   pub step_parts : (Σ : List BasicTerm) (t : TaskTerm) (j : ℕ) (env : EnvTerm) (σ : List ValueTerm) (s : List ParamTerm) (b : BasicTerm)
+      → IsPart c.program s (task_part t) → IsPart c.program s (body_part j (Some (type_there c.program s t)))
       → TaskFits c s env.first (step_over (placed_task t) (full_body_numbered 0 (bodies_in_place c.program) j)) b
       → Placed env.names (step_over (placed_task t) (full_body_numbered 0 (bodies_in_place c.program) j))
       → All (IsListed c.program)
       (starts_in c.program env.first t ++ record { body = j; first = env.first + nodes_of c.program t } ∷ [])
       → SidesBindNothing c.program t → TaskTextsAreShort t → EnvHas Σ env s → StoreHas σ Σ
       → (a : BasicTerm) × EvaluationFits c (types_at Σ a) t env σ × LaterHas c Σ (later j env) (Some a) b
-  step_parts Σ t j env σ s b f p starts sides texts n h =
+  step_parts Σ t j env σ s b left right f p starts sides texts n h =
       let T = placed_task t in
       let o = full_body_numbered 0 (bodies_in_place c.program) j in
       let there = step_there env.names T o p in
@@ -117,7 +141,7 @@ module _ (c : CheckedTerm) where
       let front = starts_in c.program env.first t in
       let start : Start = record { body = j; first = env.first + nodes_of c.program t } in (
         a,
-        evaluation Σ t env σ s a
+        evaluation Σ t env σ s a left
             (record { typed = typed.1; behind = us ++ f.behind; lists = drop_first ts us f.behind c.types env.first lists })
             (record {
               placed = placed.0;
@@ -130,6 +154,7 @@ module _ (c : CheckedTerm) where
           body = there.body;
           is = there.is;
           scope = s;
+          part = subst (λ z. IsPart c.program s (body_part j (Some z))) (sym (task_type_is (any_call c.program) s T a typed.1)) right;
           names = placed.1 ∙ n.names;
           slots = n.slots;
           inner = bind_value s there.name a;
@@ -148,9 +173,10 @@ module _ (c : CheckedTerm) where
 
   -- ---- both sides of a choice
   pub side_parts : (Σ : List BasicTerm) (j k : ℕ) (env : EnvTerm) (s : List ParamTerm) (b : BasicTerm)
+      → IsPart c.program s (task_part (xor_task j k))
       → TaskFits c s env.first (placed_task (xor_task j k)) b → StandsIn c.program env.names env.first (xor_task j k) → EnvHas Σ env s
       → LaterHas c Σ (later j env) None b × LaterHas c Σ (later k env) None b
-  side_parts Σ j k env s b f g n =
+  side_parts Σ j k env s b q f g n =
       let all = bodies_in_place c.program in
       let there = sides_there env.names (full_body_numbered 0 all j) (full_body_numbered 0 all k) g.placed in
       let same = both sides_of there.first there.second in
@@ -168,6 +194,7 @@ module _ (c : CheckedTerm) where
           body = there.left;
           is = there.first;
           scope = s;
+          part = part_of 0 s (body_part j None) q refl;
           names = placed.0 ∙ n.names;
           slots = n.slots;
           inner = s;
@@ -180,6 +207,7 @@ module _ (c : CheckedTerm) where
           body = there.right;
           is = there.second;
           scope = s;
+          part = part_of 1 s (body_part k None) q refl;
           names = placed.2 ∙ n.names;
           slots = n.slots;
           inner = s;

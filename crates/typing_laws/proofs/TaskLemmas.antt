@@ -13,6 +13,7 @@ use Rattle.task_model.specs.Checking.Names.{bind_value, bind_place, kind_in, nam
 use Rattle.task_model.specs.Running.Plan.{give, ask, evaluates}
 use Rattle.task_model.specs.Running.Rules.{later, later_by, bound, exprs_of, slots_for, evaluate_rule}
 use Rattle.task_model.specs.Checking.TypeOf.{type_of}
+use Rattle.task_model.specs.Checking.Parts.{task_part, body_part, what_part, type_there, IsPart, of_definition}
 use Rattle.task_model.specs.Checking.Fits.{StoreHas, SlotsHave, EnvHas, any_call, TaskFits, TreeHas}
 use Rattle.typing_laws.specs.Assumed.{Typing, Grows, Kept, StandsIn, EvaluationFits, Assumed, Guaranteed}
 use Rattle.typing_laws.specs.ProgramFacts.{ProgramFacts}
@@ -22,7 +23,7 @@ use Rattle.typing_laws.proofs.FitLemmas.{grows_same, grows_on, env_grows, later_
 use Rattle.typing_laws.proofs.UniqueLemmas.{case_scope, type_is}
 use Rattle.typing_laws.proofs.PartLemmas.{drop_head}
 use Rattle.typing_laws.proofs.ValueLemmas.{types_at, Goes, good_known, good_place, good_chosen, good_matched, fitting, good_slots}
-use Rattle.typing_laws.proofs.StandLemmas.{placed_task, listed, evaluation, two_fit, two_stand, step_parts, side_parts}
+use Rattle.typing_laws.proofs.StandLemmas.{part_of, placed_task, listed, evaluation, two_fit, two_stand, step_parts, side_parts}
 
 exprs_are : (es : List HostTerm) → exprs_of (as_exprs es) ≡ es
 exprs_are [] = refl
@@ -49,7 +50,7 @@ module _ (c : CheckedTerm) where
 
   -- a part, and then another in the store that it leaves
   good_two : (Σ : List BasicTerm) (t u : TaskTerm) (env : EnvTerm) (σ : List ValueTerm) (s : List ParamTerm) (a d b : BasicTerm)
-      (join : TreeTerm → TreeTerm → TreeTerm)
+      (join : TreeTerm → TreeTerm → TreeTerm) → IsPart c.program s (task_part t) → IsPart c.program s (task_part u)
       → TaskFits c s env.first (placed_task c t) a × TaskFits c s (env.first + nodes_of c.program t) (placed_task c u) d
       → StandsIn c.program env.names env.first t × StandsIn c.program env.names (env.first + nodes_of c.program t) u
       → EnvHas Σ env s → StoreHas σ Σ
@@ -57,12 +58,12 @@ module _ (c : CheckedTerm) where
       → Goes c (ask (evaluates t env σ)
       (λ s. ask (evaluates u (later_by (nodes_of c.program t) env) s.store) (λ s'. give (at (join s.tree s'.tree) s'.store))))
       (Keeps Σ b)
-  good_two Σ t u env σ s a d b join f g n h r = (
+  good_two Σ t u env σ s a d b join left right f g n h r = (
     types_at Σ a,
-    evaluation c Σ t env σ s a f.0 g.0 n h,
+    evaluation c Σ t env σ s a left f.0 g.0 n h,
     λ x hx. (
       types_at hx.0 d,
-      evaluation c hx.0 u (later_by (nodes_of c.program t) env) x.store s d f.1 g.1
+      evaluation c hx.0 u (later_by (nodes_of c.program t) env) x.store s d right f.1 g.1
           (moved hx.0 (nodes_of c.program t) env s (env_grows Σ hx.0 hx.1 env s n)) hx.2.store,
       λ y hy. (
         hy.0,
@@ -107,12 +108,15 @@ module _ (c : CheckedTerm) where
         (λ vs hv. (
           types_at i.places d.def.result,
           evaluation c i.places calls.body (record { names = param_names d.def.params; slots = vs; first = there.first }) σ d.def.params
-              d.def.result there.fits there.stands (record { names = refl; slots = hv }) h.store,
+              d.def.result (of_definition d.def.params (task_part calls.body) f d calls.first refl (sym (ap what_part calls.task)))
+              there.fits there.stands (record { names = refl; slots = hv }) h.store,
           λ s hs. subst (λ b. Keeps i.places b s) (sym h.fits.typed.2) hs,
         )))
     evaluate_good i (then_task t j) env σ h =
         let g = h.stands in
-        let k = step_parts c i.places t j env σ h.scope i.type h.fits g.placed g.starts g.sides g.texts h.names h.store in (
+        let k = step_parts c i.places t j env σ h.scope i.type (part_of 0 h.scope (task_part t) h.part refl)
+        (part_of 1 h.scope (body_part j (Some (type_there c.program h.scope t))) h.part refl)
+        h.fits g.placed g.starts g.sides g.texts h.names h.store in (
           types_at i.places k.0,
           k.1,
           λ s hs. keep_with i.places k.0 i.type s (then_tree s.tree (later j env)) hs
@@ -120,7 +124,9 @@ module _ (c : CheckedTerm) where
         )
     evaluate_good i (next_task t j) env σ h =
         let g = h.stands in
-        let k = step_parts c i.places t j env σ h.scope i.type h.fits g.placed g.starts g.sides g.texts h.names h.store in (
+        let k = step_parts c i.places t j env σ h.scope i.type (part_of 0 h.scope (task_part t) h.part refl)
+        (part_of 1 h.scope (body_part j (Some (type_there c.program h.scope t))) h.part refl)
+        h.fits g.placed g.starts g.sides g.texts h.names h.store in (
           types_at i.places k.0,
           k.1,
           λ s hs. keep_with i.places k.0 i.type s (next_tree s.tree (later j env)) hs
@@ -129,20 +135,22 @@ module _ (c : CheckedTerm) where
     evaluate_good i (and_task t u) env σ h =
         let (a, d, is, p, q) = h.fits.typed in
         let g = h.stands in
-        good_two i.places t u env σ h.scope a d i.type and_tree
+        good_two i.places t u env σ h.scope a d i.type and_tree (part_of 0 h.scope (task_part t) h.part refl)
+        (part_of 1 h.scope (task_part u) h.part refl)
         (two_fit c h.scope h.scope env.first t u env.names a d h.fits.behind h.fits.lists g.placed.0 p q)
         (two_stand c env.names env.names env.first t u g.placed.0 g.placed.1 g.starts g.sides g.texts) h.names h.store
         (λ Σ' v w hv hw. (a, d, is, hv, hw))
     evaluate_good i (or_task t u) env σ h =
         let (p, q) = h.fits.typed in
         let g = h.stands in
-        good_two i.places t u env σ h.scope i.type i.type i.type or_tree
+        good_two i.places t u env σ h.scope i.type i.type i.type or_tree (part_of 0 h.scope (task_part t) h.part refl)
+        (part_of 1 h.scope (task_part u) h.part refl)
         (two_fit c h.scope h.scope env.first t u env.names i.type i.type h.fits.behind h.fits.lists g.placed.0 p q)
         (two_stand c env.names env.names env.first t u g.placed.0 g.placed.1 g.starts g.sides g.texts) h.names h.store
         (λ Σ' v w hv hw. (hv, hw))
     evaluate_good i (xor_task j k) env σ h =
         keep i.places i.type (xor_tree (later j env) (later k env)) σ h.store
-        (side_parts c i.places j k env h.scope i.type h.fits h.stands h.names)
+        (side_parts c i.places j k env h.scope i.type h.part h.fits h.stands h.names)
     evaluate_good i (let_task x e t) env σ h =
         let (a, p, q) = h.fits.typed in
         let g = h.stands in (
@@ -151,6 +159,8 @@ module _ (c : CheckedTerm) where
           λ v hv. (
             i,
             evaluation c i.places t (bound env x (plain_slot v)) σ (bind_value h.scope x a) i.type
+                (subst (λ z. IsPart c.program (bind_value h.scope x z) (task_part t)) (sym (type_is (any_call c.program) h.scope e a p))
+                (part_of 1 (bind_value h.scope x (type_of c.program.defs h.scope e)) (task_part t) h.part refl))
                 (record {
                   typed = q;
                   behind = h.fits.behind;
@@ -169,13 +179,18 @@ module _ (c : CheckedTerm) where
         let stand = two_stand c env.names env.names env.first t u g.placed.0 g.placed.1 g.starts g.sides (g.texts.1, g.texts.2) in (
           types_at i.places bool_type,
           fitting c i.places e env σ None h.scope bool_type p g.texts.0 h.names h.store,
-          λ v hv. good_chosen c v _ _ (Kept c i) hv
-              (i, evaluation c i.places t env σ h.scope i.type fits.0 stand.0 h.names h.store, λ s hs. hs) (
-                i,
-                evaluation c i.places u (later_by (nodes_of c.program t) env) σ h.scope i.type fits.1 stand.1
-                    (moved i.places (nodes_of c.program t) env h.scope h.names) h.store,
-                λ s hs. hs,
-              ),
+          λ v hv. good_chosen c v _ _ (Kept c i) hv (
+            i,
+            evaluation c i.places t env σ h.scope i.type (part_of 1 h.scope (task_part t) h.part refl)
+                fits.0 stand.0 h.names h.store,
+            λ s hs. hs,
+          ) (
+            i,
+            evaluation c i.places u (later_by (nodes_of c.program t) env) σ h.scope i.type
+                (part_of 2 h.scope (task_part u) h.part refl) fits.1 stand.1
+                (moved i.places (nodes_of c.program t) env h.scope h.names) h.store,
+            λ s hs. hs,
+          ),
         )
     evaluate_good i (case_task e t x y u) env σ h =
         let (a, d, is, p, q, r) = h.fits.typed in
@@ -191,11 +206,16 @@ module _ (c : CheckedTerm) where
         let later_env = later_by (nodes_of c.program t) env in (
           types_at i.places d,
           fitting c i.places e env σ None h.scope d p g.texts.0 h.names h.store,
-          λ v hv. good_matched c v a _ _ (Kept c i) (subst (Has v) is hv)
-              (i, evaluation c i.places t env σ h.scope i.type fits.0 stand.0 h.names h.store, λ s hs. hs)
+          λ v hv. good_matched c v a _ _ (Kept c i) (subst (Has v) is hv) (
+            i,
+            evaluation c i.places t env σ h.scope i.type (part_of 1 h.scope (task_part t) h.part refl)
+                fits.0 stand.0 h.names h.store,
+            λ s hs. hs,
+          )
               (λ head tail hh ht. (
                 i,
-                evaluation c i.places u (bound (bound later_env x (plain_slot head)) y (plain_slot tail)) σ inner i.type fits.1 stand.1
+                evaluation c i.places u (bound (bound later_env x (plain_slot head)) y (plain_slot tail)) σ inner i.type
+                    (subst (λ z. IsPart c.program z (task_part u)) same (part_of 2 _ (task_part u) h.part refl)) fits.1 stand.1
                     (env_bound i.places (bound later_env x (plain_slot head)) (bind_value h.scope x a) (plain_slot tail)
                     (record { name = y; kind = plain_kind d })
                     (env_bound i.places later_env h.scope (plain_slot head) (record { name = x; kind = plain_kind a })
@@ -214,6 +234,8 @@ module _ (c : CheckedTerm) where
           λ v hv. (
             types_at more i.type,
             evaluation c more t (bound env x (place_slot (length σ))) (σ ++ v ∷ []) (bind_place h.scope x a) i.type
+                (subst (λ z. IsPart c.program (bind_place h.scope x z) (task_part t)) (sym (type_is (any_call c.program) h.scope e a p))
+                (part_of 1 (bind_place h.scope x (type_of c.program.defs h.scope e)) (task_part t) h.part refl))
                 (record {
                   typed = q;
                   behind = h.fits.behind;
@@ -236,7 +258,7 @@ module _ (c : CheckedTerm) where
           fitting c i.places e env σ None h.scope a p g.texts.0 h.names h.store,
           λ v hv. (
             i,
-            evaluation c i.places t env (slice_set σ n v) h.scope i.type
+            evaluation c i.places t env (slice_set σ n v) h.scope i.type (part_of 1 h.scope (task_part t) h.part refl)
                 (record { typed = q; behind = h.fits.behind; lists = h.fits.lists })
                 (record { placed = g.placed; starts = g.starts; sides = g.sides; texts = g.texts.1 }) h.names
                 (store_set σ i.places n a v h.store hn hv),

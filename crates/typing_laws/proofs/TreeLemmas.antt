@@ -17,7 +17,7 @@ use Rattle.typing_laws.proofs.GoodLemmas.{good_after}
 use Rattle.typing_laws.proofs.OperatorLemmas.{Has, SomeHas, pair_has}
 use Rattle.typing_laws.proofs.FitLemmas.{grows_on, later_grows, tree_grows, store_get}
 use Rattle.typing_laws.proofs.ValueLemmas.{types_at, Goes, good_known, good_branch}
-use Rattle.typing_laws.proofs.StandLemmas.{names_bound, slots_bound, slots_kept, placed_task, evaluation}
+use Rattle.typing_laws.proofs.StandLemmas.{part_of_body, names_bound, slots_bound, slots_kept, placed_task, evaluation}
 use Rattle.typing_laws.proofs.TaskLemmas.{Keeps, keep, keep_on}
 
 -- ---- values of trees
@@ -69,13 +69,14 @@ module _ (c : CheckedTerm) where
         let there = facts.bodies k.body h.body h.is in
         let d = there.body in
         let first : h.first ≡ body_first c.program k.body = let e = sym h.starts ∙ there.entry in cc in
+        let binds = subst (λ x. BindsAs h.scope x a h.inner) (sym there.binder) h.binds in
         good_known c (slice_get c.program.bodies k.body) d f P there.is
         (g d (evaluation c Σ d.task (opened_env c k.body d vs) σ h.inner b
+        (part_of_body c.program h.scope k.body a d h.inner h.part there.is binds)
         (subst (λ n. TaskFits c h.inner n (placed_task c d.task) b) first
         (subst (λ t. TaskFits c h.inner h.first t b) (sym there.task) h.fits)) there.stands
         (record {
-          names = names_bound h.scope d.scope d.binder a h.inner (subst (λ x. BindsAs h.scope x a h.inner) (sym there.binder) h.binds)
-              (there.scope ∙ h.names);
+          names = names_bound h.scope d.scope d.binder a h.inner binds (there.scope ∙ h.names);
           slots = q;
         }) s))
 

@@ -17,6 +17,7 @@ use Rattle.task_model.specs.Checking.FullTask.{FullTask, FullBody, full_body_num
 use Rattle.task_model.specs.Checking.TaskDemands.{bodies_in_place}
 use Rattle.task_model.specs.Checking.Typing.{HasType}
 use Rattle.task_model.specs.Checking.Placed.{Placed, firsts_of}
+use Rattle.task_model.specs.Checking.Parts.{task_part, IsPart}
 use Rattle.task_model.specs.Checking.Fits.{StoreHas, EnvHas, TaskFits, StateHas}
 use Rattle.typing_laws.specs.Texts.{HasShortTexts, TaskTextsAreShort}
 
@@ -82,9 +83,10 @@ pub record StandsIn (p : ProgramTerm) (names : List Text) (n : ℕ) (t : TaskTer
   pub sides : SidesBindNothing p t
   pub texts : TaskTextsAreShort t
 
--- a task that stands in the program and fits it in some scope, and an environment of that scope and a store that fit
+-- a task that is a part of the program and fits it in its scope there, and an environment of that scope and a store that fit
 pub record EvaluationFits (c : CheckedTerm) (i : Typing) (t : TaskTerm) (env : EnvTerm) (σ : List ValueTerm) : Type 0 where
   pub scope : List ParamTerm
+  pub part : IsPart c.program scope (task_part t)
   pub fits : TaskFits c scope env.first (task_in_place c.program t) i.type
   pub stands : StandsIn c.program env.names env.first t
   pub names : EnvHas i.places env scope

@@ -14,14 +14,15 @@ ghost use Rattle.task_model.specs.Checking.FullTask.{FullTask};
 ghost use Rattle.task_model.specs.Checking.TypeOf.{type_of, task_type};
 ghost use Rattle.task_model.specs.Checking.Typing.{HasType};
 ghost use Rattle.task_model.specs.Checking.TaskTyping.{HasTask};
-ghost use Rattle.task_model.specs.Running.Plan.{Judgement, give};
+ghost use Rattle.task_model.specs.Running.Plan.{Judgement, give, gives_value};
 ghost use Rattle.task_model.specs.Running.Rules.{value_of, applied, tested, side, trial, rule_of};
 ghost use Rattle.task_model.specs.Running.Judgements.{Gives, Evaluates, Applies, Side, Trial, Strides, Settles, Normal};
 ghost use Rattle.task_model.specs.Running.Handling.{Handles, Interacts, handles, interacts};
 ghost use Rattle.task_model.specs.Running.State.{IsOpening, IsState};
 ghost use Rattle.task_model.specs.Checking.Accepted.{IsAccepted, typed_program};
-ghost use Rattle.task_model.specs.Checking.Fits.{StoreHas, EnvHas, LaterHas, TreeHas, StateHas};
-ghost use Rattle.typing_laws.specs.Assumed.{Typing, Grows, Kept, ExpressionFits, EvaluationFits, main_type};
+ghost use Rattle.task_model.specs.Checking.Parts.{expression_part, task_part, IsPart};
+ghost use Rattle.task_model.specs.Checking.Fits.{StoreHas, EnvHas, any_call, LaterHas, TreeHas, StateHas};
+ghost use Rattle.typing_laws.specs.Assumed.{task_in_place, Typing, Grows, Kept, ExpressionFits, EvaluationFits, main_type};
 ghost use Rattle.typing_laws.specs.ProgramFacts.{ProgramFacts};
 ghost use Rattle.typing_laws.specs.Well.{MayAsk, Well};
 
@@ -80,6 +81,15 @@ pub fn typed_plans_go_on()
     ensures interacting { (c : CheckedTerm) (Σ : List BasicTerm) (s : State) (b : BasicTerm) (input : InputTerm) → IsAccepted c →
         StateHas c Σ s b →
         Well c (interacts c s input) }
+{}
+
+/// A part of an accepted program is typed in its scope there, whatever reaches it. So an expression that is one may be evaluated in each
+/// environment and over each store that fit that scope.
+pub fn parts_are_typed()
+    ensures tasks { (c : CheckedTerm) (s : List ParamTerm) (t : TaskTerm) → IsAccepted c → IsPart c.program s (task_part t) →
+        (b : BasicTerm) × HasTask (any_call c.program) s (task_in_place c.program t) b }
+    ensures expressions { (c : CheckedTerm) (s : List ParamTerm) (e : HostTerm) → IsAccepted c → IsPart c.program s (expression_part e) →
+        (Σ : List BasicTerm) (env : EnvTerm) (σ : List ValueTerm) → EnvHas Σ env s → StoreHas σ Σ → MayAsk c (gives_value e env σ) }
 {}
 
 /// Where a tree has a value, it has the tree's type.

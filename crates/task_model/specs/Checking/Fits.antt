@@ -14,6 +14,7 @@ use Rattle.task_model.specs.Checking.TypeOf.{listed_types}
 use Rattle.task_model.specs.Checking.TaskDemands.{bodies_in_place}
 use Rattle.task_model.specs.Checking.TaskTyping.{HasTask}
 use Rattle.task_model.specs.Checking.Placed.{firsts_of}
+use Rattle.task_model.specs.Checking.Parts.{body_part, IsPart}
 
 -- each value of a store has its place's type
 abbrev pub StoreHas : List ValueTerm → List BasicTerm → Type 0
@@ -54,12 +55,13 @@ BindsAs s None None inner = inner ≡ s
 BindsAs s (Some x) (Some a) inner = inner ≡ bind_value s x a
 BindsAs s x a inner = ⊥
 
--- A cont (a is the type that it takes) or a delay (it takes none) of type b: its body is one of the program's, and its slots fit the names
--- of that body's scope.
+-- A cont (a is the type that it takes) or a delay (it takes none) of type b: its body is one of the program's, where it takes a value of
+-- this type or none, and its slots have the kinds and the types of the names in scope there.
 pub record LaterHas (c : CheckedTerm) (Σ : List BasicTerm) (k : LaterTerm) (a : Option BasicTerm) (b : BasicTerm) : Type 0 where
   pub body : FullBody
   pub is : full_body_numbered 0 (bodies_in_place c.program) k.body ≡ Some body
   pub scope : List ParamTerm
+  pub part : IsPart c.program scope (body_part k.body a)
   pub names : body.scope ≡ param_names scope
   pub slots : SlotsHave Σ k.slots scope
   pub inner : List ParamTerm
