@@ -7,8 +7,8 @@ use Rattle.command_words.specs.Commands.{CommandTerm, run, check, soak}
 use Rattle.tophat.specs.Objects.{Around, Objects, IsUntouched}
 use Rattle.tophat.specs.Top.{Limits}
 
--- The files are as one request for a whole file of this name and of at most so many bytes leaves them: there is an answer to it, what was told
--- of each name stays so, and the count of faults is one more exactly where the answer is a fault.
+-- The files are as one request for a whole file of this name and of at most so many bytes leaves them: there is an answer to it, what was
+-- told of each name stays so, and the count of faults is one more exactly where the answer is a fault.
 pub record AsksOnce (limit : ℕ) (name : Text) (files : Around (Text → Option (Option Text))) : Type 0 where
   pub answer : FileAnswer
   pub answers : AnswersFile (files.before name) limit answer

@@ -36,8 +36,8 @@ output_faults_after before (Ran finish) = write_faults_after_run before finish
 output_faults_after before WriteFault = next_count before
 output_faults_after before ending = before
 
--- `out` took what is reported, `err` the text of the end, and the status is that of the end. A count rises, by one, exactly where the end is
--- that fault. Where no line was run `input` is untouched, and `out` where nothing was to be written.
+-- `out` took what is reported, `err` the text of the end, and the status is that of the end. A count rises, by one, exactly where the end
+-- is that fault. Where no line was run `input` is untouched, and `out` where nothing was to be written.
 pub record Ended (l : Limits) (command : Option CommandTerm) (o : Objects) (status : ℕ) : Type 0 where
   pub ending : Ending
   pub status_is : status ≡ status_of ending

@@ -64,13 +64,15 @@ pub fn all_was_written()
         (status ≡ status_of report.ending) × (now ≡ Some (before ++ report.output)) }
 {}
 
-/// The ends of each status (docs/FORMATS.md, "Statuses"), and where no output is reported: at all ends but those of scripts and written texts.
+/// The ends of each status (docs/FORMATS.md, "Statuses"), and where no output is reported: at all ends but those of scripts and of written
+/// texts.
 pub fn statuses_tell_ends()
     ensures zero { (ending : Ending) → status_of ending ≡ 0 → (ending ≡ endings.Ran finishes.Done) ⊎ (ending ≡ endings.Wrote) }
     ensures one { (ending : Ending) → status_of ending ≡ 1 → (place : ℕ) × (refusal : Refusal)
         × (ending ≡ endings.Unopened (reasons.Refused place refusal)) }
     ensures two { (ending : Ending) → status_of ending ≡ 2 → ending ≡ endings.Usage }
-    ensures three { (ending : Ending) → status_of ending ≡ 3 → (line : ℕ) × (column : ℕ) × (ending ≡ endings.Ran (finishes.Bad line column)) }
+    ensures three { (ending : Ending) → status_of ending ≡ 3 → (line : ℕ) × (column : ℕ)
+        × (ending ≡ endings.Ran (finishes.Bad line column)) }
     ensures four { (ending : Ending) → status_of ending ≡ 4 → ending ≡ endings.Unopened reasons.OverBudget }
     ensures five { (ending : Ending) → status_of ending ≡ 5 → (ending ≡ endings.FileFault) ⊎ (ending ≡ endings.Ran finishes.ReadFault) }
     ensures six { (ending : Ending) → status_of ending ≡ 6 → (ending ≡ endings.Ran finishes.WriteFault) ⊎ (ending ≡ endings.WriteFault) }
