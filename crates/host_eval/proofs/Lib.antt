@@ -5,3 +5,4 @@ pub mod RunLemmas
 pub mod NameLemmas
 pub mod WellLemmas
 pub mod FormLemmas
+pub mod DefinitionLemmas

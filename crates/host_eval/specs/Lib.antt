@@ -1,3 +1,4 @@
 pub mod ValueWords
 pub mod NamesTerm
 pub mod HeadAndTail
+pub mod Numbered

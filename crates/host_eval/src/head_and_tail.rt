@@ -1,6 +1,6 @@
 ghost use Rattle.std.specs.Prelude.{◌≡◌, map, IfOk, IsSome, Some};
 ghost use Rattle.std.specs.Option.{option_map};
-ghost use Rattle.task_model.specs.Terms.Elements.{elements};
+ghost use Rattle.task_model.specs.Terms.Elements.{elements_in};
 ghost use Rattle.task_model.specs.Terms.Value.{list_value, as_values, value_term};
 ghost use Rattle.host_eval.specs.ValueWords as words;
 ghost use Rattle.host_eval.specs.HeadAndTail.{head_and_tail};
@@ -27,7 +27,7 @@ impl HeadAndTail {
     }
 
     fn of_elements(items: &Elements<Value>) -> Result<Option<HeadAndTail>, OutOfMemory>
-        ensures { IfOk result (λ o. words.list_parts (list_value (as_values (map value_term (elements items.now))))
+        ensures { IfOk result (λ o. words.list_parts (list_value (as_values (map value_term (elements_in items.now))))
             ≡ Some (option_map head_and_tail o)) }
     {
         let [first, ..] = items.as_slice() else {

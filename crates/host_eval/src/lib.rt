@@ -11,7 +11,7 @@ mod names;
 mod operators;
 mod unary;
 
-pub use definitions::function_named;
+pub use definitions::{Definitions, Found};
 pub use evaluation::{eval, slots_at, value_at};
 pub use head_and_tail::HeadAndTail;
 pub use lookups::{place_named, truth};

@@ -7,9 +7,9 @@ ghost use Rattle.task_model.specs.Running.Checked.{slot_of};
 ghost use Rattle.host_eval.specs.NamesTerm.{IsPaired, names_term};
 ghost use Rattle.host_eval.specs.ValueWords as words;
 
-use crate::definitions::function_named;
+use crate::definitions::Definitions;
 use crate::names::Names;
-use task_model::{Host, OutOfMemory, Param, Program, Reads, Slot, TaskText, Value, copy_value};
+use task_model::{Host, OutOfMemory, Param, Reads, Slot, TaskText, Value, copy_value};
 
 fn slot_named<'e>(names: &Names<'e>, name: &TaskText) -> &'e Slot
     requires paired { IsPaired (names_term names.now) }
@@ -87,12 +87,12 @@ pub(crate) fn place_slot(names: &Names, arg: &Host) -> Slot
 }
 
 /// The parameters and the body of the function that a call names.
-pub(crate) fn callee<'a>(program: &'a Program, name: &TaskText) -> (&'a [Param], &'a Host)
-    requires known { IsSome (words.function_in (map def_term program.now.defs.list) name.now) }
-    ensures { words.function_in (map def_term program.now.defs.list) name.now
+pub(crate) fn callee<'a>(definitions: &'a Definitions, name: &TaskText) -> (&'a [Param], &'a Host)
+    requires known { IsSome (words.function_in (map def_term definitions.now.program.defs.list) name.now) }
+    ensures { words.function_in (map def_term definitions.now.program.defs.list) name.now
         ≡ Some (words.function_term (map param_term result.0.now) (host_term result.1.now)) }
 {
-    match function_named(program, name) {
+    match definitions.function(name) {
         Some(callee) => callee,
         None => unreachable!(),
     }

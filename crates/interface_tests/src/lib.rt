@@ -1,4 +1,4 @@
-//! What `interface` and `task_tree` say of small trees: widgets, values, feet, and nodes that are put in. Tests alone.
+//! The widgets and the values of small trees: tests alone.
 #![tactic(auto)]
 
 #[cfg(test)]

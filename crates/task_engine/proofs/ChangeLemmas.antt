@@ -142,7 +142,8 @@ module _ (seen : List (Overwritten Value)) (w : Overwritten Value) (ys xs : List
       let same : value_term u ≡ value_term w.value = cc in
       same
 
-  pub write_up : IsRight w (is_written seen w.place) xs → SameElsewhere (seen ++ w ∷ []) ys xs → SameElsewhere seen (slice_set ys w.place w.value) xs
+  pub write_up : IsRight w (is_written seen w.place) xs → SameElsewhere (seen ++ w ∷ []) ys xs
+      → SameElsewhere seen (slice_set ys w.place w.value) xs
   write_up right e n un = by_test (w.place == n) refl
     where
       by_right : IsRight w (is_written seen w.place) xs → w.place ≡ n → term_at (slice_set ys w.place w.value) n ≡ term_at xs n

@@ -40,7 +40,8 @@ pub quiet_next : (c : CheckedTerm) (t : TreeTerm) (k : LaterTerm) (σ : List Val
     → IsQuiet c (next_tree t k) σ (j + 1) false
 quiet_next c t k σ j valued q =
     quiet_by c (next_tree t k) σ j false
-    (gives_asked c j (at t σ) (at (next_tree t k) σ) (λ s. give (at (next_tree s.tree k) s.store)) q.kept (gives_it c j (at (next_tree t k) σ)))
+    (gives_asked c j (at t σ) (at (next_tree t k) σ) (λ s. give (at (next_tree s.tree k) s.store)) q.kept
+    (gives_it c j (at (next_tree t k) σ)))
     refl
 
 both : (o p : Option ValueTerm) → cond (is_some o) (is_some p) false ≡ is_some (paired o p)

@@ -1,5 +1,5 @@
 -- Where bodies begin, by the table.
-use Rattle.std.proofs.Common.{◌≡◌, ℕ, zero, suc, ◌<◌, List, [], ◌∷◌, length, get_or, Some, refl, sym, ap, ◌∙◌, arith}
+use Rattle.std.proofs.Common.{◌≡◌, ℕ, zero, suc, ◌<◌, List, [], ◌∷◌, length, Some, refl, sym, ap, ◌∙◌, arith}
 use Rattle.std.specs.Prelude.{slice_get, IsSome}
 use Rattle.task_model.specs.Terms.Program.{ProgramTerm}
 use Rattle.task_model.specs.Running.Checked.{body_first}
@@ -8,7 +8,7 @@ use Rattle.task_model.specs.Syntax.Written.{IsWritten}
 use Rattle.task_laws.proofs.TableLemmas.{nodes_before, entries}
 use Rattle.host_eval.proofs.WellLemmas.{some_within}
 
-pub within_some : {X : Type 0} (xs : List X) (i : ℕ) → i < length xs → IsSome (slice_get xs i)
+within_some : {X : Type 0} (xs : List X) (i : ℕ) → i < length xs → IsSome (slice_get xs i)
 within_some [] i lt = absurd (omega arith)
 within_some (x ∷ xs) zero lt = refl
 within_some (x ∷ xs) (suc i) lt = within_some xs i (omega arith)
@@ -23,8 +23,3 @@ start_there p w i e starts is =
 pub start_is : (p : ProgramTerm) → IsWritten p → (i n : ℕ) (starts : List ℕ) → starts ≡ firsts_of p → slice_get starts i ≡ Some n
     → n ≡ body_first p i
 start_is p w i n starts is e = sym (nodes_before p w i n (sym (ap (λ l. slice_get l i) is) ∙ e))
-
-pub found_at : {X : Type 0} (xs : List X) (i : ℕ) (x : X) → slice_get xs i ≡ Some x → x ≡ get_or xs i x
-found_at [] i x e = absurd (cc)
-found_at (y ∷ ys) zero x e = let same : y ≡ x = cc in sym same
-found_at (y ∷ ys) (suc i) x e = found_at ys i x e

@@ -1,10 +1,12 @@
 -- Tables that are made item by item.
-use Rattle.std.proofs.Common.{◌≡◌, ℕ, zero, suc, ◌+◌, ◌<◌, ◌≤◌, cond, List, [], ◌∷◌, length, drop, get_or, map, None, refl, sym, ap, ◌∙◌, arith, add-one, drop-cons}
-use Rattle.std.specs.Prelude.{slice_set}
+use Rattle.std.proofs.Common.{◌≡◌, ℕ, zero, suc, ◌+◌, ◌<◌, ◌≤◌, Bool, true, false, cond, List, [], ◌∷◌, length, drop, get_or, map, Option, None, Some, refl, sym, ap, ◌∙◌, subst, arith, drop-cons}
+use Rattle.std.specs.Prelude.{slice_get, slice_set, IsSome}
 use Rattle.task_model.specs.Terms.Text.{Text, same_text}
 use Rattle.task_model.specs.Terms.Task.{body_term}
-use Rattle.task_model.specs.Terms.Program.{DefTerm, def_term, ProgramTerm}
-use Rattle.task_model.specs.Running.Checked.{counts_from, nodes_in, what_nodes, def_in}
+use Rattle.task_model.specs.Terms.Host.{HostTerm}
+use Rattle.task_model.specs.Terms.Program.{fun_body, DefTerm, def_term, ProgramTerm}
+use Rattle.task_model.specs.Checking.Names.{first_named, Numbered}
+use Rattle.task_model.specs.Running.Checked.{Callee, callee_of, counts_from, nodes_in, what_nodes, def_in}
 use Rattle.task_model.specs.declared.task.Body.{Body}
 use Rattle.task_model.specs.declared.program.Def.{Def}
 use Rattle.host_eval.proofs.ListLemmas.{in_front, empty}
@@ -33,9 +35,6 @@ drop_past [] (suc i) le = refl
 drop_past (x ∷ xs) zero le = absurd (omega arith)
 drop_past (x ∷ xs) (suc i) le = drop_past xs i (omega arith)
 
-drop_front : {A : Type 0} (xs : List A) (i : ℕ) (x : A) → i < length xs → x ≡ get_or xs i x → drop i xs ≡ x ∷ drop (i + 1) xs
-drop_front xs i x lt e = drop-cons xs i x lt ∙ ap (λ z. z ∷ drop (suc i) xs) (sym e) ∙ ap (λ k. x ∷ drop k xs) (sym (add-one i))
-
 -- ---- definitions, one after another
 pub firsts_front : (p : ProgramTerm) (n : ℕ) (defs : List Def) (d : Def) → 1 ≤ length defs → d ≡ get_or defs 0 d
     → definition_firsts p n (map def_term defs) ≡ n ∷ definition_firsts p (n + what_nodes p (def_term d).what) (map def_term (tail_of defs))
@@ -44,37 +43,66 @@ firsts_front p n defs d le e = ap (λ l. definition_firsts p n (map def_term l))
 pub firsts_none : (p : ProgramTerm) (n : ℕ) (defs : List Def) → length defs < 1 → definition_firsts p n (map def_term defs) ≡ []
 firsts_none p n defs lt = ap (λ l. definition_firsts p n (map def_term l)) (empty defs lt)
 
-pub callee_front : (p : ProgramTerm) (n : ℕ) (defs : List Def) (i : ℕ) (d : Def) (f : Text) → i < length defs → d ≡ get_or defs i d
-    → def_in p as_callee n (map def_term (drop i defs)) f
-    ≡ cond (same_text d.name f) (as_callee n (def_term d))
-    (def_in p as_callee (n + what_nodes p (def_term d).what) (map def_term (drop (i + 1) defs)) f)
-callee_front p n defs i d f lt e = ap (λ l. def_in p as_callee n (map def_term l) f) (drop_front defs i d lt e)
+-- a call of a definition that was found, where those from number i on are listed and so many nodes stand before them
+pub record CalledAt (p : ProgramTerm) (n i : ℕ) (ds : List DefTerm) (called : Option Callee) (d : Numbered) : Type 0 where
+  pub from : ℕ
+  pub at : d.index ≡ i + from
+  pub listed : IsSome (slice_get (definition_firsts p n ds) from)
+  pub is : (first : ℕ) → slice_get (definition_firsts p n ds) from ≡ Some first → called ≡ as_callee first d.def
 
-pub callee_none : (p : ProgramTerm) (n : ℕ) (defs : List Def) (i : ℕ) (f : Text) → length defs ≤ i
-    → def_in p as_callee n (map def_term (drop i defs)) f ≡ None
-callee_none p n defs i f le = ap (λ l. def_in p as_callee n (map def_term l) f) (drop_past defs i le)
+called_by : (p : ProgramTerm) (n i : ℕ) (e : DefTerm) (ds : List DefTerm) (d : Numbered) (o : Option Numbered) (rest : Option Callee)
+    (b : Bool)
+    → (o ≡ Some d → CalledAt p (n + what_nodes p e.what) (suc i) ds rest d)
+    → cond b (Some (record { index = i; def = e })) o ≡ Some d → CalledAt p n i (e ∷ ds) (cond b (as_callee n e) rest) d
+called_by p n i e ds d o rest true k h =
+    let same : record { index = i; def = e } ≡ d = cc in
+    let number = ap (λ (z : Numbered). z.index) same in record {
+      from = 0;
+      at = omega (arith, number);
+      listed = refl;
+      is = λ first q. let start : n ≡ first = cc in ap (λ m. as_callee m e) start ∙ ap (λ (z : Numbered). as_callee first z.def) same;
+    }
+called_by p n i e ds d o rest false k h =
+    let c = k h in
+    let number = c.at in
+    record { from = suc c.from; at = omega (arith, number); listed = c.listed; is = c.is }
 
-list_head : {A : Type 0} (x y : A) (xs ys : List A) → x ∷ xs ≡ y ∷ ys → (x ≡ y) × (xs ≡ ys)
-list_head x y xs ys e = (cc, cc)
+pub called_at : (p : ProgramTerm) (n i : ℕ) (ds : List DefTerm) (f : Text) (d : Numbered) → first_named i ds f ≡ Some d
+    → CalledAt p n i ds (def_in p as_callee n ds f) d
+called_at p n i [] f d h = absurd cc
+called_at p n i (e ∷ ds) f d h =
+    called_by p n i e ds d (first_named (suc i) ds f) (def_in p as_callee (n + what_nodes p e.what) ds f) (same_text e.name f)
+    (called_at p (n + what_nodes p e.what) (suc i) ds f d) h
 
-pub first_and_later : (p : ProgramTerm) (n : ℕ) (defs : List Def) (i : ℕ) (d : Def) (firsts : List ℕ) (first : ℕ) → i < length defs
-    → d ≡ get_or defs i d → i < length firsts → first ≡ get_or firsts i first
-    → drop i firsts ≡ definition_firsts p n (map def_term (drop i defs))
-    → (first ≡ n) × (drop (i + 1) firsts ≡ definition_firsts p (n + what_nodes p (def_term d).what) (map def_term (drop (i + 1) defs)))
-first_and_later p n defs i d firsts first lt e lt' e' is =
-    list_head first n (drop (i + 1) firsts) _
-    (sym (drop_front firsts i first lt' e') ∙ is ∙ ap (λ l. definition_firsts p n (map def_term l)) (drop_front defs i d lt e))
+-- the same of all definitions
+module _ (p : ProgramTerm) (f : Text) (d : Numbered) (found : first_named 0 p.defs f ≡ Some d) where
+  called_all : CalledAt p 0 0 p.defs (def_in p as_callee 0 p.defs f) d
+  called_all = called_at p 0 0 p.defs f d found
 
-pub later_firsts : (p : ProgramTerm) (n : ℕ) (defs : List Def) (i : ℕ) (d : Def) (firsts : List ℕ) → i < length defs
-    → d ≡ get_or defs i d → i < length firsts → drop i firsts ≡ definition_firsts p n (map def_term (drop i defs))
-    → drop (i + 1) firsts ≡ definition_firsts p (n + what_nodes p (def_term d).what) (map def_term (drop (i + 1) defs))
-later_firsts p n defs i d firsts lt e lt' is = (first_and_later p n defs i d firsts (get_or firsts i 0) lt e lt' (any firsts i lt') is).1
+  number : d.index ≡ called_all.from
+  number = let e = called_all.at in omega (arith, e)
+
+  pub called_listed : IsSome (slice_get (definition_firsts p 0 p.defs) d.index)
+  called_listed = subst (λ k. IsSome (slice_get (definition_firsts p 0 p.defs) k)) (sym number) called_all.listed
+
+  pub called_is : (first : ℕ) → slice_get (definition_firsts p 0 p.defs) d.index ≡ Some first
+      → def_in p as_callee 0 p.defs f ≡ as_callee first d.def
+  called_is first e = called_all.is first (ap (λ k. slice_get (definition_firsts p 0 p.defs) k) (sym number) ∙ e)
+
+  pub called_fun : (e : HostTerm) → d.def.what ≡ fun_body e → def_in p as_callee 0 p.defs f ≡ None
+  called_fun e is = by_get (slice_get (definition_firsts p 0 p.defs) d.index) refl called_listed
+    where
+      by_get : (o : Option ℕ) → slice_get (definition_firsts p 0 p.defs) d.index ≡ o → IsSome o → def_in p as_callee 0 p.defs f ≡ None
+      by_get None g s = absurd cc
+      by_get (Some m) g s = called_is m g ∙ ap (λ w. callee_of d.def.params m w) is
+
+-- no call of a name that no definition has
+pub called_none : (p : ProgramTerm) (n i : ℕ) (ds : List DefTerm) (f : Text) → first_named i ds f ≡ None → def_in p as_callee n ds f ≡ None
+called_none p n i [] f h = refl
+called_none p n i (e ∷ ds) f h = by_test (same_text e.name f) (called_none p (n + what_nodes p e.what) (suc i) ds f) h
   where
-    any : (xs : List ℕ) (i : ℕ) → i < length xs → get_or xs i 0 ≡ get_or xs i (get_or xs i 0)
-    any [] i lt = absurd (omega arith)
-    any (x ∷ xs) zero lt = refl
-    any (x ∷ xs) (suc i) lt = any xs i (omega arith)
-
-pub definitions_long : (p : ProgramTerm) (n : ℕ) (ds : List DefTerm) → length (definition_firsts p n ds) ≡ length ds
-definitions_long p n [] = refl
-definitions_long p n (d ∷ ds) = ap suc (definitions_long p (n + what_nodes p d.what) ds)
+    by_test : (b : Bool) → (first_named (suc i) ds f ≡ None → def_in p as_callee (n + what_nodes p e.what) ds f ≡ None)
+        → cond b (Some (record { index = i; def = e })) (first_named (suc i) ds f) ≡ None
+        → cond b (as_callee n e) (def_in p as_callee (n + what_nodes p e.what) ds f) ≡ None
+    by_test true k q = absurd cc
+    by_test false k q = k q

@@ -1,4 +1,5 @@
 ghost use Rattle.std.specs.Prelude.{◌≡◌, ◌<◌, IfOk, IsSome, Some, slice_get};
+ghost use Rattle.std.specs.Option.{option_map};
 ghost use Rattle.task_model.specs.Terms.Basic.{basic_term};
 ghost use Rattle.task_model.specs.Terms.Task.{body_term, task_term};
 ghost use Rattle.task_model.specs.Terms.Program.{program_term};
@@ -6,21 +7,22 @@ ghost use Rattle.task_model.specs.Running.Checked as checked;
 ghost use Rattle.task_model.specs.Running.Checked.{checked_term};
 ghost use Rattle.task_engine.specs.Called.{seen_callee};
 
-use crate::callee::{Callee, callee_in};
+use crate::callee::Callee;
 use crate::counts::{nodes_in, number_at};
 use crate::tables::{counts_of, definitions_of, starts_of};
+use host_eval::Definitions;
 use std::alloc::Global;
 use std::marker::Model;
-use task_model::{Basic, Body, Checked, OutOfMemory, Row, Task, TaskText, copy_basic};
+use task_model::{Basic, Body, Checked, DefBody, OutOfMemory, Row, Task, TaskText, copy_basic};
 
-/// An accepted program, with where its `edit` and `share` nodes stand: how many each body has, and how many stand before
-/// each definition.
+/// An accepted program whose definitions are found by their names, with where its `edit` and `share` nodes stand: how many each body
+/// has, and how many stand before each definition.
 #[derive(Drop)]
 pub struct Engine {
     alloc: Global,
-    checked: Checked,
+    definitions: Definitions,
     nodes: Vec<u64>,
-    definitions: Row<u64>,
+    firsts: Row<u64>,
     starts: Row<u64>,
 }
 
@@ -28,16 +30,16 @@ impl Model for Engine {
     ghost use Rattle.std.specs.Prelude.{◌≡◌};
     ghost use Rattle.task_model.specs.Running.Checked.{SeenChecked, counts_of};
     ghost use Rattle.task_model.specs.Terms.Program.{program_term, def_term};
-    ghost use Rattle.task_model.specs.contracts.checked.Checked as checkeds;
+    ghost use Rattle.host_eval.specs.contracts.definitions.Definitions as held;
     ghost use Rattle.task_engine.specs.Tables.{AreTables};
 
     ghost Value = { SeenChecked };
 
-    ghost coded = { checkeds.the_row.coded };
+    ghost coded = { held.the_row.coded };
 
-    ghost view = { λ e. e.checked };
+    ghost view = { λ e. e.definitions };
 
-    ghost invariant = { λ e. AreTables (program_term e.checked.program) e.nodes.items e.definitions.list e.starts.list };
+    ghost invariant = { λ e. AreTables (program_term e.definitions.program) e.nodes.items e.firsts.list e.starts.list };
 }
 
 impl Engine {
@@ -45,15 +47,16 @@ impl Engine {
     pub fn new(alloc: Global, checked: Checked) -> Result<Engine, OutOfMemory>
         ensures { IfOk result (λ e. e ≡ checked) }
     {
-        let program = checked.program();
+        let definitions = Definitions::new(alloc, checked)?;
+        let program = definitions.checked().program();
         let nodes = counts_of(alloc, program.bodies.as_slice())?;
-        let definitions = definitions_of(alloc, nodes.as_slice(), program.defs.as_slice())?;
+        let firsts = definitions_of(alloc, nodes.as_slice(), program.defs.as_slice())?;
         let starts = starts_of(alloc, program)?;
         Ok(Engine {
             alloc,
-            checked,
-            nodes,
             definitions,
+            nodes,
+            firsts,
             starts,
         })
     }
@@ -62,7 +65,14 @@ impl Engine {
     pub fn checked(&self) -> &Checked
         ensures { result.now ≡ self.now }
     {
-        &self.checked
+        self.definitions.checked()
+    }
+
+    /// The program with its definitions by their names.
+    pub(crate) fn definitions(&self) -> &Definitions
+        ensures { result.now ≡ self.now }
+    {
+        &self.definitions
     }
 
     /// Where its tables are, and where trees and values that it makes are put.
@@ -86,7 +96,13 @@ impl Engine {
         requires { IsSome (slice_get (checked_term self.now).program.bodies body) }
         ensures { slice_get (checked_term self.now).program.bodies body ≡ Some (body_term result.now) }
     {
-        match self.checked.program().bodies.as_slice().get(body as usize) {
+        match self
+            .checked()
+            .program()
+            .bodies
+            .as_slice()
+            .get(body as usize)
+        {
             Some(own) => own,
             None => unreachable!(),
         }
@@ -98,7 +114,7 @@ impl Engine {
         ensures { result ≡ checked.body_first (program_term self.now.program) body }
     {
         // The program of a checked one is written, so the table has an entry for each body.
-        let _accepted = self.checked.program();
+        let _accepted = self.definitions.checked().program();
         number_at(self.starts.as_slice(), body as usize)
     }
 
@@ -107,7 +123,7 @@ impl Engine {
         requires { IsSome (slice_get (checked_term self.now).types node) }
         ensures { IfOk result (λ b. slice_get (checked_term self.now).types node ≡ Some (basic_term b)) }
     {
-        match self.checked.types().get(node as usize) {
+        match self.checked().types().get(node as usize) {
             Some(b) => copy_basic(b),
             None => unreachable!(),
         }
@@ -118,10 +134,24 @@ impl Engine {
         requires { IsSome (checked.task_named (program_term self.now.program) name.now) }
         ensures { checked.task_named (program_term self.now.program) name.now ≡ Some (seen_callee result) }
     {
-        let defs = self.checked.program().defs.as_slice();
-        match callee_in(defs, self.definitions.as_slice(), name) {
+        match self.called(name) {
             Some(callee) => callee,
             None => unreachable!(),
+        }
+    }
+
+    // The task of a name, where the first definition of that name is one.
+    fn called(&self, name: &TaskText) -> Option<Callee<'_>>
+        ensures { checked.task_named (program_term self.now.program) name.now ≡ option_map seen_callee result }
+    {
+        let found = self.definitions.first(name)?;
+        match &found.def.what {
+            DefBody::Fun(_) => None,
+            DefBody::Task(task) => Some(Callee {
+                params: found.def.params.as_slice(),
+                task,
+                first: number_at(self.firsts.as_slice(), found.number),
+            }),
         }
     }
 }

@@ -129,7 +129,7 @@ fn host_value(
     ensures asked { RunsJudgement (checked_term engine.now) (gives_value (host_term e.now) (names_term names.now) (values_in store.now))
         value_term purse.old purse.new result }
 {
-    value_at(engine.alloc(), engine.checked(), e, names, store, purse)
+    value_at(engine.alloc(), engine.definitions(), e, names, store, purse)
 }
 
 // The slots of arguments.
@@ -152,7 +152,7 @@ fn argument_slots(
 {
     slots_at(
         engine.alloc(),
-        engine.checked(),
+        engine.definitions(),
         args,
         params,
         names,

@@ -5,8 +5,8 @@
 //! behind the lines above it. It is tried with just that work, and with a unit and a rule less, where it has to be over; one that answers
 //! `over` with that work alone. A test takes units alone. Behind `clear` the bench is as it was new.
 
+use crate::Bench;
 use answering::{Answer, answered, done, is_test};
-use bench::Bench;
 use showing::{layers_text, state_text};
 use std::alloc::Global;
 use std::process::Abort;
@@ -17,14 +17,10 @@ use task_model::{OutOfMemory, Steps};
 use testing_programs::{BlockTest, accepted, is_right, repeated, table_differences};
 
 mod answering;
-mod bench;
 mod deep;
-mod offer_tables;
-mod offering;
-mod parts;
 mod rules;
-mod runs;
 mod showing;
+mod worked;
 
 // The bench behind these lines.
 fn replay(alloc: Global, bench: &mut Bench, lines: &str) -> Result<(), OutOfMemory> {
@@ -169,20 +165,6 @@ impl BlockTest for Programs {
     }
 }
 
-/// A program, and the offers of its opening.
-struct Offers;
-
-impl BlockTest for Offers {
-    fn block_differences<L: Ledger>(
-        &self,
-        alloc: Global,
-        text: &str,
-        steps: &mut Steps<L>,
-    ) -> Result<String, OutOfMemory> {
-        offering::differences(alloc, text, steps)
-    }
-}
-
 fn assert_right(rt: &(impl Abort + AllocGlobal), table: &str) -> Result<(), OutOfMemory> {
     let found = table_differences(rt.alloc(), table, &Programs)?;
     assert!(rt; found.is_empty(), "{}", found.as_str());
@@ -190,10 +172,8 @@ fn assert_right(rt: &(impl Abort + AllocGlobal), table: &str) -> Result<(), OutO
 }
 
 #[test]
-fn worked_offers(rt: HostRuntime) -> Result<(), Fail> {
-    let found = table_differences(rt.alloc(), offer_tables::OFFERS, &Offers)?;
-    assert!(rt; found.is_empty(), "{}", found.as_str());
-    Ok(())
+fn worked_programs(rt: HostRuntime) -> Result<(), Fail> {
+    Ok(assert_right(&rt, worked::WORKED)?)
 }
 
 #[test]

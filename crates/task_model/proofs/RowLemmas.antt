@@ -6,7 +6,7 @@ use denote.Param.Weighed.{most}
 use Rattle.task_model.specs.Terms.Rowed.{Rowed}
 use Rattle.task_model.specs.Terms.Text.{Text}
 use Rattle.task_model.specs.Terms.Value.{ValueTerm, list_value, more_values, as_values, value_term, row_values, later_values, count_of}
-use Rattle.task_model.specs.Terms.Elements.{elements}
+use Rattle.task_model.specs.Terms.Elements.{elements_in}
 use Rattle.task_model.specs.declared.elements.Elements.{Elements}
 use Rattle.task_model.specs.Terms.Host.{call_expr, list_expr, more_exprs, as_exprs, host_term, row_exprs}
 use Rattle.task_model.specs.declared.value.Value as value
@@ -27,7 +27,7 @@ later_values-drop (suc n) [] = refl
 later_values-drop (suc n) (v ∷ vs) = later_values-drop n vs
 
 -- the term of a list value
-pub value_term-List : (e : Elements value.Value) → value_term (value.List e) ≡ list_value (as_values (map value_term (elements e)))
+pub value_term-List : (e : Elements value.Value) → value_term (value.List e) ≡ list_value (as_values (map value_term (elements_in e)))
 value_term-List e =
     let row = value_row (value.List e) in
     ap (λ vs. list_value (later_values e.from vs)) (row_values-items row.0 row.1
@@ -41,7 +41,7 @@ most-drop μ (suc n) [] = omega arith
 most-drop μ (suc n) (x ∷ xs) = omega (arith, most-drop μ n xs)
 
 -- the elements of a list value are smaller than it
-pub elements_fall : (e : Elements value.Value) (v : value.Value) (items : List value.Value) → v ≡ value.List e → items ≡ elements e
+pub elements_fall : (e : Elements value.Value) (v : value.Value) (items : List value.Value) → v ≡ value.List e → items ≡ elements_in e
     → most the_size items < the_size v
 elements_fall e v items is l =
     let block : most the_size e.block.value.list < the_size (value.List e) = search (rules, value.the_lemmas) in

@@ -12,6 +12,6 @@ pub mod Limits
 pub mod Typing
 pub mod TaskTyping
 pub mod Placed
-pub mod Parts
+pub mod ProgramParts
 pub mod Fits
 pub mod Accepted

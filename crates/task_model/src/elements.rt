@@ -1,5 +1,5 @@
 ghost use Rattle.std.specs.Prelude.{◌≡◌, drop, IfOk};
-ghost use Rattle.task_model.specs.Terms.Elements.{elements};
+ghost use Rattle.task_model.specs.Terms.Elements.{elements_in};
 
 use crate::memory::{OutOfMemory, share, shared};
 use crate::row::Row;
@@ -16,7 +16,7 @@ pub struct Elements<T> {
 impl<T> Elements<T> {
     /// The elements, in order.
     pub fn as_slice(&self) -> &[T]
-        ensures { result.now ≡ elements self.now }
+        ensures { result.now ≡ elements_in self.now }
     {
         let items = self.block.as_slice();
         if self.from > items.len() {
@@ -27,7 +27,7 @@ impl<T> Elements<T> {
 
     /// All elements but the first, in the same memory.
     pub fn rest(&self) -> Result<Elements<T>, OutOfMemory>
-        ensures { IfOk result (λ rest. elements rest ≡ drop 1 (elements self.now)) }
+        ensures { IfOk result (λ rest. elements_in rest ≡ drop 1 (elements_in self.now)) }
     {
         let block = share(&self.block)?;
         if self.from < self.block.as_slice().len() {
@@ -42,7 +42,7 @@ impl<T> Elements<T> {
 
     /// Equal elements, in the same memory.
     pub fn copy(&self) -> Result<Elements<T>, OutOfMemory>
-        ensures { IfOk result (λ copy. elements copy ≡ elements self.now) }
+        ensures { IfOk result (λ copy. elements_in copy ≡ elements_in self.now) }
     {
         let block = share(&self.block)?;
         Ok(Elements {
@@ -55,7 +55,7 @@ impl<T> Elements<T> {
 impl<T: Drop> Elements<T> {
     /// The items of a row as elements.
     pub fn of(alloc: Global, row: Row<T>) -> Result<Elements<T>, OutOfMemory>
-        ensures { IfOk result (λ all. elements all ≡ row.list) }
+        ensures { IfOk result (λ all. elements_in all ≡ row.list) }
     {
         Ok(Elements {
             block: shared(alloc, row)?,

@@ -19,7 +19,7 @@ use Rattle.task_model.specs.Running.Plan.{normal}
 use Rattle.task_model.specs.Checking.Typing.{HaveTypes}
 use Rattle.task_model.specs.Running.State.{IsOpening, LeadTo, IsReached}
 use Rattle.task_model.specs.Checking.Accepted.{IsAccepted}
-use Rattle.task_model.specs.Checking.Parts.{task_part, of_opening}
+use Rattle.task_model.specs.Checking.ProgramParts.{task_part, of_opening}
 use Rattle.task_model.specs.Checking.Fits.{any_call, StateHas}
 use Rattle.host_types.proofs.TypingLemmas.{first, second, no_unmet, demanded_true}
 use Rattle.typing_laws.specs.Assumed.{IsListed, EvaluationFits, main_type}

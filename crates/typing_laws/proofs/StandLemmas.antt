@@ -18,7 +18,7 @@ use Rattle.task_model.specs.Checking.TypeOf.{listed_types, task_type}
 use Rattle.task_model.specs.Checking.TaskDemands.{bodies_in_place}
 use Rattle.task_model.specs.Checking.TaskTyping.{HasTask}
 use Rattle.task_model.specs.Checking.Placed.{Placed}
-use Rattle.task_model.specs.Checking.Parts.{Part, task_part, body_part, in_scope, task_of_body, body_parts, type_there, parts_in, IsPart, inside}
+use Rattle.task_model.specs.Checking.ProgramParts.{ProgramPart, task_part, body_part, in_scope, task_of_body, body_parts, type_there, parts_in, IsPart, inside}
 use Rattle.task_model.specs.Checking.Fits.{StoreHas, SlotsHave, EnvHas, any_call, TaskFits, BindsAs, LaterHas}
 use Rattle.task_laws.proofs.ParseLemmas.{both}
 use Rattle.host_types.proofs.CountLemmas.{counted}
@@ -32,7 +32,7 @@ use Rattle.typing_laws.proofs.ValueLemmas.{types_at}
 
 -- ---- parts
 -- what stands in a part is one
-pub part_of : {p : ProgramTerm} {s : List ParamTerm} {q : Part} (k : ℕ) (s' : List ParamTerm) (q' : Part) → IsPart p s q
+pub part_of : {p : ProgramTerm} {s : List ParamTerm} {q : ProgramPart} (k : ℕ) (s' : List ParamTerm) (q' : ProgramPart) → IsPart p s q
     → slice_get (parts_in p s q) k ≡ Some (in_scope s' q') → IsPart p s' q'
 part_of {s = s} {q = q} k s' q' h e = inside s q k (in_scope s' q') s' q' h e refl refl
 

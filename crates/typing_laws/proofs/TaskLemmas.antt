@@ -13,7 +13,7 @@ use Rattle.task_model.specs.Checking.Names.{bind_value, bind_place, kind_in, nam
 use Rattle.task_model.specs.Running.Plan.{give, ask, evaluates}
 use Rattle.task_model.specs.Running.Rules.{later, later_by, bound, exprs_of, slots_for, evaluate_rule}
 use Rattle.task_model.specs.Checking.TypeOf.{type_of}
-use Rattle.task_model.specs.Checking.Parts.{task_part, body_part, what_part, type_there, IsPart, of_definition}
+use Rattle.task_model.specs.Checking.ProgramParts.{task_part, body_part, what_part, type_there, IsPart, of_definition}
 use Rattle.task_model.specs.Checking.Fits.{StoreHas, SlotsHave, EnvHas, any_call, TaskFits, TreeHas}
 use Rattle.typing_laws.specs.Assumed.{Typing, Grows, Kept, StandsIn, EvaluationFits, Assumed, Guaranteed}
 use Rattle.typing_laws.specs.ProgramFacts.{ProgramFacts}

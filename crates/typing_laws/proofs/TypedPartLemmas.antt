@@ -18,7 +18,7 @@ use Rattle.task_model.specs.Checking.TaskDemands.{bodies_in_place}
 use Rattle.task_model.specs.Checking.Typing.{HasType, HaveTypes, OfKind}
 use Rattle.task_model.specs.Checking.TaskTyping.{HasTask}
 use Rattle.task_model.specs.Checking.Accepted.{IsAccepted}
-use Rattle.task_model.specs.Checking.Parts.{Part, expression_part, task_part, body_part, PartIn, in_scope, argument_part, argument_parts, task_of_body, body_parts, what_part, type_there, task_parts, parts_in, IsPart, of_opening, of_definition, inside}
+use Rattle.task_model.specs.Checking.ProgramParts.{ProgramPart, expression_part, task_part, body_part, PartIn, in_scope, argument_part, argument_parts, task_of_body, body_parts, what_part, type_there, task_parts, parts_in, IsPart, of_opening, of_definition, inside}
 use Rattle.task_model.specs.Checking.Fits.{StoreHas, SlotsHave, EnvHas, any_call, BindsAs}
 use Rattle.typing_laws.specs.Texts.{HasShortTexts, HaveShortTexts, TaskTextsAreShort}
 use Rattle.typing_laws.specs.Assumed.{calls_below, task_in_place, EvaluationFits, main_type}
@@ -36,7 +36,7 @@ module _ (c : CheckedTerm) where
   body_at j = full_body_numbered 0 (bodies_in_place c.program) j
 
   -- a part is typed in a scope
-  abbrev pub IsTyped : List ParamTerm → Part → Type 0
+  abbrev pub IsTyped : List ParamTerm → ProgramPart → Type 0
   IsTyped s (expression_part e) =
       (b : BasicTerm) × (below : Option ℕ) × HasType (calls_below c.program below) s e b × HasShortTexts e
   IsTyped s (task_part t) = (b : BasicTerm) × Typed s (task_in_place c.program t) b × TaskTextsAreShort t
@@ -172,7 +172,7 @@ module _ (c : CheckedTerm) where
         by_binder t None (Some b) g same x = tt
         by_binder t (Some y) None g same x = tt
 
-    parts_typed : (s : List ParamTerm) (q : Part) → IsTyped s q → AreTyped (parts_in c.program s q)
+    parts_typed : (s : List ParamTerm) (q : ProgramPart) → IsTyped s q → AreTyped (parts_in c.program s q)
     parts_typed s (expression_part e) h = tt
     parts_typed s (task_part t) h = parts_of_task s t h
     parts_typed s (body_part j a) h = parts_of_body s j a h
@@ -198,7 +198,7 @@ module _ (c : CheckedTerm) where
           tt,
         )
 
-    pub part_typed : (s : List ParamTerm) (q : Part) → IsPart c.program s q → IsTyped s q
+    pub part_typed : (s : List ParamTerm) (q : ProgramPart) → IsPart c.program s q → IsTyped s q
     part_typed s q (of_opening _ _ scope is) =
         subst (λ z. IsTyped z q) (sym scope) (subst (IsTyped []) (sym is) opening_typed)
     part_typed s q (of_definition _ _ f d named scope is) =

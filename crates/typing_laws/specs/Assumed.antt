@@ -17,7 +17,7 @@ use Rattle.task_model.specs.Checking.FullTask.{FullTask, FullBody, full_body_num
 use Rattle.task_model.specs.Checking.TaskDemands.{bodies_in_place}
 use Rattle.task_model.specs.Checking.Typing.{HasType}
 use Rattle.task_model.specs.Checking.Placed.{Placed, firsts_of}
-use Rattle.task_model.specs.Checking.Parts.{task_part, IsPart}
+use Rattle.task_model.specs.Checking.ProgramParts.{task_part, IsPart}
 use Rattle.task_model.specs.Checking.Fits.{StoreHas, EnvHas, TaskFits, StateHas}
 use Rattle.typing_laws.specs.Texts.{HasShortTexts, TaskTextsAreShort}
 

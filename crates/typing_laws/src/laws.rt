@@ -20,7 +20,7 @@ ghost use Rattle.task_model.specs.Running.Judgements.{Gives, Evaluates, Applies,
 ghost use Rattle.task_model.specs.Running.Handling.{Handles, Interacts, handles, interacts};
 ghost use Rattle.task_model.specs.Running.State.{IsOpening, IsState};
 ghost use Rattle.task_model.specs.Checking.Accepted.{IsAccepted, typed_program};
-ghost use Rattle.task_model.specs.Checking.Parts.{expression_part, task_part, IsPart};
+ghost use Rattle.task_model.specs.Checking.ProgramParts.{expression_part, task_part, IsPart};
 ghost use Rattle.task_model.specs.Checking.Fits.{StoreHas, EnvHas, any_call, LaterHas, TreeHas, StateHas};
 ghost use Rattle.typing_laws.specs.Assumed.{task_in_place, Typing, Grows, Kept, ExpressionFits, EvaluationFits, main_type};
 ghost use Rattle.typing_laws.specs.ProgramFacts.{ProgramFacts};

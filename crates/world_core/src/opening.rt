@@ -10,12 +10,11 @@ ghost use Rattle.task_model.specs.Running.State.{IsOpening};
 use crate::answers::OpenStop;
 use crate::counted::CountedTree;
 use host_eval::Names;
+use program_copies::copy_program;
 use shared_store::Store;
 use std::alloc::Global;
 use task_engine::{Engine, normalise};
-use task_model::{
-    Checked, Item, OutOfMemory, Purse, Row, Stop, Task, TaskText, Tree, Value, copy_program,
-};
+use task_model::{Checked, Item, OutOfMemory, Purse, Row, Stop, Task, TaskText, Tree, Value};
 
 /// The history at the opening.
 pub(crate) fn opened_history(

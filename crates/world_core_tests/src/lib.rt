@@ -1,4 +1,4 @@
-//! What worlds do with the inputs of small programs: tables of programs with their openings, inputs and budgets, of expressions, and want of
+//! What worlds do with the inputs of small programs: tables of programs with their openings, inputs, budgets and offers, and want of
 //! memory. Tests alone.
 #![tactic(auto)]
 

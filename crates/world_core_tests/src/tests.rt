@@ -1,7 +1,7 @@
 mod event_tables;
 mod events;
-mod expression_tables;
-mod expressions;
+mod offer_tables;
+mod offering;
 mod setting;
 mod wants;
 
@@ -17,7 +17,7 @@ use testing_programs::{BlockTest, is_right, table_differences};
 #[derive(Clone, Copy)]
 enum Kind {
     Events,
-    Expressions,
+    Offers,
     Sets,
     Wants,
 }
@@ -31,7 +31,7 @@ impl BlockTest for Kind {
     ) -> Result<String, OutOfMemory> {
         match self {
             Kind::Events => events::differences(alloc, block, steps),
-            Kind::Expressions => expressions::differences(alloc, block, steps),
+            Kind::Offers => offering::differences(alloc, block, steps),
             Kind::Sets => setting::differences(alloc, block, steps),
             Kind::Wants => wants::differences(alloc, block, steps),
         }
@@ -59,13 +59,8 @@ fn exact_units(rt: HostRuntime) -> Result<(), Fail> {
 }
 
 #[test]
-fn worked_expressions(rt: HostRuntime) -> Result<(), Fail> {
-    Ok(assert_right(&rt, expression_tables::EXPRESSIONS, Kind::Expressions)?)
-}
-
-#[test]
-fn heights_of_expressions(rt: HostRuntime) -> Result<(), Fail> {
-    Ok(assert_right(&rt, expression_tables::HEIGHTS, Kind::Events)?)
+fn worked_offers(rt: HostRuntime) -> Result<(), Fail> {
+    Ok(assert_right(&rt, offer_tables::OFFERS, Kind::Offers)?)
 }
 
 #[test]

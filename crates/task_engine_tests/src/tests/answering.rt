@@ -1,6 +1,6 @@
 //! Calls on a bench, and what they answer in words.
-use super::bench::Bench;
 use super::showing::{layers_text, state_text};
+use crate::Bench;
 use literal_text::read_any;
 use std::alloc::Global;
 use std::sync::ledger::Ledger;
@@ -90,6 +90,8 @@ fn called(
     match call {
         "evaluate main()" => led(bench.start_main(false, purse)),
         "normalise main()" => led(bench.start_main(true, purse)),
+        "evaluate" => led(bench.start_first(false, purse)),
+        "normalise" => led(bench.start_first(true, purse)),
         "stride" => led(bench.stride(purse)),
         "settle" => led(bench.settle(purse)),
         "failing" => told(bench.failing(purse)),

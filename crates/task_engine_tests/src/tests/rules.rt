@@ -1,32 +1,7 @@
 //! Single rules: the order of parts, trials that are undone, settling, values, types of nodes, and layers that stand.
 
-pub(super) const RULES: &str = r#"task main() : int = edit 1 >>= x . edit 2 >>= y . edit 3
-normalise main(): 4 5 => edit int 3 []
-evaluate main(): 1 4 => (edit int 1 >>= 0()) []
-failing: 0 2 => fine (edit int 1 >>= 0()) []
-next 4: 2 => yes (edit int 1 >>= 0()) []
-settle: 3 5 => edit int 3 []
-evaluate main(): 1 4 => (edit int 1 >>= 0()) []
-stride: 0 4 => (edit int 2 >>= 1(1)) []
-stride: 0 3 => edit int 3 []
-stride: 0 1 => edit int 3 []
-settle: 1 2 => edit int 3 []
-
-task main() : int = edit 1 >>= x . edit 2 >>= y . edit (1 + (2 * (3 - y)))
-normalise main(): 4 7 => edit int 3 []
-
-task main() : int = case nil int of [] -> (edit 1 >>= x . edit 2) | h :: t -> edit h
-evaluate main(): 1 5 => (edit int 1 >>= 0()) []
-
-task loop() : int = edit 1 >>= x . loop() task main() : int = loop()
-normalise main(): 4 6 => (edit int 1 >>= 0()) []
-evaluate main(): 2 5 => (edit int 1 >>= 0()) []
-stride: 1 5 => (edit int 1 >>= 0()) []
-settle: 2 6 => (edit int 1 >>= 0()) []
-next 9: 3 => yes (edit int 1 >>= 0()) []
-apply 9: 1 4 => (edit int 1 >>= 0()) []
-
-task main() : (int, int) = new r = 0 in (r := !r + 1 ; edit !r) <&> (r := !r * 10 ; edit !r)
+pub(super) const RULES: &str =
+    r#"task main() : (int, int) = new r = 0 in (r := !r + 1 ; edit !r) <&> (r := !r * 10 ; edit !r)
 evaluate main(): 1 6 => (edit int 1 <&> edit int 10) [10]
 
 task main() : int = new r = 0 in (r := !r + 1 ; edit !r) <|> (r := !r * 10 ; edit !r)

@@ -1,6 +1,6 @@
 //! Trees and stores as text.
 
-use super::bench::Bench;
+use crate::Bench;
 use literal_text::print_value;
 use std::alloc::Global;
 use task_model::{OutOfMemory, Value};

@@ -14,7 +14,7 @@ use Rattle.task_model.specs.Checking.TypeOf.{listed_types}
 use Rattle.task_model.specs.Checking.TaskDemands.{bodies_in_place}
 use Rattle.task_model.specs.Checking.TaskTyping.{HasTask}
 use Rattle.task_model.specs.Checking.Placed.{firsts_of}
-use Rattle.task_model.specs.Checking.Parts.{body_part, IsPart}
+use Rattle.task_model.specs.Checking.ProgramParts.{body_part, IsPart}
 
 -- each value of a store has its place's type
 abbrev pub StoreHas : List ValueTerm → List BasicTerm → Type 0

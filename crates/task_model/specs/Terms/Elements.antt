@@ -2,5 +2,5 @@
 use Rattle.std.specs.Prelude.{List, drop}
 use Rattle.task_model.specs.declared.elements.Elements.{Elements}
 
-abbrev pub elements : {A : Type 0} → Elements A → List A
-elements e = drop e.from e.block.value.list
+abbrev pub elements_in : {A : Type 0} → Elements A → List A
+elements_in e = drop e.from e.block.value.list

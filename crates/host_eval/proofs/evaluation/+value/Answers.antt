@@ -2,7 +2,6 @@ use Rattle.std.proofs.Common.{◌≡◌, Some, map, Bool, true, false, ap, ◌�
 use mathlib.Core.Bool.{beq}
 use Rattle.std.specs.Prelude.{slice_get}
 use Rattle.task_model.specs.Running.Operators.{same_bool}
-use Rattle.task_model.specs.declared.value.Value as value
 use Rattle.task_model.specs.Terms.Value.{list_value, as_values, value_term}
 use Rattle.task_model.specs.Terms.Env.{plain_slot, EnvTerm}
 use Rattle.task_model.specs.Terms.Host.{host_term}
@@ -241,7 +240,7 @@ pub op_form-lazy_form-requires : goal.op_form-lazy_form-requires
 op_form-lazy_form-requires g t c =
     inside (search rules) (
       c.requires.accepted,
-      well_is (lazy_is (checked_term c.args.checked.now) _ _ _ _ _ _ c.in-Some.ensures)
+      well_is (lazy_is (checked_term c.args.definitions.now) _ _ _ _ _ _ c.in-Some.ensures)
           c.requires.well,
     )
 
@@ -249,16 +248,16 @@ pub op_form-strict_form-requires : goal.op_form-strict_form-requires
 op_form-strict_form-requires g t c =
     inside (search rules) (
       c.requires.accepted,
-      well_is (strict_is (checked_term c.args.checked.now) _ _ _ _ _ c.in-None.ensures)
+      well_is (strict_is (checked_term c.args.definitions.now) _ _ _ _ _ c.in-None.ensures)
           c.requires.well,
     )
 
 pub op_form-returns-in-Some-clause-ran : goal.op_form-returns-in-Some-clause-ran
-op_form-returns-in-Some-clause-ran g t c = ran_is (lazy_is (checked_term c.args.checked.now) _ _ _ _ _ _ c.in-Some.ensures)
+op_form-returns-in-Some-clause-ran g t c = ran_is (lazy_is (checked_term c.args.definitions.now) _ _ _ _ _ _ c.in-Some.ensures)
     c.lazy_form.ensures.ran
 
 pub op_form-returns-in-None-clause-ran : goal.op_form-returns-in-None-clause-ran
-op_form-returns-in-None-clause-ran g t c = ran_is (strict_is (checked_term c.args.checked.now) _ _ _ _ _ c.in-None.ensures)
+op_form-returns-in-None-clause-ran g t c = ran_is (strict_is (checked_term c.args.definitions.now) _ _ _ _ _ c.in-None.ensures)
     c.strict_form.ensures.ran
 
 pub lazy_form-value_at-requires : goal.lazy_form-value_at-requires
@@ -416,20 +415,20 @@ values_at-returns-clause-ran g t c = c.loop-rest.invariant.rest _ _ (ran_is (val
 -- ---- calls
 
 pub call_form-callee-requires : goal.call_form-callee-requires
-call_form-callee-requires g t c = rw c.program.ensures.program (record { known = well_callee _ _ _ _ c.requires.well })
+call_form-callee-requires g t c = record { known = well_callee _ _ _ _ c.requires.well }
 
 pub call_form-call_at-requires : goal.call_form-call_at-requires
 call_form-call_at-requires g t c =
     inside (search rules) (
       c.requires.accepted,
       (
-        well_call _ _ _ _ _ (rw c.program.ensures.program at c.callee.ensures) c.requires.well,
+        well_call _ _ _ _ _ c.callee.ensures c.requires.well,
         c.requires.paired,
       ),
     )
 
 pub call_form-returns-clause-ran : goal.call_form-returns-clause-ran
-call_form-returns-clause-ran g t c = ran_call _ _ _ _ _ (rw c.program.ensures.program at c.callee.ensures) c.call_at.ensures.ran
+call_form-returns-clause-ran g t c = ran_call _ _ _ _ _ c.callee.ensures c.call_at.ensures.ran
 
 pub call_at-slots_at-requires : goal.call_at-slots_at-requires
 call_at-slots_at-requires g t c =

@@ -68,12 +68,13 @@ decreases-value_form g l = 6 * l.purse.now.height + 5
 abbrev pub invariant-values_at-loop-rest : goal.invariant-values_at-loop-rest
 invariant-values_at-loop-rest g l = record {
   height : l.purse.height ≡ l.initial.purse.height;
-  well : Well (checked_term l.checked) (values_for (names_term l.names) (g.R.Reads.values l.reads) (map value_term l.values.list)
+  well : Well (checked_term l.definitions) (values_for (names_term l.names) (g.R.Reads.values l.reads) (map value_term l.values.list)
       (as_exprs (map host_term l.rest)));
   rest : (new : Left) (r : Result (Rowed Value) Stop)
-      → RunsPlan (checked_term l.checked) (values_for (names_term l.names) (g.R.Reads.values l.reads) (map value_term l.values.list)
+      → RunsPlan (checked_term l.definitions) (values_for (names_term l.names) (g.R.Reads.values l.reads) (map value_term l.values.list)
       (as_exprs (map host_term l.rest))) (λ q. map value_term q.list) l.purse new r
-      → RunsPlan (checked_term l.checked) (values_for (names_term l.names) (g.R.Reads.values l.reads) [] (as_exprs (map host_term l.items)))
+      → RunsPlan (checked_term l.definitions)
+      (values_for (names_term l.names) (g.R.Reads.values l.reads) [] (as_exprs (map host_term l.items)))
       (λ q. map value_term q.list) l.initial.purse new r;
 }
 
@@ -83,13 +84,13 @@ decreases-values_at-loop-rest g l = length l.rest
 abbrev pub invariant-slots_at-loop-rest : goal.invariant-slots_at-loop-rest
 invariant-slots_at-loop-rest g l = record {
   height : l.purse.height ≡ l.initial.purse.height;
-  well : Well (checked_term l.checked)
+  well : Well (checked_term l.definitions)
       (slots_for (names_term l.names) (g.R.Reads.values l.reads) (map slot_term l.slots.list) (map host_term l.rest) (map param_term l.at));
   rest : (new : Left) (r : Result (Rowed Slot) Stop)
-      → RunsPlan (checked_term l.checked)
+      → RunsPlan (checked_term l.definitions)
       (slots_for (names_term l.names) (g.R.Reads.values l.reads) (map slot_term l.slots.list) (map host_term l.rest) (map param_term l.at))
       (λ q. map slot_term q.list) l.purse new r
-      → RunsPlan (checked_term l.checked)
+      → RunsPlan (checked_term l.definitions)
       (slots_for (names_term l.names) (g.R.Reads.values l.reads) [] (map host_term l.args) (map param_term l.params))
       (λ q. map slot_term q.list) l.initial.purse new r;
 }

@@ -6,4 +6,4 @@ pub returns-clause-spends : goal.returns-clause-spends
 returns-clause-spends g c = spends_asked c.value_at.ensures.asked
 
 pub returns-clause-typed : goal.returns-clause-typed
-returns-clause-typed g c = value_typed _ c.program-accepted.ensures.accepted c.value_at.ensures.asked
+returns-clause-typed g c = value_typed _ (rw c.checked.ensures at c.program-accepted.ensures.accepted) c.value_at.ensures.asked

@@ -12,7 +12,8 @@ pub quiet_value-returns-in-Some : goal.quiet_value-returns-in-Some
 quiet_value-returns-in-Some t c =
     let least = c.in-Some.ensures in
     let up : c.in-Some.below + 1 ≡ c.args.height = omega (arith, least) in
-    subst (λ k. IfSome c.quiet_form.result (λ valued. (d : CheckedTerm) → IsQuiet d (tree_term c.args.t.now) (values_in c.args.store.now) k valued))
+    subst (λ k. IfSome c.quiet_form.result
+    (λ valued. (d : CheckedTerm) → IsQuiet d (tree_term c.args.t.now) (values_in c.args.store.now) k valued))
     up c.quiet_form.ensures
 
 pub quiet_form-returns-in-Edit : goal.quiet_form-returns-in-Edit
@@ -57,7 +58,8 @@ quiet_and-returns-then-first t c = λ d.
     let two = tree_term (arc_value c.args.b.now) in
     let first = rw c.deref.ensures at c.in_ok-first.ensures in
     let second = rw c.deref-2.ensures at c.in_ok-second.ensures in
-    subst (λ b. IsQuiet d (and_tree one two) (values_in c.args.store.now) (c.args.below + 1) (cond b c.in_ok-second.second false)) c.if-first.true
+    subst (λ b. IsQuiet d (and_tree one two) (values_in c.args.store.now) (c.args.below + 1) (cond b c.in_ok-second.second false))
+    c.if-first.true
     (quiet_and d one two (values_in c.args.store.now) c.args.below c.in_ok-first.first c.in_ok-second.second (first d) (second d))
 
 pub quiet_and-returns-else-first : goal.quiet_and-returns-else-first

@@ -19,7 +19,8 @@ returns-then-not-is_right c =
     let w = c.index-overwritten-i.result in (
       λ f. absurd (true≢false (sym f)),
       λ e. absurd (true≢false (sym (c.is_right.ensures.1 (subst (λ b. IsRight w b xs) (sym (c.loop-i.invariant.told w.place))
-          (walk_right ws xs c.loop-i.i w c.loop-i-test.true c.index-overwritten-i.is (c.loop-i.invariant.down e)))) ∙ c.if-not-is_right.true)),
+          (walk_right ws xs c.loop-i.i w c.loop-i-test.true c.index-overwritten-i.is (c.loop-i.invariant.down e))))
+          ∙ c.if-not-is_right.true)),
     )
 
 pub loop-i-preserved : goal.loop-i-preserved

@@ -15,5 +15,6 @@ returns c =
     let whole : c.changes-changes.result.count ≡ length list = search rules in
     IfOk-weaker c.are_as_before.result (λ same. (same ≡ true) ↔ (map value_term (rewound overwritten list) ≡ map value_term list))
     (λ same. (σ : List Value) → layer ≡ Some σ → (same ≡ true) ↔ (map value_term list ≡ map value_term σ))
-    (λ same told σ e. layer_whole layer σ list overwritten c.changes-changes.result.count same c.changes-changes.ensures.undone e whole told)
+    (λ same told σ e.
+    layer_whole layer σ list overwritten c.changes-changes.result.count same c.changes-changes.ensures.undone e whole told)
     (rw c.as_slice-values.ensures at c.are_as_before.ensures)

@@ -2,7 +2,7 @@ use Rattle.std.proofs.Common.{◌≡◌, ◌∙◌, ◌<◌, ◌≤◌, ℕ, tru
 use Rattle.std.specs.Prelude.{nat_le}
 use Rattle.std.proofs.lemmas.Bool.Decides.{nat_tests}
 use Rattle.std.proofs.lemmas.List.{length-map}
-use Rattle.task_model.specs.Terms.Elements.{elements}
+use Rattle.task_model.specs.Terms.Elements.{elements_in}
 use Rattle.task_model.specs.declared.elements.Elements.{Elements}
 use Rattle.task_model.specs.Terms.Basic.{BasicTerm, list_type}
 use Rattle.task_model.specs.Terms.Value.{value_term, list_value, as_values, value_has, values_have}
@@ -14,11 +14,11 @@ use Rattle.task_model.proofs.has.+has.Goals as goal
 -- whether a list value has a list type, by its elements
 list_has : (e : Elements value.Value) (b : BasicTerm)
     → value_has (value_term (value.List e)) (list_type b)
-    ≡ cond (nat_le (length (elements e)) 1024) (values_have (as_values (map value_term (elements e))) b) false
+    ≡ cond (nat_le (length (elements_in e)) 1024) (values_have (as_values (map value_term (elements_in e))) b) false
 list_has e b =
     ap (λ v. value_has v (list_type b)) (value_term-List e)
-    ∙ ap (λ n. cond (nat_le n 1024) (values_have (as_values (map value_term (elements e))) b) false)
-    (count_of-as_values (map value_term (elements e)) ∙ length-map (elements e) value_term)
+    ∙ ap (λ n. cond (nat_le n 1024) (values_have (as_values (map value_term (elements_in e))) b) false)
+    (count_of-as_values (map value_term (elements_in e)) ∙ length-map (elements_in e) value_term)
 
 within : (n : ℕ) → n ≤ 1024 → nat_le n 1024 ≡ true
 within n le = grind (arith, nat_tests)

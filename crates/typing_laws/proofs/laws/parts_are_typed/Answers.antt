@@ -1,4 +1,4 @@
-use Rattle.task_model.specs.Checking.Parts.{task_part}
+use Rattle.task_model.specs.Checking.ProgramParts.{task_part}
 use Rattle.typing_laws.proofs.TypedPartLemmas.{part_typed, part_may}
 use Rattle.typing_laws.proofs.laws.parts_are_typed.Goals as goal
 

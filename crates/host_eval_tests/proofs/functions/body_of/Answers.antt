@@ -1,0 +1,14 @@
+use Rattle.std.proofs.Common.{map, Some, ap, ◌∙◌}
+use Rattle.task_model.specs.Terms.Host.{host_term}
+use Rattle.task_model.specs.Terms.Program.{param_term}
+use Rattle.task_model.specs.Running.Checked.{checked_term}
+use Rattle.host_eval.specs.ValueWords.{function_term}
+use Rattle.host_eval.proofs.ListLemmas.{empty}
+use Rattle.host_eval_tests.proofs.BodyLemmas.{may_run}
+use Rattle.host_eval_tests.proofs.functions.body_of.Goals as goal
+
+pub returns-in-empty-clause-may : goal.returns-in-empty-clause-may
+returns-in-empty-clause-may c =
+    let e = host_term c.in-Some.body.now in
+    may_run (checked_term c.args.definitions.now) c.program-accepted.ensures.accepted c.args.name.now e
+    (c.in-Some.ensures ∙ ap (λ ps. Some (function_term (map param_term ps) e)) (empty c.in-Some.params.now c.in-empty.len_below))
