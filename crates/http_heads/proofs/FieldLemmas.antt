@@ -8,7 +8,7 @@ use Rattle.std.proofs.lemmas.List.Elements.{All-tail}
 use Rattle.httparse.specs.Spans.{IsHeaderWithin, span_bytes, header_bytes}
 use Rattle.task_model.specs.Terms.Text.{Text}
 use Rattle.http_heads.specs.Heads.{values_among}
-use Rattle.http_heads.specs.Spans.{AreSpansWithin, fields_at}
+use Rattle.http_heads.specs.Spans.{AreFieldsWithin, fields_at}
 
 take_all : (xs : List ℕ) → take (length xs) xs ≡ xs
 take_all [] = refl
@@ -40,10 +40,10 @@ pub values_first : (name : Text) (field : Text × Text) (fields : List (Text × 
 values_first name field fields e =
     ap (λ t. cond t (field.1 ∷ values_among name fields) (values_among name fields)) e
 
-pub next_field : (block name : Text) (rest behind : List HeaderSpan) (field : HeaderSpan) → rest ≡ field ∷ behind → AreSpansWithin block rest
+pub next_field : (block name : Text) (rest behind : List HeaderSpan) (field : HeaderSpan) → rest ≡ field ∷ behind → AreFieldsWithin block rest
     → str_eq_ignore_ascii_case (span_bytes block field.name) name ≡ false
-    → AreSpansWithin block behind × (values_among name (fields_at block rest) ≡ values_among name (fields_at block behind))
+    → AreFieldsWithin block behind × (values_among name (fields_at block rest) ≡ values_among name (fields_at block behind))
 next_field block name rest behind field e within differs = (
-  All-tail (IsHeaderWithin (length block)) field behind (subst (AreSpansWithin block) e within),
+  All-tail (IsHeaderWithin (length block)) field behind (subst (AreFieldsWithin block) e within),
   ap (λ l. values_among name (fields_at block l)) e ∙ values_behind name (header_bytes block field) (fields_at block behind) differs,
 )

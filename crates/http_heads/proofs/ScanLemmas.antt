@@ -5,7 +5,7 @@ use Rattle.http_heads.specs.declared.phase.Phase.{Phase}
 use Rattle.http_heads.specs.declared.phase.Phase.TheVariants as phases
 use Rattle.http_heads.specs.declared.head_scan.HeadScan.{HeadScan}
 use Rattle.http_heads.specs.Blocks.{head_limit, end_of_block, head_length}
-use Rattle.http_heads.specs.Phases.{rest_in_phase, HasLookedAt}
+use Rattle.http_heads.specs.Phases.{rest_behind, HasLookedAt}
 
 -- ---- lists
 take_suc : (t : Text) (k : ℕ) (u : Text) → k < length t → take (suc k) t ++ u ≡ take k t ++ (get_or t k 0 ∷ u)
@@ -45,7 +45,7 @@ mapped_next k (Some n) = ap Some (omega arith)
 -- ---- the search
 pub looked_next : (scan : HeadScan) (bytes : Text) (phase : Phase) → HasLookedAt scan bytes → scan.looked < length bytes
     → scan.looked < head_limit
-    → ((t : Text) → rest_in_phase scan.phase (get_or bytes scan.looked 0 ∷ t) ≡ option_map (λ n. suc n) (rest_in_phase phase t))
+    → ((t : Text) → rest_behind scan.phase (get_or bytes scan.looked 0 ∷ t) ≡ option_map (λ n. suc n) (rest_behind phase t))
     → HasLookedAt (record { looked = scan.looked + 1; phase = phase }) bytes
 looked_next scan bytes phase h lt short one = record {
   within = omega arith;
@@ -54,7 +54,7 @@ looked_next scan bytes phase h lt short one = record {
       ap end_of_block (take_next bytes scan.looked t lt)
       ∙ h.rest (get_or bytes scan.looked 0 ∷ t)
       ∙ ap (option_map (λ n. scan.looked + n)) (one t)
-      ∙ mapped_next scan.looked (rest_in_phase phase t);
+      ∙ mapped_next scan.looked (rest_behind phase t);
 }
 
 -- the block has ended
@@ -62,10 +62,10 @@ pub looked_to_end : (scan : HeadScan) (bytes : Text) → HasLookedAt scan bytes 
     → Some scan.looked ≡ head_length bytes
 looked_to_end scan bytes h ended =
     let (u, e) = take_part bytes scan.looked head_limit h.short in
-    sym (ap end_of_block e ∙ h.rest u ∙ ap (λ p. option_map (λ n. scan.looked + n) (rest_in_phase p u)) ended ∙ ap Some (omega arith))
+    sym (ap end_of_block e ∙ h.rest u ∙ ap (λ p. option_map (λ n. scan.looked + n) (rest_behind p u)) ended ∙ ap Some (omega arith))
 
 -- nothing comes of no bytes
-pub rest_of_none : (p : Phase) → p ≢ phases.Ended → rest_in_phase p [] ≡ None
+pub rest_of_none : (p : Phase) → p ≢ phases.Ended → rest_behind p [] ≡ None
 rest_of_none phases.Blank differs = refl
 rest_of_none phases.BlankReturn differs = refl
 rest_of_none phases.Line differs = refl

@@ -32,17 +32,17 @@ ends_at LengthOfPost = false
 ends_at GoodContent = false
 
 -- and a text tells why.
-abbrev pub refused_body : Check → Text
-refused_body ShortHead = codes "head too large"
-refused_body WholeHead = codes "bad request"
-refused_body OneHost = codes "bad request"
-refused_body NoCoding = codes "not implemented"
-refused_body OneLength = codes "bad request"
-refused_body ShortBody = codes "body too large"
-refused_body KnownTarget = codes "not found"
-refused_body KnownMethod = codes "method not allowed"
-refused_body LengthOfPost = codes "length required"
-refused_body GoodContent = codes "bad request"
+abbrev pub check_text : Check → Text
+check_text ShortHead = codes "head too large"
+check_text WholeHead = codes "bad request"
+check_text OneHost = codes "bad request"
+check_text NoCoding = codes "not implemented"
+check_text OneLength = codes "bad request"
+check_text ShortBody = codes "body too large"
+check_text KnownTarget = codes "not found"
+check_text KnownMethod = codes "method not allowed"
+check_text LengthOfPost = codes "length required"
+check_text GoodContent = codes "bad request"
 
 -- There is no field of the name.
 abbrev pub lacks : Text → HeadTerm → Bool

@@ -12,8 +12,8 @@ use Rattle.http_heads.specs.Heads.{HeadTerm, IsHead, query_of, is_head, is_post,
 use Rattle.http_heads.specs.Checks.{failed_check, body_taken}
 
 -- The spans lie within the block.
-abbrev pub AreSpansWithin : Text → List HeaderSpan → Type 0
-AreSpansWithin block fields = All (IsHeaderWithin (length block)) fields
+abbrev pub AreFieldsWithin : Text → List HeaderSpan → Type 0
+AreFieldsWithin block fields = All (IsHeaderWithin (length block)) fields
 
 -- The fields that the spans cover.
 abbrev pub fields_at : Text → List HeaderSpan → List (Text × Text)

@@ -2,7 +2,7 @@ ghost use Rattle.std.specs.Prelude.{◌≡◌, ◌≤◌, ◌+◌, ◌-◌, leng
 ghost use Rattle.httparse.specs.Spans.{IsRequestWithin, IsRequestOf};
 ghost use Rattle.http_heads.specs.Blocks as blocks;
 ghost use Rattle.http_heads.specs.Heads.{HeadTerm, IsHead};
-ghost use Rattle.http_heads.specs.Spans.{AreSpansWithin, head_of, FailsAsBlock, PassesAsBlock};
+ghost use Rattle.http_heads.specs.Spans.{AreFieldsWithin, head_of, FailsAsBlock, PassesAsBlock};
 
 use crate::check::Check;
 use crate::facts::HeadFacts;

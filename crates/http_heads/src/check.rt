@@ -1,5 +1,5 @@
 ghost use Rattle.std.specs.Prelude.{◌≡◌};
-ghost use Rattle.http_heads.specs.Checks.{check_status, ends_at, refused_body};
+ghost use Rattle.http_heads.specs.Checks.{check_status, ends_at, check_text};
 
 /// The checks of a request, in their order (docs/FORMATS.md, "Checks").
 #[derive(Clone, Copy, Debug, PartialEq, Eq)]
@@ -60,7 +60,7 @@ impl Check {
 
     /// What a request that fails it is told (docs/FORMATS.md, "Replies").
     pub fn text(self) -> &'static str
-        ensures { result.now ≡ refused_body self }
+        ensures { result.now ≡ check_text self }
     {
         match self {
             Check::ShortHead => "head too large",

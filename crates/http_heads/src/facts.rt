@@ -1,6 +1,6 @@
 ghost use Rattle.std.specs.Prelude.{◌≡◌, if◌then◌else◌, unwrap_or};
 ghost use Rattle.http_heads.specs.Checks.{is_end};
-ghost use Rattle.http_heads.specs.Spans.{AreSpansWithin, head_of, SaysOf};
+ghost use Rattle.http_heads.specs.Spans.{AreFieldsWithin, head_of, SaysOf};
 
 use crate::check::Check;
 use crate::head::Head;
@@ -25,7 +25,7 @@ pub struct HeadFacts<'b> {
 impl<'b> HeadFacts<'b> {
     /// What this head says.
     pub(crate) fn of(head: &Head<'b, '_>) -> HeadFacts<'b>
-        requires { AreSpansWithin head.now.block.now head.now.fields.now }
+        requires { AreFieldsWithin head.now.block.now head.now.fields.now }
         ensures { SaysOf result (head_of head.now) }
     {
         let failed = head.failed_check();

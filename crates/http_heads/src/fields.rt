@@ -2,7 +2,7 @@ ghost use Rattle.std.specs.Prelude.{◌≡◌, ◌∷◌, ◌<◌, [], length, M
 ghost use Rattle.httparse.specs.Grammar.{is_ows, trim_ows};
 ghost use Rattle.http_heads.specs.Heads as heads;
 ghost use Rattle.http_heads.specs.Heads.{values_among};
-ghost use Rattle.http_heads.specs.Spans.{AreSpansWithin, fields_at};
+ghost use Rattle.http_heads.specs.Spans.{AreFieldsWithin, fields_at};
 
 use httparse::spans::HeaderSpan;
 
@@ -12,11 +12,11 @@ pub(crate) fn first_value<'b, 'h>(
     fields: &'h [HeaderSpan],
     name: &[u8],
 ) -> Option<(&'b [u8], &'h [HeaderSpan])>
-    requires { AreSpansWithin block.now fields.now }
+    requires { AreFieldsWithin block.now fields.now }
     ensures value { MatchOption result (values_among name.now (fields_at block.now fields.now) ≡ [])
         (λ r. values_among name.now (fields_at block.now fields.now)
         ≡ r.0.now ∷ values_among name.now (fields_at block.now r.1.now)) }
-    ensures within { IfSome result (λ r. AreSpansWithin block.now r.1.now × (length r.1.now < length fields.now)) }
+    ensures within { IfSome result (λ r. AreFieldsWithin block.now r.1.now × (length r.1.now < length fields.now)) }
 {
     let mut rest = fields;
     while let Some((field, behind)) = rest.split_first() {

@@ -5,7 +5,7 @@ ghost use Rattle.httparse.specs.Spans.{IsRequestWithin, IsRequestAt};
 ghost use Rattle.http_heads.specs.Heads as heads;
 ghost use Rattle.http_heads.specs.Heads.{head_term};
 ghost use Rattle.http_heads.specs.Checks as checks;
-ghost use Rattle.http_heads.specs.Spans.{AreSpansWithin, head_of};
+ghost use Rattle.http_heads.specs.Spans.{AreFieldsWithin, head_of};
 
 use crate::check::Check;
 use crate::fields::{first_value, has_close};
@@ -30,7 +30,7 @@ impl<'b, 'h> Head<'b, 'h> {
     /// The head that stands in the block at the spans.
     pub(crate) fn at(block: &'b [u8], spans: &RequestSpans, room: &'h [HeaderSpan]) -> Head<'b, 'h>
         requires { IsRequestWithin block.now room.now spans.now }
-        ensures within { AreSpansWithin result.block.now result.fields.now }
+        ensures within { AreFieldsWithin result.block.now result.fields.now }
         ensures head { (h : RequestHead) → IsRequestAt block.now room.now spans.now h → head_term h ≡ head_of result }
     {
         Head {
@@ -65,7 +65,7 @@ impl<'b, 'h> Head<'b, 'h> {
 
     /// The first of the checks 3 to 9 that the head fails.
     pub(crate) fn failed_check(&self) -> Option<Check>
-        requires { AreSpansWithin self.now.block.now self.now.fields.now }
+        requires { AreFieldsWithin self.now.block.now self.now.fields.now }
         ensures { result ≡ checks.failed_check (head_of self.now) }
     {
         if self.minor == 1 && !self.has_one(b"host") {
@@ -94,7 +94,7 @@ impl<'b, 'h> Head<'b, 'h> {
 
     /// The number that `Content-Length` says: 0 without that field.
     pub(crate) fn length(&self) -> Option<u64>
-        requires { AreSpansWithin self.now.block.now self.now.fields.now }
+        requires { AreFieldsWithin self.now.block.now self.now.fields.now }
         ensures { result ≡ heads.length_given (head_of self.now) }
     {
         match first_value(self.block, self.fields, b"content-length") {
@@ -111,7 +111,7 @@ impl<'b, 'h> Head<'b, 'h> {
 
     /// Whether the request asks for the end of the connection.
     pub(crate) fn asks_close(&self) -> bool
-        requires { AreSpansWithin self.now.block.now self.now.fields.now }
+        requires { AreFieldsWithin self.now.block.now self.now.fields.now }
         ensures { result ≡ heads.asks_close (head_of self.now) }
     {
         if self.minor == 0 {
@@ -140,7 +140,7 @@ impl<'b, 'h> Head<'b, 'h> {
 
     /// Whether there is exactly one field of the name.
     fn has_one(&self, name: &[u8]) -> bool
-        requires { AreSpansWithin self.now.block.now self.now.fields.now }
+        requires { AreFieldsWithin self.now.block.now self.now.fields.now }
         ensures { result ≡ (length (heads.values_of name.now (head_of self.now)) == 1) }
     {
         match first_value(self.block, self.fields, name) {
@@ -151,7 +151,7 @@ impl<'b, 'h> Head<'b, 'h> {
 
     /// Whether there is no field of the name.
     fn lacks(&self, name: &[u8]) -> bool
-        requires { AreSpansWithin self.now.block.now self.now.fields.now }
+        requires { AreFieldsWithin self.now.block.now self.now.fields.now }
         ensures { result ≡ checks.lacks name.now (head_of self.now) }
     {
         first_value(self.block, self.fields, name).is_none()

@@ -1,6 +1,6 @@
 ghost use Rattle.std.specs.Prelude.{◌≡◌, ◌≢◌, suc, ◌∷◌, option_map, MatchBool};
 ghost use Rattle.task_model.specs.Terms.Text.{Text};
-ghost use Rattle.http_heads.specs.Phases.{rest_in_phase};
+ghost use Rattle.http_heads.specs.Phases.{rest_behind};
 
 /// What the bytes up to a place end in, as far as the end of the block depends on it.
 #[derive(Clone, Copy)]
@@ -24,7 +24,7 @@ impl Phase {
     #[tactic(auto, using(crate::proofs::PhaseLemmas::steps))]
     pub(crate) fn behind(self, byte: u8) -> Phase
         requires { self ≢ Phase.Ended }
-        ensures { (t : Text) → rest_in_phase self (byte ∷ t) ≡ option_map (λ n. suc n) (rest_in_phase result t) }
+        ensures { (t : Text) → rest_behind self (byte ∷ t) ≡ option_map (λ n. suc n) (rest_behind result t) }
     {
         match self {
             Phase::Blank => match byte {

@@ -11,8 +11,8 @@ use Rattle.task_model.specs.declared.widget.Sign.{Sign}
 use Rattle.task_model.specs.declared.widget.Sign.TheVariants as signs
 use Rattle.std.specs.List.{All}
 use Rattle.std.proofs.lemmas.List.Elements.{All-head}
-use Rattle.tree_trail.specs.Below.{offer_below}
-use Rattle.tree_trail.proofs.BelowLemmas.{into_own, into_outer, first_apart, append_same}
+use Rattle.task_tree.specs.Below.{offer_below}
+use Rattle.task_tree.proofs.BelowLemmas.{into_own, into_outer, first_apart, append_same}
 use Rattle.interface.specs.Marks.{behind_mark, BeginsElsewhere}
 use Rattle.interface.specs.Walked.{AreElsewhere}
 

@@ -12,8 +12,8 @@ use Rattle.task_model.specs.declared.input.Turn.{Turn}
 use Rattle.task_model.specs.declared.input.Turn.TheVariants as turns
 use Rattle.task_model.specs.declared.widget.Sign.{Sign}
 use Rattle.task_model.specs.declared.widget.Sign.TheVariants as signs
-use Rattle.tree_trail.specs.Below.{offer_below, widget_below}
-use Rattle.tree_trail.proofs.BelowLemmas.{offers_at_root, widgets_at_root, offers_append, offers_of_both, widgets_of_both}
+use Rattle.task_tree.specs.Below.{offer_below, widget_below}
+use Rattle.task_tree.proofs.BelowLemmas.{offers_at_root, widgets_at_root, offers_append, offers_of_both, widgets_of_both}
 use Rattle.interface.specs.Marks.{behind_mark, MarksStep}
 use Rattle.interface.specs.Walked.{AreElsewhere, OffersLead, Walked, Picked}
 use Rattle.interface.proofs.ElsewhereLemmas.{NextAlone, elsewhere_append, elsewhere_second, elsewhere_inner, others_begin, left_begins, right_begins, behind_offered}

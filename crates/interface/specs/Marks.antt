@@ -7,7 +7,7 @@ use Rattle.task_model.specs.declared.widget.Sign.{Sign}
 use Rattle.task_model.specs.declared.widget.Sign.TheVariants as signs
 use Rattle.task_model.specs.declared.offer.Answer.{Answer}
 use Rattle.task_model.specs.declared.offer.Answer.TheVariants as answers
-use Rattle.tree_trail.specs.Below.{offer_below}
+use Rattle.task_tree.specs.Below.{offer_below}
 use Rattle.interface.specs.declared.marks.Tested.{Tested}
 use Rattle.interface.specs.declared.marks.Tested.TheVariants as tested
 

@@ -8,7 +8,7 @@ use Rattle.task_model.specs.Running.Offer.{left_offer, right_offer, OfferTerm, A
 use Rattle.task_model.specs.Showing.Widget.{WidgetTerm, pick_shape, here, AreWidgets}
 use Rattle.task_model.specs.declared.input.Turn.{Turn}
 use Rattle.task_model.specs.declared.widget.Sign.{Sign}
-use Rattle.tree_trail.specs.Below.{offer_below, widget_below, IsInto}
+use Rattle.task_tree.specs.Below.{offer_below, widget_below, IsInto}
 use Rattle.interface.specs.Marks.{behind_mark, MarksFirst}
 
 -- offers of other parts than the one that a path leads to

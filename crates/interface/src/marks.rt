@@ -3,7 +3,7 @@ ghost use Rattle.task_model.specs.Running.Offer.{offer_kind_term, offer_term};
 ghost use Rattle.interface.specs.Marks.{answered_sign, behind_mark, tested_kind, MarksFirst};
 
 use task_model::{Answer, Offer, OfferKind, Sign};
-use tree_trail::Trail;
+use task_tree::Trail;
 
 /// What is tested: a user step, or a side of an external choice.
 #[derive(Clone, Copy)]

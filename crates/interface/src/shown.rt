@@ -1,10 +1,10 @@
 ghost use Rattle.std.specs.Prelude.{◌≡◌, [], ◌∷◌, ◌++◌, map, OnOk};
 ghost use Rattle.task_model.specs.Showing.Widget.{here, shape_term, widget_term};
-ghost use Rattle.tree_trail.specs.Below.{widget_below};
+ghost use Rattle.task_tree.specs.Below.{widget_below};
 
 use std::alloc::Global;
 use task_model::{OutOfMemory, Row, Shape, Widget};
-use tree_trail::Trail;
+use task_tree::Trail;
 
 /// Where a walk through a tree is, and the widgets of the nodes that it has met.
 #[derive(Drop)]

@@ -4,7 +4,7 @@ ghost use Rattle.task_model.specs.Running.Rules.{value_of};
 ghost use Rattle.task_model.specs.Running.Checked.{CheckedTerm};
 ghost use Rattle.task_model.specs.Running.Offer.{offer_term, AreOffers};
 ghost use Rattle.task_model.specs.Showing.Widget.{here, shape_term, widget_term, AreWidgets};
-ghost use Rattle.tree_trail.specs.Below.{widget_below};
+ghost use Rattle.task_tree.specs.Below.{widget_below};
 ghost use Rattle.interface.specs.Marks.{MarksStep};
 ghost use Rattle.interface.specs.Walked.{Picked, Walked};
 

@@ -9,8 +9,8 @@ use Rattle.task_model.specs.Running.Offer.{next_offer, left_offer, right_offer, 
 use Rattle.task_model.specs.declared.input.Turn.{Turn}
 use Rattle.task_model.specs.declared.input.Turn.TheVariants as turns
 use Rattle.task_model.specs.declared.widget.Sign.{Sign}
-use Rattle.tree_trail.specs.Below.{offer_below}
-use Rattle.tree_trail.proofs.BelowLemmas.{offers_at_root, offers_append, offers_of_both}
+use Rattle.task_tree.specs.Below.{offer_below}
+use Rattle.task_tree.proofs.BelowLemmas.{offers_at_root, offers_append, offers_of_both}
 use Rattle.observe_inputs.specs.OffersFollow.{OffersFollow}
 
 -- what is added twice

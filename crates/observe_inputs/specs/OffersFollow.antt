@@ -5,7 +5,7 @@ use Rattle.task_model.specs.Terms.Tree.{TreeTerm}
 use Rattle.task_model.specs.Running.Checked.{CheckedTerm}
 use Rattle.task_model.specs.Running.Offer.{OfferTerm, AreOffers}
 use Rattle.task_model.specs.declared.input.Turn.{Turn}
-use Rattle.tree_trail.specs.Below.{offer_below}
+use Rattle.task_tree.specs.Below.{offer_below}
 
 -- the offers of a tree, which stands at a path, stand behind these
 pub record OffersFollow (c : CheckedTerm) (budget : ℕ) (t : TreeTerm) (σ : List ValueTerm) (p : List Turn)

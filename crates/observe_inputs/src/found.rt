@@ -1,10 +1,10 @@
 ghost use Rattle.std.specs.Prelude.{◌≡◌, [], ◌++◌, map, OnOk};
 ghost use Rattle.task_model.specs.Running.Offer.{offered, offer_kind_term, offer_term};
-ghost use Rattle.tree_trail.specs.Below.{offer_below};
+ghost use Rattle.task_tree.specs.Below.{offer_below};
 
 use std::alloc::Global;
 use task_model::{Answer, Offer, OfferKind, OutOfMemory, Row, Sign};
-use tree_trail::Trail;
+use task_tree::Trail;
 
 /// Where a walk through a tree is, and the offers that it has found.
 #[derive(Drop)]

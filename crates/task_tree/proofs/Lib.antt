@@ -1,1 +1,2 @@
 pub mod FootLemmas
+pub mod BelowLemmas

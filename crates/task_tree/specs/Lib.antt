@@ -1,2 +1,3 @@
 pub mod InFront
 pub mod Down
+pub mod Below

@@ -5,7 +5,7 @@ use Rattle.task_model.specs.Running.Offer.{OfferTerm, turned, both_offers}
 use Rattle.task_model.specs.Showing.Widget.{WidgetTerm, shifted, both_widgets}
 use Rattle.task_model.specs.declared.input.Turn.{Turn}
 use Rattle.task_model.specs.declared.input.Turn.TheVariants as turns
-use Rattle.tree_trail.specs.Below.{offer_below, widget_below, IsInto}
+use Rattle.task_tree.specs.Below.{offer_below, widget_below, IsInto}
 
 -- ---- at the root
 pub offers_at_root : (os : List OfferTerm) → map (offer_below []) os ≡ os

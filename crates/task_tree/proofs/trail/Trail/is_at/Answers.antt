@@ -3,7 +3,7 @@ use Rattle.std.proofs.lemmas.Slice.Eq.{slice_eq-Decides}
 use Rattle.task_model.specs.contracts.input.TurnPartialEq.TheImpl.{eq-value}
 use Rattle.task_model.specs.declared.input.Turn.{Turn}
 use Rattle.task_model.specs.declared.input.Turn.TheVariants as turns
-use Rattle.tree_trail.proofs.trail.Trail.is_at.Goals as goal
+use Rattle.task_tree.proofs.trail.Trail.is_at.Goals as goal
 
 turns_decide : (a b : Turn) → Decides (eq-value.it a b) (a ≡ b)
 turns_decide turns.First turns.First = (λ _. refl, λ _. refl)
