@@ -7,8 +7,8 @@ use Rattle.task_model.specs.Terms.Program.{DefTerm, def_term}
 use Rattle.task_model.specs.Checking.Names.{Numbered, first_named}
 use Rattle.host_eval.specs.declared.definitions.Found.{Found}
 
-abbrev pub found_term : Found → Numbered
-found_term d = record { index = d.number; def = def_term d.def.now }
+abbrev pub numbered_term : Found → Numbered
+numbered_term d = record { index = d.number; def = def_term d.def.now }
 
 -- a table tells by each name the number of the first of these definitions that has it
 abbrev pub AreNumbers : {Y S : Type 0} → HashMap (String Y) ℕ S → List DefTerm → Type 0

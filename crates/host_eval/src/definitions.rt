@@ -3,7 +3,7 @@ ghost use Rattle.std.specs.Option.{option_map};
 ghost use Rattle.task_model.specs.Terms.Host.{host_term};
 ghost use Rattle.task_model.specs.Terms.Program.{param_term, def_term};
 ghost use Rattle.task_model.specs.Checking.Names.{first_named};
-ghost use Rattle.host_eval.specs.Numbered.{found_term, AreNumbers};
+ghost use Rattle.host_eval.specs.Numbered.{numbered_term, AreNumbers};
 ghost use Rattle.host_eval.specs.ValueWords.{function_in, function_term};
 
 use std::alloc::Global;
@@ -59,7 +59,7 @@ impl Definitions {
 
     /// The first definition of a name, which is the one that a call means (docs/RULES.md, "Programs").
     pub fn first(&self, name: &TaskText) -> Option<Found<'_>>
-        ensures { first_named 0 (map def_term self.now.program.defs.list) name.now ≡ option_map found_term result }
+        ensures { first_named 0 (map def_term self.now.program.defs.list) name.now ≡ option_map numbered_term result }
     {
         let number = *self.numbers.get(name.as_str())?;
         match self.checked.program().defs.as_slice().get(number) {

@@ -1,4 +1,4 @@
-//! The widgets and the values of small trees: tests alone.
+//! What `interface` and `task_tree` say of small trees: widgets, values, feet, and nodes that are put in. Tests alone.
 #![tactic(auto)]
 
 #[cfg(test)]

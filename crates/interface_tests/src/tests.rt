@@ -1,240 +1,104 @@
-//! The widgets and the values of trees that are made by hand.
+//! A table of trees that are made by hand. A row has a call, a tree, what else the call takes, and what it answers.
+//!
+//! A tree is written in words, each behind the parts that it has: `2` holds that number, `#N` shares place N, and the body of each step reads
+//! place 3. Over the store there are the places 0 and 1, which hold 7. An offer is a path, an act and an answer; an address has a letter for
+//! each step down.
 
 use interface::widgets;
+use made::{address_of, offers_of, tree_of};
+use shown::{EvenStore, places_text, value_text, widgets_text};
 use std::alloc::Global;
-use std::process::Abort;
-use std::sync::Arc;
 use std::test::Fail;
-use task_model::{
-    Answer, Basic, Cont, Delay, Offer, OfferKind, OutOfMemory, Path, Reads, Row, Shape, Sign, Tree,
-    Turn, Turns, Value, Widget, shared,
-};
-use task_tree::{Down, has_value, node_at, value};
+use task_model::{OutOfMemory, Value};
+use task_tree::{foot, has_value, replace, value};
+use testing_programs::tree_text;
 
-/// A store that holds one value at each of its places.
-#[derive(Drop)]
-struct EvenStore {
-    value: Value,
-    count: u64,
-}
+mod made;
+mod shown;
 
-impl Reads for EvenStore {
-    ghost use Rattle.std.specs.Prelude.{replicate};
-    ghost use Rattle.task_model.specs.Terms.Value.{value_term};
+const ROWS: &str = "\
+widgets@2 >>?@. set yes@. step no, . edit
+widgets@2 >>?@. next over, . set yes@. step over, . edit
+widgets@#0 >>? >>?@. next yes, . set yes@. step no, . step yes, . share 7
+widgets@pick >>= enter fail <|> <&>@.F right over, .SF set yes@. and, .F then, .F pick no over, .S or, .SF enter, .SS fail
+value@2@@2
+value@enter@@none
+value@fail@@none
+value@pick@@none
+value@#1@@7
+value@#2@@none
+value@2 >>?@@none
+value@2 >>=@@none
+value@2 #0 <&>@@(2, 7)
+value@2 enter <&>@@none
+value@enter 2 <&>@@none
+value@#0 #2 <&>@@none
+value@2 #0 <|>@@2
+value@#0 2 <|>@@7
+value@2 enter <|>@@2
+value@#2 2 <|>@@2
+value@enter fail <|>@@none
+value@enter 2 #1 <&> <|>@@(2, 7)
+foot@#9 #3 <&> >>?@@3 9
+foot@#4 #1 <|> #4 <&>@@1 4
+foot@2 >>=@@3
+foot@enter@@
+put@#9 #3 <&> >>?@DS #8@((share int #9 <&> share int #8) >>? 0(#3))
+put@#9 #3 <&> >>?@ fail@fail
+put@#9 #3 <|> >>=@DF 2@((edit int 2 <|> share int #3) >>= 0(#3))
+put@#9 #3 <&> >>?@F fail@none";
 
-    ghost values = { λ s. replicate s.count (value_term s.value) };
-
-    fn at(&self, _place: u64) -> &Value {
-        &self.value
-    }
-
-    fn count(&self) -> u64 {
-        self.count
-    }
-}
-
-fn cont(alloc: Global) -> Result<Cont, OutOfMemory> {
-    Ok(Cont {
-        body: 0,
-        slots: shared(alloc, Row::new(alloc))?,
-    })
-}
-
-fn delay(alloc: Global) -> Result<Delay, OutOfMemory> {
-    Ok(Delay {
-        body: 0,
-        slots: shared(alloc, Row::new(alloc))?,
-    })
-}
-
-// A user step with this left part.
-fn step(alloc: Global, left: Arc<Tree>) -> Result<Arc<Tree>, OutOfMemory> {
-    let k = cont(alloc)?;
-    shared(alloc, Tree::Next(left, k))
-}
-
-// Adds an offer at the path of these turns.
-fn offer(
-    alloc: Global,
-    offers: &mut Row<Offer>,
-    turns: &[Turn],
-    kind: OfferKind,
-    answer: Answer,
-) -> Result<(), OutOfMemory> {
-    let turns = Turns::of(alloc, turns)?;
-    offers.push(Offer {
-        path: Path { turns },
-        kind,
-        answer,
-    })
-}
-
-fn sign_text(sign: Sign) -> &'static str {
-    match sign {
-        Sign::No => "no",
-        Sign::Yes => "yes",
-        Sign::Over => "over",
-    }
-}
-
-fn push_shape(text: &mut String, shape: &Shape) -> Result<(), OutOfMemory> {
-    match shape {
-        Shape::Edit(..) => text.push_str("edit")?,
-        Shape::Enter(_) => text.push_str("enter")?,
-        Shape::Share(_, Value::Int(i)) if *i == 7 => text.push_str("share 7")?,
-        Shape::Share(..) => text.push_str("share")?,
-        Shape::Then => text.push_str("then")?,
-        Shape::Step(s) => {
-            text.push_str("step ")?;
-            text.push_str(sign_text(*s))?;
-        }
-        Shape::Fail => text.push_str("fail")?,
-        Shape::And => text.push_str("and")?,
-        Shape::Or => text.push_str("or")?,
-        Shape::Pick(s, z) => {
-            text.push_str("pick ")?;
-            text.push_str(sign_text(*s))?;
-            text.push(' ')?;
-            text.push_str(sign_text(*z))?;
-        }
-    }
-    Ok(())
-}
-
-// A line for each widget: its path and its shape.
-fn lines(alloc: Global, list: &[Widget]) -> Result<String, OutOfMemory> {
-    let mut text = String::new(alloc);
-    for widget in list {
-        text.push('.')?;
-        for turn in widget.path.turns.as_slice() {
-            match turn {
-                Turn::First => text.push('F')?,
-                Turn::Second => text.push('S')?,
-            }
-        }
-        text.push(' ')?;
-        push_shape(&mut text, &widget.shape)?;
-        text.push('\n')?;
-    }
-    Ok(text)
-}
-
-// The lines of a tree over a store of one place, which holds 7.
-fn shown(alloc: Global, tree: &Tree, offers: &Row<Offer>) -> Result<String, OutOfMemory> {
+fn value_told(alloc: Global, words: &str) -> Result<String, OutOfMemory> {
     let store = EvenStore {
         value: Value::Int(7),
-        count: 1,
+        count: 2,
     };
-    let list = widgets(alloc, tree, &store, offers.as_slice())?;
-    lines(alloc, list.as_slice())
+    let tree = tree_of(alloc, words)?;
+    let given = value(alloc, &tree, &store)?;
+    if given.is_some() != has_value(&tree, &store) {
+        return Ok(String::from_str(alloc, "two answers")?);
+    }
+    value_text(alloc, given.as_ref())
+}
+
+fn widgets_told(alloc: Global, words: &str, offers: &str) -> Result<String, OutOfMemory> {
+    let store = EvenStore {
+        value: Value::Int(7),
+        count: 2,
+    };
+    let tree = tree_of(alloc, words)?;
+    let offers = offers_of(alloc, offers)?;
+    let list = widgets(alloc, &tree, &store, offers.as_slice())?;
+    widgets_text(alloc, list.as_slice())
+}
+
+fn put_told(alloc: Global, words: &str, place: &str) -> Result<String, OutOfMemory> {
+    let (address, node) = place.split_once(' ').unwrap_or((place, ""));
+    let tree = tree_of(alloc, words)?;
+    let address = address_of(alloc, address)?;
+    match replace(alloc, &tree, address.as_slice(), tree_of(alloc, node)?)? {
+        Some(changed) => tree_text(alloc, &changed),
+        None => Ok(String::from_str(alloc, "none")?),
+    }
+}
+
+fn told(alloc: Global, call: &str, words: &str, more: &str) -> Result<String, OutOfMemory> {
+    match call {
+        "widgets" => widgets_told(alloc, words, more),
+        "value" => value_told(alloc, words),
+        "foot" => places_text(alloc, foot(alloc, &tree_of(alloc, words)?)?.as_slice()),
+        _ => put_told(alloc, words, more),
+    }
 }
 
 #[test]
-fn a_step_with_a_value(rt: HostRuntime) -> Result<(), Fail> {
-    let alloc = rt.alloc();
-    let left = shared(alloc, Tree::Edit(Basic::Int, Value::Int(2)))?;
-    let tree = step(alloc, left)?;
-    let mut refused = Row::new(alloc);
-    offer(
-        alloc,
-        &mut refused,
-        &[],
-        OfferKind::Set(Basic::Int),
-        Answer::Yes,
-    )?;
-    let mut offered = Row::new(alloc);
-    offer(alloc, &mut offered, &[], OfferKind::Next, Answer::Over)?;
-    offer(
-        alloc,
-        &mut offered,
-        &[],
-        OfferKind::Set(Basic::Int),
-        Answer::Yes,
-    )?;
-    assert_eq!(rt;
-        shown(alloc, &tree, &refused)?.as_str(),
-        ". step no\n. edit\n"
-    );
-    assert_eq!(rt;
-        shown(alloc, &tree, &offered)?.as_str(),
-        ". step over\n. edit\n"
-    );
-    Ok(())
-}
-
-#[test]
-fn a_step_inside_a_step(rt: HostRuntime) -> Result<(), Fail> {
-    let alloc = rt.alloc();
-    let left = shared(alloc, Tree::Share(Basic::Int, 0))?;
-    let inner = step(alloc, left)?;
-    let tree = step(alloc, inner)?;
-    let mut offers = Row::new(alloc);
-    offer(alloc, &mut offers, &[], OfferKind::Next, Answer::Yes)?;
-    offer(
-        alloc,
-        &mut offers,
-        &[],
-        OfferKind::Set(Basic::Int),
-        Answer::Yes,
-    )?;
-    assert_eq!(rt;
-        shown(alloc, &tree, &offers)?.as_str(),
-        ". step no\n. step yes\n. share 7\n"
-    );
-    Ok(())
-}
-
-#[test]
-fn the_parts_of_a_pair(rt: HostRuntime) -> Result<(), Fail> {
-    let alloc = rt.alloc();
-    let right = delay(alloc)?;
-    let pick = Tree::Xor(delay(alloc)?, right);
-    let left = shared(alloc, pick)?;
-    let k = cont(alloc)?;
-    let first = shared(alloc, Tree::Then(left, k))?;
-    let second = shared(alloc, Tree::Enter(Basic::Int))?;
-    let third = shared(alloc, Tree::Fail)?;
-    let both = shared(alloc, Tree::Or(second, third))?;
-    let tree = shared(alloc, Tree::And(first, both))?;
-    let mut offers = Row::new(alloc);
-    offer(
-        alloc,
-        &mut offers,
-        &[Turn::First],
-        OfferKind::Right,
-        Answer::Over,
-    )?;
-    offer(
-        alloc,
-        &mut offers,
-        &[Turn::Second, Turn::First],
-        OfferKind::Set(Basic::Int),
-        Answer::Yes,
-    )?;
-    assert_eq!(rt;
-        shown(alloc, &tree, &offers)?.as_str(),
-        ". and\n.F then\n.F pick no over\n.S or\n.SF enter\n.SS fail\n"
-    );
-    Ok(())
-}
-
-#[test]
-fn a_value_of_a_part(rt: HostRuntime) -> Result<(), Fail> {
-    let alloc = rt.alloc();
-    let left = shared(alloc, Tree::Share(Basic::Int, 0))?;
-    let right = shared(alloc, Tree::Share(Basic::Int, 1))?;
-    let pair = shared(alloc, Tree::And(left, right))?;
-    let tree = step(alloc, pair)?;
-    for (count, there) in [(1, false), (2, true)] {
-        let store = EvenStore {
-            value: Value::Int(7),
-            count,
-        };
-        if let Some(pair) = node_at(&tree, &[Down::Step]) {
-            assert_eq!(rt; has_value(pair, &store), there);
-            assert_eq!(rt; value(alloc, pair, &store)?.is_some(), there);
-        }
-        assert!(rt; !has_value(&tree, &store));
+fn small_trees(rt: HostRuntime) -> Result<(), Fail> {
+    for row in ROWS.split('\n') {
+        let (call, rest) = row.split_once('@').unwrap_or((row, ""));
+        let (words, rest) = rest.split_once('@').unwrap_or((rest, ""));
+        let (more, wanted) = rest.split_once('@').unwrap_or((rest, ""));
+        let told = told(rt.alloc(), call, words, more)?;
+        assert_eq!(rt; told.as_str(), wanted, "{row}");
     }
     Ok(())
 }

@@ -1,6 +1,7 @@
 //! Where a text ends too early, and tokens in place of others.
 
 use super::{FUNCTION, TASK, assert_fault, assert_read, field};
+use std::alloc::{AllocError, Global};
 use std::process::Abort;
 use std::test::Fail;
 use task_reader::read_program;
@@ -150,61 +151,63 @@ const PROGRAM: &str =
     "fun f ( x : int , r : ref [ text ] ) : ( int , bool ) = case l of [ ] -> ( 1 , true ) | y :: z -> ( len z , not false ) task main ( ) : int = new r = nil int in enter int >>= x . ( edit x <&> share r <?> fail int )";
 
 // A token's number, what stands in its place, and the first faulty token, if there is one.
-const REPLACED: [(usize, &str, Option<usize>); 32] = [
-    (0, "let", Some(0)),
-    (3, ")", Some(6)),
-    (9, "(", Some(13)),
-    (12, ",", Some(12)),
-    (15, "[", Some(17)),
-    (20, "==", Some(20)),
-    (24, "(", Some(24)),
-    (28, "-", Some(29)),
-    (29, "+", None),
-    (29, "of", Some(29)),
-    (32, "||", Some(36)),
-    (34, "+", Some(34)),
-    (36, "::", Some(36)),
-    (44, "in", Some(44)),
-    (44, "+", Some(48)),
-    (51, "let", None),
-    (52, "(", Some(52)),
-    (54, "edit", Some(54)),
-    (57, "x", Some(58)),
-    (59, ":=", Some(59)),
-    (60, "1", Some(60)),
-    (61, "in", Some(61)),
-    (63, "enter", Some(64)),
-    (64, "!", Some(65)),
-    (65, "<?>", None),
-    (65, "*", Some(65)),
-    (67, "task", Some(67)),
-    (68, ";", Some(68)),
-    (70, "[", Some(71)),
-    (71, "]", Some(71)),
-    (71, "fun", Some(71)),
-    (71, ") +", Some(72)),
-];
+const REPLACED: &str = "0@let@0
+3@)@6
+9@(@13
+12@,@12
+15@[@17
+20@==@20
+24@(@24
+28@-@29
+29@+@
+29@of@29
+32@||@36
+34@+@34
+36@::@36
+44@in@44
+44@+@48
+51@let@
+52@(@52
+54@edit@54
+57@x@58
+59@:=@59
+60@1@60
+61@in@61
+63@enter@64
+64@!@65
+65@<?>@
+65@*@65
+67@task@67
+68@;@68
+70@[@71
+71@]@71
+71@fun@71
+71@) +@72";
+
+// The program with another word in place of a token.
+fn replaced(alloc: Global, at: usize, word: &str) -> Result<String, AllocError> {
+    let mut source = String::new(alloc);
+    for (number, token) in PROGRAM.split(' ').enumerate() {
+        source.push_str(if number == at { word } else { token })?;
+        source.push(' ')?;
+    }
+    Ok(source)
+}
 
 #[test]
 fn tokens_in_place_of_others(rt: HostRuntime) -> Result<(), Fail> {
-    for (at, word, fault) in REPLACED {
-        let mut source = String::new(rt.alloc());
-        for (number, token) in PROGRAM.split(' ').enumerate() {
-            if number == at {
-                source.push_str(word)?;
-            } else {
-                source.push_str(token)?;
-            }
-            source.push(' ')?;
-        }
-        match fault {
-            Some(token) => {
+    for row in REPLACED.split('\n') {
+        let (at, rest) = field(row);
+        let (word, fault) = field(rest);
+        let source = replaced(rt.alloc(), at.parse::<usize>().unwrap_or(0), word)?;
+        match fault.parse::<usize>() {
+            Ok(token) => {
                 let kind = ReadKind::Unexpected {
                     token: token as u64,
                 };
                 assert_fault(&rt, source.as_str(), token, kind)?;
             }
-            None => assert_read(&rt, source.as_str()),
+            Err(_) => assert_read(&rt, source.as_str()),
         }
     }
     Ok(())

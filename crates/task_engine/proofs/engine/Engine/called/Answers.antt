@@ -3,26 +3,26 @@ use Rattle.task_model.specs.Terms.Host.{host_term}
 use Rattle.task_model.specs.Terms.Program.{param_term, program_term, def_body_term}
 use Rattle.task_model.specs.Running.Checked.{SeenChecked, callee_of, task_named}
 use Rattle.task_model.specs.declared.program.DefBody.{DefBody}
-use Rattle.host_eval.specs.Numbered.{found_term}
+use Rattle.host_eval.specs.Numbered.{numbered_term}
 use Rattle.task_engine.proofs.TableLemmas.{called_listed, called_is, called_fun, called_none}
 use Rattle.task_engine.proofs.engine.Engine.called.Goals as goal
 
 pub number_at-requires : goal.number_at-requires
 number_at-requires c =
     rw (c.as_slice-in-Task.ensures, c.self.invariant.defined)
-    (called_listed (program_term c.self.inside.definitions.program) c.args.name.now (found_term c.in_ok-found.found) c.in_ok-found.ensures)
+    (called_listed (program_term c.self.inside.definitions.program) c.args.name.now (numbered_term c.in_ok-found.found) c.in_ok-found.ensures)
 
 pub returns-in-Fun : goal.returns-in-Fun
 returns-in-Fun c =
     sym (ap (λ (z : SeenChecked). task_named (program_term z.program) c.args.name.now) c.self.view_is)
-    ∙ called_fun (program_term c.self.inside.definitions.program) c.args.name.now (found_term c.in_ok-found.found) c.in_ok-found.ensures
+    ∙ called_fun (program_term c.self.inside.definitions.program) c.args.name.now (numbered_term c.in_ok-found.found) c.in_ok-found.ensures
     _ (ap def_body_term c.in-Fun.is)
 
 pub returns-in-Task : goal.returns-in-Task
 returns-in-Task c =
     let first = rw (c.as_slice-in-Task.ensures, c.self.invariant.defined) at c.number_at.ensures in
     sym (ap (λ (z : SeenChecked). task_named (program_term z.program) c.args.name.now) c.self.view_is)
-    ∙ called_is (program_term c.self.inside.definitions.program) c.args.name.now (found_term c.in_ok-found.found) c.in_ok-found.ensures
+    ∙ called_is (program_term c.self.inside.definitions.program) c.args.name.now (numbered_term c.in_ok-found.found) c.in_ok-found.ensures
     c.number_at.result first
     ∙ ap (λ (w : DefBody). callee_of (map param_term c.in_ok-found.found.def.now.params.list) c.number_at.result (def_body_term w))
     c.in-Task.is
