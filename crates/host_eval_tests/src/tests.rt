@@ -1,4 +1,5 @@
 use crate::value_of;
+use host_eval::Definitions;
 use host_types::check;
 use literal_text::print_value;
 use std::alloc::Global;

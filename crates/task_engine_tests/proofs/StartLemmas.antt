@@ -8,6 +8,7 @@ use Rattle.task_model.specs.Terms.Task.{TaskTerm, call_task}
 use Rattle.task_model.specs.Terms.Program.{task_body, def_term, DefTerm, ProgramTerm, main_name}
 use Rattle.task_model.specs.Running.Checked.{CheckedTerm, Callee, callee_of, def_in, task_named}
 use Rattle.task_model.specs.Checking.Names.{first_named}
+use Rattle.task_model.specs.Checking.ProgramParts.{task_part, what_part, of_definition}
 use Rattle.task_model.specs.Running.Plan.{normal}
 use Rattle.task_model.specs.Checking.Accepted.{IsAccepted}
 use Rattle.typing_laws.specs.Assumed.{main_type}
@@ -52,13 +53,15 @@ first_of (Some d) = d.first
 
 first_stands : (c : CheckedTerm) (d : DefTerm) (t : TaskTerm) → CalleeStands c d.name (record { index = 0; def = d }) t
     → task_named c.program d.name ≡ Some (record { params = d.params; task = t; first = 0 }) → d.params ≡ []
+    → first_named 0 c.program.defs d.name ≡ Some (record { index = 0; def = d }) → d.what ≡ task_body t
     → MayAsk c (normal t empty_env [])
-first_stands c d t s named none =
+first_stands c d t s named none found w =
     let is : s.first ≡ 0 = ap first_of (sym s.named ∙ named) in
     record {
       typing = record { places = []; type = d.result };
       assumed = record {
         scope = [];
+        part = of_definition [] (task_part t) d.name (record { index = 0; def = d }) found (sym none) (sym (ap what_part w));
         fits = rw (is, none) at s.fits;
         stands = rw (is, none) at s.stands;
         names = record { names = refl; slots = tt };
@@ -69,5 +72,6 @@ first_stands c d t s named none =
 pub first_may : (c : CheckedTerm) → IsAccepted c → (d : DefTerm) (t : TaskTerm) → slice_get c.program.defs 0 ≡ Some d → d.params ≡ []
     → d.what ≡ task_body t → MayAsk c (normal t empty_env [])
 first_may c accepted d t e none w =
-    first_stands c d t ((facts_of c accepted).tasks d.name (record { index = 0; def = d }) t (first_is c.program.defs d e) w)
-    (named_is c.program c.program.defs d t e w) none
+    let found = first_is c.program.defs d e in
+    first_stands c d t ((facts_of c accepted).tasks d.name (record { index = 0; def = d }) t found w)
+    (named_is c.program c.program.defs d t e w) none found w

@@ -3,7 +3,7 @@
 use literal_text::print_basic;
 use std::alloc::Global;
 use std::sync::ledger::Ledger;
-use task_engine_tests::{Bench, Bench};
+use task_engine_tests::Bench;
 use task_model::{Answer, Offer, OfferKind, OutOfMemory, Purse, Row, Steps, Turn};
 use testing_programs::accepted;
 
