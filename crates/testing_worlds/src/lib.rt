@@ -7,4 +7,4 @@ mod showing;
 
 pub use bench::{Way, WorldBench};
 pub use script::Script;
-pub use showing::{history_text, reply_text, state_text, world_text};
+pub use showing::{history_text, reply_text, shows_each_node, state_text, world_text};

@@ -90,3 +90,17 @@ pub fn world_text<L: Ledger>(
     }
     Ok(text)
 }
+
+/// Whether a page for people has a line for each node, and one more.
+pub fn shows_each_node<L: Ledger>(
+    alloc: Global,
+    bench: &mut WorldBench,
+    steps: &mut Steps<L>,
+) -> Result<bool, OutOfMemory> {
+    let page = bench.page(alloc, Face::Text, steps)?;
+    let mut lines: u64 = 0;
+    for _ in page.text().trim_end().split('\n') {
+        lines = lines.saturating_add(1);
+    }
+    Ok(lines == bench.nodes().saturating_add(1))
+}

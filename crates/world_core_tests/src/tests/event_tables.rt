@@ -227,7 +227,13 @@ pub(super) const ACTS: &str = r#"10000@task main() : int = edit 7
 @@opening over"#;
 
 /// Openings and inputs with all the units that they take.
-pub(super) const UNITS: &str = r#"10000@task main() : int = edit 1 >>= x . edit 2 >>= y . edit 3
+pub(super) const UNITS: &str = r#"10000@task main() : int = new r = 7 in edit !r
+@2@edit int 7 [7]
+
+10000@fun times(r : ref int, n : int) : int = !r * n task main() : int = new r = 7 in edit times(r, 6)
+@3@edit int 42 [7]
+
+10000@task main() : int = edit 1 >>= x . edit 2 >>= y . edit 3
 @4@edit int 3 []
 
 10000@task loop() : int = edit 1 >>= x . loop() task main() : int = loop()

@@ -6,7 +6,9 @@ use std::alloc::Global;
 use std::sync::ledger::Ledger;
 use task_model::{Entry, OutOfMemory, Steps};
 use testing_programs::repeated;
-use testing_worlds::{Script, Way, WorldBench, history_text, reply_text, state_text, world_text};
+use testing_worlds::{
+    Script, Way, WorldBench, history_text, reply_text, shows_each_node, state_text, world_text,
+};
 use world_core::{OpenStop, Reply};
 
 // Whether an entry that is prepared and then abandoned is shown in between, if anything is, and leaves the world as it was.
@@ -118,6 +120,19 @@ fn told<L: Ledger>(
     given(alloc, bench, entry, way, steps)
 }
 
+// The state, and whether its page has a line for each node.
+fn opened_text<L: Ledger>(
+    alloc: Global,
+    bench: &mut WorldBench,
+    steps: &mut Steps<L>,
+) -> Result<String, OutOfMemory> {
+    let mut text = state_text(alloc, bench)?;
+    if !shows_each_node(alloc, bench, steps)? {
+        text.push_str(", with other nodes on its page")?;
+    }
+    Ok(text)
+}
+
 // The same for the entry of a line, or the state where it asks for none.
 fn line_told<L: Ledger>(
     alloc: Global,
@@ -129,7 +144,7 @@ fn line_told<L: Ledger>(
     let script = Script::of(alloc, line)?;
     match script.first() {
         Some(entry) => told(alloc, bench, entry, way, steps),
-        None => state_text(alloc, bench),
+        None => opened_text(alloc, bench, steps),
     }
 }
 
