@@ -1,11 +1,12 @@
-//! The longest text and the longest list, and one longer. The readers refuse what is longer, so no text of a program leads there.
+//! The longest text and the longest list, and one longer: the readers refuse what is longer, so no text of a program leads there. And calls that no
+//! other test makes.
 
 use std::alloc::Global;
 use std::process::Abort;
 use std::test::Fail;
 use task_model::{
-    Basic, Elements, LIST_ELEMENT_LIMIT, OutOfMemory, Row, TEXT_BYTE_LIMIT, TaskText, Value,
-    copy_value, shared, value_has,
+    Act, Basic, Elements, Entry, Input, LIST_ELEMENT_LIMIT, OutOfMemory, Path, Row, Scope,
+    TEXT_BYTE_LIMIT, TaskText, Turn, Turns, Value, copy_entry, copy_value, shared, value_has,
 };
 
 fn text_of(alloc: Global, length: usize) -> Result<Value, OutOfMemory> {
@@ -60,5 +61,39 @@ fn rests_of_elements(rt: HostRuntime) -> Result<(), Fail> {
     let none = last.rest()?.rest()?;
     assert_eq!(rt; none.as_slice().len(), 0);
     assert_eq!(rt; all.as_slice(), [7, 8, 9].as_slice());
+    Ok(())
+}
+
+#[test]
+fn a_copy_of_an_entry(rt: HostRuntime) -> Result<(), Fail> {
+    let alloc = rt.alloc();
+    let turns = Turns::of(alloc, &[Turn::Second])?;
+    let entry = Entry {
+        seat: 64,
+        input: Input {
+            path: Path { turns },
+            act: Act::Set(Value::Int(3)),
+        },
+    };
+    let copy = copy_entry(alloc, &entry)?;
+    assert_eq!(rt; copy.seat, 64);
+    assert_eq!(rt; copy.input.path.turns.as_slice(), [Turn::Second].as_slice());
+    assert!(rt; matches!(copy.input.act, Act::Set(Value::Int(3))));
+    Ok(())
+}
+
+#[test]
+fn names_of_scopes(rt: HostRuntime) -> Result<(), Fail> {
+    let alloc = rt.alloc();
+    let one = Scope::empty(alloc)?.inside(alloc, TaskText::of(alloc, "a")?)?;
+    let two = one.inside(alloc, TaskText::of(alloc, "b")?)?;
+    for (scope, want) in [(&one, "a "), (&two, "a b ")] {
+        let mut text = String::new(alloc);
+        for name in scope.names(alloc)?.as_slice() {
+            text.push_str(name.as_str())?;
+            text.push(' ')?;
+        }
+        assert_eq!(rt; text.as_str(), want);
+    }
     Ok(())
 }
