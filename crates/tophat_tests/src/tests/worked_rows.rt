@@ -170,6 +170,12 @@ $ run -
 $ run -- -p
 = 7 tophat: -p: no such file
 
+$ run help
+= 7 tophat: help: no such file
+
+$ check -- --budget=4
+= 7 tophat: --budget=4: no such file
+
 task main() : int = edit (1 + true)
 = 1 tophat: p.th: byte 30: Mismatch want int got bool
 
@@ -271,6 +277,8 @@ run p.th --budget 000000000000000000004
 run p.th --budget -4
 run p.th --budget=
 run p.th --budget=four
+run p.th --budget=+4
+run p.th --budget -
 run p.th --budget 4 --budget 4
 run p.th --budget 4 --budget=4
 run -- p.th --budget=4
@@ -280,6 +288,7 @@ run --budget 4
 run -b 4 p.th
 run --help
 run p.th --help
+run -h
 run --version
 --help
 --version
