@@ -93,6 +93,43 @@ fn take_line<M: Machine, O: Sink>(
     ensures exact { MatchResult result (λ _. O.faults out.new ≡ O.faults out.old)
         (λ finish. O.faults out.new ≡ write_faults_after_run (O.faults out.old) finish) }
 {
+    if cursor.kept.as_slice().is_empty() {
+        let run = run_length(bytes);
+        if run < bytes.len() && (run as u64) < limit.saturating_sub(cursor.count) {
+            if let Some(finish) = take_whole(alloc, machine, out, cursor, &bytes[..run]) {
+                return Err(finish);
+            }
+            return Ok(run + 1);
+        }
+    }
+    take_part(alloc, machine, out, cursor, limit, bytes)
+}
+
+// The same of a line that was begun before, or whose end has not come.
+fn take_part<M: Machine, O: Sink>(
+    alloc: Global,
+    machine: &mut M,
+    out: &mut O,
+    cursor: &mut Cursor,
+    limit: u64,
+    bytes: &[u8],
+) -> Result<usize, Finish>
+    requires room { limit < 2 ^ 63 }
+    requires some { 0 < length bytes.now }
+    ensures goes { MatchResult result
+        (λ taken. Goes M.tells machine.old machine.new (O.taken out.old) (O.taken out.new) M.LONGEST limit cursor.old cursor.new
+        (take taken bytes.now) None)
+        (λ finish. Goes M.tells machine.old machine.new (O.taken out.old)
+        (O.taken out.new) M.LONGEST limit cursor.old cursor.new bytes.now (Some finish)) }
+    ensures some { IfOk result (λ taken. 0 < taken) }
+    ensures fits { IfOk result (λ taken. taken ≤ length bytes.now) }
+    ensures counted { IfOk result (λ taken. cursor.new.count ≡ cursor.old.count + taken) }
+    ensures within { OnOk result (cursor.old.count ≤ limit → cursor.new.count ≤ limit) }
+    ensures count { O.faults out.old ≤ O.faults out.new }
+    ensures failed { result ≡ Err Finish.WriteFault → Rose (O.faults out.old) (O.faults out.new) }
+    ensures exact { MatchResult result (λ _. O.faults out.new ≡ O.faults out.old)
+        (λ finish. O.faults out.new ≡ write_faults_after_run (O.faults out.old) finish) }
+{
     let run = run_length(bytes);
     let taken = bytes.len().min(run + 1);
     if taken as u64 > limit.saturating_sub(cursor.count) {
@@ -119,6 +156,57 @@ fn run_length(bytes: &[u8]) -> usize
     match memchr(b'\n', bytes) {
         Some(at) => at,
         None => bytes.len(),
+    }
+}
+
+// Takes a line that stands whole in a piece, and its LF: it is run where it stands, and its answer is due. What stands behind it changes no
+// end.
+fn take_whole<M: Machine, O: Sink>(
+    alloc: Global,
+    machine: &mut M,
+    out: &mut O,
+    cursor: &mut Cursor,
+    line: &[u8],
+) -> Option<Finish>
+    requires none_kept { cursor.old.kept.list ≡ [] }
+    requires no_lf { IsLine line.now }
+    requires room { cursor.old.count + length line.now < 2 ^ 63 }
+    ensures goes { (limit : ℕ) → cursor.old.count + length line.now < limit → MatchOption result
+        (Goes M.tells machine.old machine.new (O.taken out.old) (O.taken out.new) M.LONGEST limit cursor.old cursor.new
+        (line.now ++ 10 ∷ []) None)
+        (λ finish. (behind : List ℕ) → Goes M.tells machine.old machine.new (O.taken out.old)
+        (O.taken out.new) M.LONGEST limit cursor.old cursor.new (line.now ++ 10 ∷ behind) (Some finish)) }
+    ensures counted { IfNone result (cursor.new.count ≡ cursor.old.count + length line.now + 1) }
+    ensures count { O.faults out.old ≤ O.faults out.new }
+    ensures failed { result ≡ Some Finish.WriteFault → Rose (O.faults out.old) (O.faults out.new) }
+    ensures exact { MatchOption result (O.faults out.new ≡ O.faults out.old)
+        (λ finish. O.faults out.new ≡ write_faults_after_run (O.faults out.old) finish) }
+{
+    cursor.count += line.len() as u64 + 1;
+    match end_line(
+        alloc,
+        machine,
+        out,
+        &mut cursor.due,
+        front(line, M::LONGEST),
+        cursor.number,
+    ) {
+        Some(finish) => Some(finish),
+        None => {
+            cursor.number += 1;
+            None
+        }
+    }
+}
+
+// The first bytes of a line, up to one more than the longest line has.
+fn front(line: &[u8], longest: usize) -> &[u8]
+    ensures { result.now ≡ take (longest + 1) line.now }
+{
+    if line.len() > longest {
+        &line[..longest + 1]
+    } else {
+        line
     }
 }
 

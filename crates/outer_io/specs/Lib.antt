@@ -1,8 +1,11 @@
 pub mod Causes
 pub mod FailingCalls
 pub mod Files
+pub mod Links
+pub mod MemLinks
 pub mod PlainFiles
 pub mod PlainSource
 pub mod Sink
 pub mod Source
+pub mod StreamLinks
 pub mod SystemCalls

@@ -1,6 +1,7 @@
 ghost use Rattle.std.specs.Prelude.{◌≡◌, ◌<◌, ◌≤◌, [], IsTrue, Some, length};
 ghost use Rattle.outer_io.specs.Causes.{Rose};
 ghost use Rattle.outer_io.specs.FailingCalls.{fails_next, IsCounted};
+ghost use Rattle.outer_io.specs.Links.{nothing_beside};
 ghost use Rattle.outer_io.specs.Sink.{Took, TookAtMost, faults_after_write};
 
 use crate::failing_calls::FailingCalls;
@@ -45,6 +46,8 @@ impl Sink for MemSink {
     ghost taken = { λ s. Some s.bytes.list };
 
     ghost faults = { λ s. s.plan.faults };
+
+    ghost beside = { λ _. nothing_beside };
 
     fn write(&mut self, piece: &[u8]) -> Put
         requires { 0 < length piece.now }

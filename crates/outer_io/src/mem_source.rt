@@ -1,6 +1,7 @@
 ghost use Rattle.std.specs.Prelude.{◌≡◌, ◌<◌, ◌≤◌, ◌↔◌, IsTrue, Some, length};
 ghost use Rattle.outer_io.specs.Causes.{Rose};
 ghost use Rattle.outer_io.specs.FailingCalls.{fails_next, IsCounted};
+ghost use Rattle.outer_io.specs.Links.{nothing_beside};
 ghost use Rattle.outer_io.specs.PlainSource.{left_of};
 ghost use Rattle.outer_io.specs.Source.{Gave, GaveAtMost, faults_after_read};
 
@@ -29,12 +30,21 @@ impl MemSource {
             plan: FailingCalls::new(failing),
         }
     }
+
+    /// How many of its bytes were given.
+    pub(crate) fn at(&self) -> usize
+        ensures { result ≡ self.now.plain.at }
+    {
+        self.plain.at()
+    }
 }
 
 impl Source for MemSource {
     ghost left = { λ s. Some (left_of s.plain) };
 
     ghost faults = { λ s. s.plan.faults };
+
+    ghost beside = { λ _. nothing_beside };
 
     fn read(&mut self, room: &mut [u8]) -> Got
         requires { 0 < length room.old }
@@ -45,6 +55,7 @@ impl Source for MemSource {
         ensures at_most { GaveAtMost self.old.plain.piece result }
         ensures listed { (result ≡ Got.Failed) ↔ IsTrue (fails_next self.old.plan) }
         ensures counted { IsCounted self.old.plan self.new.plan }
+        ensures kept { self.new.plain.bytes ≡ self.old.plain.bytes }
     {
         if self.plan.next_fails() {
             return Got::Failed;

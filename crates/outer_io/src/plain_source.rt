@@ -1,4 +1,5 @@
 ghost use Rattle.std.specs.Prelude.{◌≡◌, ◌<◌, ◌≤◌, ◌+◌, length, take, drop, Some};
+ghost use Rattle.outer_io.specs.Links.{nothing_beside};
 ghost use Rattle.outer_io.specs.Source.{Gave, GaveAtMost};
 
 use crate::source::{Got, Source};
@@ -27,6 +28,13 @@ impl PlainSource {
             piece,
         }
     }
+
+    /// How many of its bytes were given.
+    pub(crate) fn at(&self) -> usize
+        ensures { result ≡ self.now.at }
+    {
+        self.at
+    }
 }
 
 impl Source for PlainSource {
@@ -36,11 +44,14 @@ impl Source for PlainSource {
 
     ghost faults = { λ _. 0 };
 
+    ghost beside = { λ _. nothing_beside };
+
     fn read(&mut self, room: &mut [u8]) -> Got
         requires { 0 < length room.old }
         ensures bytes { Gave (Some (left_of self.old)) (Some (left_of self.new)) room.new result }
         ensures told { result ≡ Got.Failed → ⊥ }
         ensures at_most { GaveAtMost self.old.piece result }
+        ensures kept { self.new.bytes ≡ self.old.bytes }
     {
         let count = copy_next(self.bytes.as_slice(), self.at, self.piece, room);
         if count == 0 {

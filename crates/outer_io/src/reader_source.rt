@@ -1,5 +1,6 @@
 ghost use Rattle.std.specs.Prelude.{◌≡◌, ◌<◌, ◌≤◌, length};
 ghost use Rattle.outer_io.specs.Causes.{Rose};
+ghost use Rattle.outer_io.specs.Links.{nothing_beside};
 ghost use Rattle.outer_io.specs.Source.{Gave, faults_after_read};
 ghost use Rattle.outer_io.specs.SystemCalls.{IsReadOf};
 
@@ -10,7 +11,8 @@ use std::io::Read;
 
 /// A source over any reader, as the standard input. It tells what the reader tells.
 ///
-/// A read that a signal interrupts is tried again. The 2^64th in a row that is interrupted is a fault.
+/// A read that a signal interrupts is tried again. The last of 2^64 - 1 in a row that
+/// are interrupted is a fault.
 #[derive(Drop)]
 pub struct ReaderSource<R> {
     calls: SystemStream<R>,
@@ -34,6 +36,8 @@ impl<R: Read> Source for ReaderSource<R> {
     ghost left = { λ s. R.remaining s.calls.stream };
 
     ghost faults = { λ s. s.faults };
+
+    ghost beside = { λ _. nothing_beside };
 
     fn read(&mut self, room: &mut [u8]) -> Got
         requires { 0 < length room.old }

@@ -13,8 +13,8 @@ use task_model::{Row, TaskText};
 /// The files of the system. They tell nothing of what a name holds.
 ///
 /// `Absent` comes only where the system says that there is no such file. A directory, or a file
-/// that may not be read, is a fault. A call that a signal interrupts is tried again. The 2^64th in
-/// a row that is interrupted is a fault.
+/// that may not be read, is a fault. A call that a signal interrupts is tried again. The last
+/// of 2^64 - 1 in a row that are interrupted is a fault.
 #[derive(Drop)]
 pub struct SystemFiles<'a, R> {
     rt: &'a R,

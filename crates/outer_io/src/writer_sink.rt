@@ -1,5 +1,6 @@
 ghost use Rattle.std.specs.Prelude.{◌≡◌, ◌<◌, ◌≤◌, length};
 ghost use Rattle.outer_io.specs.Causes.{Rose};
+ghost use Rattle.outer_io.specs.Links.{nothing_beside};
 ghost use Rattle.outer_io.specs.Sink.{Took, faults_after_write};
 ghost use Rattle.outer_io.specs.SystemCalls.{IsWriteOf};
 
@@ -11,8 +12,8 @@ use std::io::Write;
 /// A sink over a writer that keeps nothing back, as the standard output: what a write takes has
 /// reached the system when the write returns. It tells what the writer tells.
 ///
-/// A write that a signal interrupts is tried again. The 2^64th in a row that is interrupted is a
-/// fault, and so is a write that takes nothing.
+/// A write that a signal interrupts is tried again. The last of 2^64 - 1 in a row that are
+/// interrupted is a fault, and so is a write that takes nothing.
 #[derive(Drop)]
 pub struct WriterSink<W> {
     calls: SystemStream<W>,
@@ -36,6 +37,8 @@ impl<W: Write> Sink for WriterSink<W> {
     ghost taken = { λ s. W.contents s.calls.stream };
 
     ghost faults = { λ s. s.faults };
+
+    ghost beside = { λ _. nothing_beside };
 
     fn write(&mut self, piece: &[u8]) -> Put
         requires { 0 < length piece.now }

@@ -1,4 +1,5 @@
 mod flaky;
+mod links;
 mod memory;
 mod streams;
 

@@ -1,4 +1,5 @@
 ghost use Rattle.std.specs.Prelude.{None};
+ghost use Rattle.outer_io.specs.Links.{nothing_beside};
 
 use outer_io::{Put, Sink};
 
@@ -13,6 +14,8 @@ impl Sink for Counter {
     ghost taken = { λ _. None };
 
     ghost faults = { λ _. 0 };
+
+    ghost beside = { λ _. nothing_beside };
 
     fn write(&mut self, piece: &[u8]) -> Put {
         self.writes = self.writes.saturating_add(1);
