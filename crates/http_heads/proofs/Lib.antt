@@ -4,3 +4,6 @@ pub mod ScanLemmas
 pub mod WholeHead
 pub mod FieldLemmas
 pub mod NumberLemmas
+pub mod EndLemmas
+pub mod CheckLemmas
+pub mod HeadDecision

@@ -1,5 +1,5 @@
 -- The search for the end of a block, byte by byte.
-use Rattle.std.proofs.Common.{◌≡◌, ◌≢◌, ℕ, zero, suc, ◌+◌, ◌<◌, ◌≤◌, Option, None, Some, option_map, [], ◌∷◌, ◌++◌, length, get_or, take, min, refl, sym, ap, ◌∙◌, arith, append-nil}
+use Rattle.std.proofs.Common.{◌≡◌, ◌≢◌, ℕ, zero, suc, ◌+◌, ◌<◌, ◌≤◌, Option, None, Some, option_map, [], ◌∷◌, ◌++◌, length, length-append, get_or, take, min, refl, sym, ap, ◌∙◌, arith, append-nil}
 use Rattle.task_model.specs.Terms.Text.{Text}
 use Rattle.http_heads.specs.declared.phase.Phase.{Phase}
 use Rattle.http_heads.specs.declared.phase.Phase.TheVariants as phases
@@ -34,6 +34,10 @@ take_same (b ∷ t) (suc k) zero le all = absurd (omega arith)
 take_same (b ∷ t) (suc k) (suc m) le all =
     ap (λ l. b ∷ l) (take_same t k m (omega arith) (λ lt. let h : suc (length t) ≤ suc k = all (omega arith) in omega (arith, h)))
 
+take_whole : (t : Text) → take (length t) t ≡ t
+take_whole [] = refl
+take_whole (b ∷ t) = ap (λ l. b ∷ l) (take_whole t)
+
 take_most : (t : Text) (k m : ℕ) → k ≡ min (length t) m → take m t ≡ take k t
 take_most t k m e = take_same t k m (omega arith) (λ lt. omega arith)
 
@@ -64,6 +68,25 @@ looked_to_end scan bytes h ended =
     let (u, e) = take_part bytes scan.looked head_limit h.short in
     sym (ap end_of_block e ∙ h.rest u ∙ ap (λ p. option_map (λ n. scan.looked + n) (rest_behind p u)) ended ∙ ap Some (omega arith))
 
+take_size : (k : ℕ) (t : Text) → length (take k t) ≤ k
+take_size zero t = omega arith
+take_size (suc k) [] = omega arith
+take_size (suc k) (b ∷ t) = let le = take_size k t in omega (arith, le)
+
+-- the bytes up to its end alone have it there
+pub looked_front : (scan : HeadScan) (bytes : Text) → HasLookedAt scan bytes → scan.phase ≡ phases.Ended
+    → (scan.looked ≤ length bytes) × (head_length (take scan.looked bytes) ≡ Some scan.looked)
+looked_front scan bytes h ended =
+    let front = take scan.looked bytes in
+    let size = take_size scan.looked bytes in
+    let all : take head_limit front ≡ front ++ [] =
+    take_same front (length front) head_limit (omega (arith, size, h.short)) (λ lt. omega arith) ∙ take_whole front
+    ∙ sym (append-nil front) in (
+      h.within,
+      ap end_of_block all ∙ h.rest []
+          ∙ ap (λ p. option_map (λ n. scan.looked + n) (rest_behind p [])) ended ∙ ap Some (omega arith),
+    )
+
 -- nothing comes of no bytes
 pub rest_of_none : (p : Phase) → p ≢ phases.Ended → rest_behind p [] ≡ None
 rest_of_none phases.Blank differs = refl
@@ -79,3 +102,17 @@ pub looked_in_vain : (scan : HeadScan) (bytes : Text) → HasLookedAt scan bytes
 looked_in_vain scan bytes h differs all =
     sym (ap end_of_block (take_most bytes scan.looked head_limit all ∙ sym (append-nil (take scan.looked bytes))) ∙ h.rest []
     ∙ ap (option_map (λ n. scan.looked + n)) (rest_of_none scan.phase differs))
+
+-- ---- more bytes
+take_before : (k : ℕ) (t m : Text) → k ≤ length t → take k (t ++ m) ≡ take k t
+take_before zero t m le = refl
+take_before (suc k) [] m le = absurd (omega arith)
+take_before (suc k) (b ∷ t) m le = ap (λ l. b ∷ l) (take_before k t m (omega arith))
+
+-- what was looked at stays so, whatever follows
+pub looked_more : (scan : HeadScan) (bytes more : Text) → HasLookedAt scan bytes → HasLookedAt scan (bytes ++ more)
+looked_more scan bytes more h = record {
+  within = let size = length-append bytes more in omega (arith, size, h.within);
+  short = h.short;
+  rest = λ t. ap (λ l. end_of_block (l ++ t)) (take_before scan.looked bytes more h.within) ∙ h.rest t;
+}

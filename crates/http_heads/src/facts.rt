@@ -38,6 +38,16 @@ impl<'b> HeadFacts<'b> {
             query: head.query().unwrap_or(&[]),
         }
     }
+
+    /// Whether the connection ends with the request, since a check that it fails says so (docs/FORMATS.md, "Checks").
+    pub fn ends(&self) -> bool
+        ensures { result ≡ is_end self.now.failed }
+    {
+        match self.failed {
+            Some(check) => check.ends(),
+            None => false,
+        }
+    }
 }
 
 /// How many bytes of a body of this length belong to a request with this fault.

@@ -1,4 +1,4 @@
-ghost use Rattle.std.specs.Prelude.{◌≡◌, IfNone, length, min};
+ghost use Rattle.std.specs.Prelude.{◌≡◌, ◌≤◌, Some, IfSome, IfNone, length, min, take};
 ghost use Rattle.task_model.specs.Terms.Text.{Text};
 ghost use Rattle.http_heads.specs.Blocks.{head_limit, head_length};
 ghost use Rattle.http_heads.specs.Phases.{HasLookedAt};
@@ -31,6 +31,8 @@ impl HeadScan {
     pub fn look(&mut self, bytes: &[u8]) -> Option<usize>
         requires { HasLookedAt self.old bytes.now }
         ensures end { result ≡ head_length bytes.now }
+        // The bytes up to the end alone have it there.
+        ensures front { IfSome result (λ n. (n ≤ length bytes.now) × (head_length (take n bytes.now) ≡ Some n)) }
         ensures looked { HasLookedAt self.new bytes.now }
         ensures all { IfNone result (self.new.looked ≡ min (length bytes.now) head_limit) }
     {

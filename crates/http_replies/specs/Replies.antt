@@ -107,9 +107,12 @@ reply_body (over_reply version) = text_line (codes "over budget at version " ++ 
 reply_body (refused_reply status text) = text_line text
 reply_body memory_reply = []
 
--- Its head, where the connection ends behind it or goes on.
+-- Its head, where its body has so many bytes, and the connection ends behind it or goes on.
+abbrev pub reply_head_of : ReplyTerm → ℕ → Bool → Text
+reply_head_of reply size closes = reply_head_text (reply_status reply) (reply_location reply) (reply_kind reply) size closes
+
 abbrev pub reply_head : ReplyTerm → Bool → Text
-reply_head reply closes = reply_head_text (reply_status reply) (reply_location reply) (reply_kind reply) (length (reply_body reply)) closes
+reply_head reply closes = reply_head_of reply (length (reply_body reply)) closes
 
 -- Its head, and its body unless the head alone is wanted.
 abbrev pub reply_bytes : ReplyTerm → (head_only closes : Bool) → Text

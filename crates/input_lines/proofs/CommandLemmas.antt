@@ -13,7 +13,8 @@ use Rattle.exact_reading.proofs.Sequences.{Bind, append_nil}
 use Rattle.exact_reading.proofs.Productions.{then_right, then_stop, same_language, by_production, at_tokens, begins_token}
 use Rattle.literal_text.specs.LiteralReading.{NoDigit}
 use Rattle.input_lines.specs.ScriptLines.{LineTerm, nothing, shows, gives, LineParse, empty, comment, show, act, parse_bytes, parsed_line, act_bytes, parsed_act, return_text, IsScriptLine}
-use Rattle.input_lines.specs.LineReading.{AtEnd, NoLetter, LineEnd, EndWord, SeatNumber, PathLetters, EndAct, EndInput, EndCommand, shown, given, SeatedLine}
+use Rattle.input_paths.specs.Paths.{PathLetters, NoLetter}
+use Rattle.input_lines.specs.LineReading.{AtEnd, LineEnd, EndWord, SeatNumber, EndAct, EndInput, EndCommand, shown, given, SeatedLine}
 use Rattle.input_lines.proofs.Images.{image_right, image_stop}
 use Rattle.input_lines.proofs.SeatLemmas.{first_digit}
 use Rattle.input_lines.proofs.ActLemmas.{act_alive}

@@ -21,10 +21,11 @@ use Rattle.literal_text_laws.proofs.Words.{begins_or_not, Within, within_or_not,
 use Rattle.literal_text_laws.proofs.OneLiteral.{some_any, one_any}
 use Rattle.input_lines.specs.ScriptLines.{LineTerm, nothing, shows, IsScriptLine}
 use Rattle.input_lines.specs.LinePlaces.{IsLineWithin, IsBadLine}
-use Rattle.input_lines.specs.LineReading.{AtEnd, AtReturn, NoReturn, NoLetter, LineEnd, EndWord, SeatNumber, PathLetters, EndLiteral, EndAct, EndInput, EndCommand, SeatedLine}
+use Rattle.input_paths.specs.Paths.{PathLetters, NoLetter}
+use Rattle.input_lines.specs.LineReading.{AtEnd, AtReturn, NoReturn, LineEnd, EndWord, SeatNumber, EndLiteral, EndAct, EndInput, EndCommand, SeatedLine}
 use Rattle.input_lines.proofs.EndLemmas.{nothing_right, nothing_stop, end_with, end_without, end_word_right, end_word_stop}
 use Rattle.input_lines.proofs.SeatLemmas.{no_seat, no_digit_at, zero_at, one_digit, two_digits, full_end, full_over}
-use Rattle.input_lines.proofs.PathLemmas.{path_right, path_stop, dot_read, turn_read}
+use Rattle.input_paths.proofs.PathLemmas.{path_right, path_stop, dot_read, turn_read}
 use Rattle.input_lines.proofs.LiteralEndLemmas.{literal_right, literal_stop, place_within, end_literal_right, end_literal_after, end_literal_stop}
 use Rattle.input_lines.proofs.ActLemmas as acts
 use Rattle.input_lines.proofs.CommandLemmas as commands

@@ -1,7 +1,6 @@
 pub mod Images
 pub mod EndLemmas
 pub mod SeatLemmas
-pub mod PathLemmas
 pub mod ReturnLemmas
 pub mod LiteralEndLemmas
 pub mod ActLemmas

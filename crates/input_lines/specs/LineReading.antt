@@ -6,7 +6,6 @@ use Rattle.task_model.specs.Terms.Input.{ActTerm}
 use Rattle.task_model.specs.Running.State.{IsSeat}
 use Rattle.task_model.specs.Showing.Page.{path_text}
 use Rattle.task_model.specs.declared.input.Turn.{Turn}
-use Rattle.exact_reading.specs.Reading.{NoToken}
 use Rattle.literal_text.specs.Literals.{IsLiteral}
 use Rattle.input_lines.specs.ScriptLines.{LineTerm, shows, gives, ActParse, act_bytes, parsed_act, return_text}
 
@@ -19,11 +18,6 @@ AtEnd z = z ≡ []
 abbrev pub AtReturn : Text → Type 0
 AtReturn [] = Unit {0}
 AtReturn (byte ∷ z) = byte ≡ 13
-
--- no letter of a path
-pub record NoLetter (z : Text) : Type 0 where
-  pub first : NoToken 70 z
-  pub second : NoToken 83 z
 
 -- no CR stands in these bytes
 abbrev pub NoReturn : Text → Type 0
@@ -45,10 +39,6 @@ pub record EndWord (word : Text) (t : Text) (x : Unit {0}) : Type 0 where
 pub record SeatNumber (t : Text) (seat : ℕ) : Type 0 where
   pub is : IsSeat seat
   pub are : t ≡ decimal seat
-
--- a path
-abbrev pub PathLetters : Text → List Turn → Type 0
-PathLetters t path = t ≡ path_text path
 
 -- a literal to the end of the line
 pub record EndLiteral (t : Text) (v : ValueTerm) : Type 0 where

@@ -10,7 +10,6 @@ mod laws;
 mod line;
 mod next;
 mod parse;
-mod paths;
 mod print;
 mod reading;
 mod room;

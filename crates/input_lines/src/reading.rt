@@ -6,9 +6,9 @@ ghost use Rattle.input_lines.specs.LineReading.{SeatedLine, EndCommand, EndInput
 use crate::acts::{act, begins};
 use crate::ends::{end_word, line_end};
 use crate::line::Line;
-use crate::paths::path;
 use crate::seats::{begins_digit, seat};
 use exact_reading::{ParseStop, expect};
+use input_paths::read_path;
 use std::alloc::Global;
 use task_model::{Entry, Input};
 
@@ -50,7 +50,7 @@ fn command(alloc: Global, seat: u8, bytes: &[u8]) -> Result<Line, ParseStop>
 fn input(alloc: Global, seat: u8, bytes: &[u8]) -> Result<Line, ParseStop>
     ensures { Right (EndInput seat) Always AtEnd bytes.now (seen (λ l. (line_term l, [])) result) }
 {
-    let (path, rest) = path(alloc, bytes)?;
+    let (path, rest) = read_path(alloc, bytes)?;
     let rest = expect(rest, b' ')?;
     let act = act(alloc, rest)?;
     let input = Input { path, act };

@@ -4,4 +4,4 @@ mod Ints
 mod Texts
 mod Values
 pub mod OneLiteral
-mod TypeNames
+pub mod TypeNames

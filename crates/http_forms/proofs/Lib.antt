@@ -1,0 +1,3 @@
+pub mod OneForm
+pub mod FormLemmas
+pub mod SomeForm

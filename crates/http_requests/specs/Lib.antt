@@ -1,0 +1,4 @@
+pub mod Requests
+pub mod Streams
+pub mod RequestReading
+pub mod Knowledge
