@@ -1,0 +1,10 @@
+pub mod DeskAnswers
+pub mod Connections
+pub mod Desks
+pub mod Notes
+pub mod Outcomes
+pub mod Plans
+pub mod ReadyBytes
+pub mod Readings
+pub mod Sendings
+pub mod Rounds
