@@ -1,0 +1,4 @@
+pub mod BoardLists
+pub mod BoardPlaces
+pub mod Moments
+pub mod Rolls
