@@ -1,0 +1,5 @@
+pub mod ChangeLemmas
+pub mod AloneLemmas
+pub mod MarkLemmas
+pub mod CountLemmas
+pub mod NumberLemmas

@@ -1,0 +1,40 @@
+-- Nodes that stay as they were from one state to another, and how many don't (docs/RULES.md, "Kept nodes").
+use Rattle.std.specs.Prelude.{◌≡◌, ◌⊎◌, ℕ, suc, List, [], ◌∷◌, ◌++◌, map, Option, None, Some}
+use Rattle.task_model.specs.Terms.Value.{ValueTerm}
+use Rattle.task_model.specs.Terms.Tree.{TreeTerm, then_tree, next_tree, and_tree, or_tree, State}
+use Rattle.task_model.specs.Running.Foot.{foot, AgreeOn}
+use Rattle.task_model.specs.Running.Address.{Address, into_left, into_first, into_second, node_at}
+
+-- the node at an address of what stood in a place, if anything did
+abbrev pub node_in : Option TreeTerm → Address → Option TreeTerm
+node_in None a = None
+node_in (Some t) a = node_at t a
+
+-- The node at an address of a part is kept from what stood in the part's place: it is the same tree in both, and both stores agree on its
+-- foot.
+pub record IsKeptIn (σ τ : List ValueTerm) (old : Option TreeTerm) (new : TreeTerm) (a : Address) : Type 0 where
+  pub node : TreeTerm
+  pub before : node_in old a ≡ Some node
+  pub after : node_at new a ≡ Some node
+  pub agree : AgreeOn (foot node) σ τ
+
+-- the node at an address is kept from one state to another
+abbrev pub IsKeptNode : Address → State → State → Type 0
+IsKeptNode a s s' = IsKeptIn s.store s'.store (Some s.tree) s'.tree a
+
+-- the addresses of a tree's nodes, in pre-order
+abbrev pub addresses : TreeTerm → List Address
+addresses (then_tree t k) = [] ∷ map (λ a. into_left ∷ a) (addresses t)
+addresses (next_tree t k) = [] ∷ map (λ a. into_left ∷ a) (addresses t)
+addresses (and_tree t u) = [] ∷ (map (λ a. into_first ∷ a) (addresses t) ++ map (λ a. into_second ∷ a) (addresses u))
+addresses (or_tree t u) = [] ∷ (map (λ a. into_first ∷ a) (addresses t) ++ map (λ a. into_second ∷ a) (addresses u))
+addresses t = [] ∷ []
+
+-- of so many of these addresses this doesn't hold
+abbrev pub CountsNot : (Address → Type 0) → List Address → ℕ → Type 0
+CountsNot P [] n = n ≡ 0
+CountsNot P (a ∷ more) n = (P a × CountsNot P more n) ⊎ ((P a → ⊥) × (m : ℕ) × (n ≡ suc m) × CountsNot P more m)
+
+-- so many nodes of a state aren't kept from another one
+abbrev pub IsRedrawn : State → State → ℕ → Type 0
+IsRedrawn s s' n = CountsNot (λ a. IsKeptNode a s s') (addresses s'.tree) n

@@ -1,0 +1,7 @@
+pub mod Kept
+pub mod KeptMarks
+pub mod Changed
+pub mod Own
+pub mod There
+pub mod NodeParts
+pub mod NodeNumbers

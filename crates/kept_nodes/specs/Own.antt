@@ -1,0 +1,32 @@
+-- A node without its parts.
+use Rattle.std.specs.Prelude.{◌≡◌, ℕ, false, List, nat_eq}
+use Rattle.std.specs.HashSet.{contains}
+use Rattle.std.specs.List.{AllByRecursion}
+use Rattle.task_model.specs.Terms.Tree.{LaterTerm, TreeTerm, then_tree, next_tree, fail_tree, and_tree, or_tree}
+use Rattle.task_model.specs.Terms.Env.{SlotTerm}
+use Rattle.task_laws.specs.TreePlaces.{places_in, slot_places}
+use Rattle.kept_nodes.specs.declared.changed.Changed.{Changed}
+
+-- a node with nothing in the place of its parts
+abbrev pub alone : TreeTerm → TreeTerm
+alone (then_tree t k) = then_tree fail_tree k
+alone (next_tree t k) = next_tree fail_tree k
+alone (and_tree t u) = and_tree fail_tree fail_tree
+alone (or_tree t u) = or_tree fail_tree fail_tree
+alone t = t
+
+-- none of these places is among the changed ones
+abbrev pub AreUnchanged : Changed → List ℕ → Type 0
+AreUnchanged c ns = AllByRecursion (λ n. contains nat_eq c.places n ≡ false) ns
+
+-- slots are the same as others, and none of their places is changed
+abbrev pub SlotsStay : Changed → List SlotTerm → List SlotTerm → Type 0
+SlotsStay c olds news = (olds ≡ news) × AreUnchanged c (slot_places news)
+
+-- a body with its slots is the same as another, and none of its places is changed
+abbrev pub LaterStays : Changed → LaterTerm → LaterTerm → Type 0
+LaterStays c old new = (old ≡ new) × AreUnchanged c (slot_places new.slots)
+
+-- a node besides its parts is the same as another, and none of its own places is changed
+abbrev pub StaysAlone : Changed → TreeTerm → TreeTerm → Type 0
+StaysAlone c old new = (alone old ≡ alone new) × AreUnchanged c (places_in (alone new))

@@ -1,0 +1,17 @@
+//! What an event leaves as it was: the places of the store whose values it changed, and, by one walk over the tree before and the tree
+//! after, the nodes that are kept, node by node.
+#![tactic(auto)]
+
+mod alone;
+mod changed;
+mod laws;
+mod marks;
+mod numbers;
+mod parts;
+mod walk;
+
+pub use changed::{Changed, changed_places};
+pub use laws::{kept_nodes_look_alike, marks_count};
+pub use marks::Marks;
+pub use parts::{Parts, first_part, left_part, parts_of, second_part};
+pub use walk::kept;
