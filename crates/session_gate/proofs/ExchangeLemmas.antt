@@ -7,7 +7,7 @@ use Rattle.task_model.specs.Terms.Text.{Text}
 use Rattle.task_model.specs.Terms.Input.{EntryTerm}
 use Rattle.task_model.specs.Running.State.{IsLegal, version_of}
 use Rattle.http_requests.specs.Requests.{RequestTerm}
-use Rattle.session_gate.specs.Desks.{DeskTerm, GoesOn}
+use Rattle.session_desk.specs.Desks.{DeskTerm, GoesOn}
 use Rattle.session_gate.specs.Notes.{AllSuit, NoneIsMemory, taken_entries, IsJoined, version_requests}
 use Rattle.session_gate.specs.Connections.{AllGoOn, Exchange}
 use Rattle.session_gate.specs.declared.note.Note.{Note}

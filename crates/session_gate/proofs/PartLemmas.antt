@@ -13,7 +13,7 @@ use Rattle.task_laws.proofs.HistoryLemmas.{prefix_whole}
 use Rattle.task_laws.proofs.BeginningLemmas.{version_later}
 use Rattle.http_requests.specs.Requests.{RequestTerm, AskedTerm, IsRequest}
 use Rattle.http_replies.specs.Replies.{ReplyTerm, memory_reply, reply_bytes}
-use Rattle.session_gate.specs.Desks.{DeskTerm, GoesOn}
+use Rattle.session_desk.specs.Desks.{DeskTerm, GoesOn}
 use Rattle.session_gate.specs.Notes.{SuitsAt, Suits, IsReply, IsReplyAt, IsJoined, AllSuit, taken_entry, taken_entries, names_version, closes_after, wants_head}
 use Rattle.session_gate.specs.DeskAnswers.{IsDeskAnswer, memory_note}
 use Rattle.session_gate.specs.Connections.{Exchange}

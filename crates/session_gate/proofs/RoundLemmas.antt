@@ -12,7 +12,7 @@ use Rattle.http_requests.specs.Streams.{BeginsWith, is_last, ends_asked}
 use Rattle.http_replies.specs.Replies.{ReplyTerm, memory_reply, taken_reply, reply_bytes}
 use Rattle.session_gate.specs.DeskAnswers.{IsDeskAnswer, IsReady, as_answered, out_of_memory, note_of, reply_of, memory_note}
 use Rattle.session_gate.specs.Connections.{AllGoOn, AreWritten, Exchange, IsEnding, IsLastOf, read_faults_after, write_faults_after}
-use Rattle.session_gate.specs.Desks.{DeskTerm}
+use Rattle.session_desk.specs.Desks.{DeskTerm}
 use Rattle.session_gate.specs.Notes.{closes_after, is_memory, taken_entry, wants_head}
 use Rattle.session_gate.specs.Plans.{closing_status, asked_ending, ending_after}
 use Rattle.session_gate.specs.Readings.{Reading}

@@ -8,7 +8,7 @@ use Rattle.task_model.specs.Terms.Text.{Text}
 use Rattle.task_model.specs.Running.State.{version_of}
 use Rattle.http_requests.specs.Requests.{RequestTerm, refused, IsRequest}
 use Rattle.http_requests.specs.Streams.{is_last, ends_asked, HasNoRequest, IsIdle}
-use Rattle.session_gate.specs.Desks.{DeskTerm, GoesOn}
+use Rattle.session_desk.specs.Desks.{DeskTerm, GoesOn}
 use Rattle.session_gate.specs.Notes.{AllSuit, IsRising, NoneIsMemory, LastMayBeMemory, taken_entries, version_requests, IsJoined}
 use Rattle.session_gate.specs.declared.note_kind.NoteKind.TheVariants.{Memory}
 use Rattle.session_gate.specs.declared.note.Note.{Note}

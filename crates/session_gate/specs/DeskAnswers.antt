@@ -4,7 +4,7 @@ use Rattle.task_model.specs.Terms.Text.{Text}
 use Rattle.task_model.specs.Running.State.{version_of}
 use Rattle.http_requests.specs.Requests.{AskedTerm}
 use Rattle.http_replies.specs.Replies.{ReplyTerm, page_reply, taken_reply, ahead_reply, not_offered_reply, over_reply, refused_reply, memory_reply, reply_bytes}
-use Rattle.session_gate.specs.Desks.{DeskTerm, GoesOn}
+use Rattle.session_desk.specs.Desks.{DeskTerm, GoesOn}
 use Rattle.session_gate.specs.Notes.{SuitsAt, IsReplyAt, taken_entry, names_version, is_memory}
 use Rattle.session_gate.specs.declared.answer.Answer.{Answer}
 use Rattle.session_gate.specs.declared.answer.Answer.TheVariants as answer

@@ -1,8 +1,6 @@
 pub mod DeskAnswers
 pub mod Connections
-pub mod Desks
 pub mod Notes
-pub mod Outcomes
 pub mod Plans
 pub mod ReadyBytes
 pub mod Readings

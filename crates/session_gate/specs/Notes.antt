@@ -8,8 +8,8 @@ use Rattle.task_model.specs.Running.State.{IsPage, history_prefix}
 use Rattle.http_requests.specs.Requests.{AskedTerm, asks_page, asks_act, refused, RequestTerm}
 use Rattle.http_requests.specs.Streams.{is_last}
 use Rattle.http_replies.specs.Replies.{ReplyTerm, page_reply, taken_reply, ahead_reply, not_offered_reply, over_reply, refused_reply, memory_reply, reply_bytes}
-use Rattle.session_gate.specs.Outcomes.{HasOutcome}
-use Rattle.session_gate.specs.Desks.{EndsWith, seat_entry}
+use Rattle.session_desk.specs.Outcomes.{HasOutcome}
+use Rattle.session_desk.specs.Desks.{EndsWith, seat_entry}
 use Rattle.session_gate.specs.declared.note_kind.NoteKind.{NoteKind}
 use Rattle.session_gate.specs.declared.note_kind.NoteKind.TheVariants as kind
 use Rattle.session_gate.specs.declared.note.Note.{Note}

@@ -3,7 +3,7 @@ use Rattle.std.specs.Prelude.{◌≡◌, ℕ, ◌≤◌, List, ◌++◌, length,
 use Rattle.outer_io.specs.Links.{LinkTold}
 use Rattle.task_model.specs.Terms.Text.{Text}
 use Rattle.http_requests.specs.Requests.{RequestTerm}
-use Rattle.session_gate.specs.Desks.{DeskTerm}
+use Rattle.session_desk.specs.Desks.{DeskTerm}
 use Rattle.session_gate.specs.Connections.{AllGoOn, AreWritten, Exchange, IsEnding, read_faults_after, write_faults_after}
 use Rattle.session_gate.specs.Notes.{NoneIsMemory}
 use Rattle.session_gate.specs.declared.note.Note.{Note}

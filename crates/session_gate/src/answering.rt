@@ -6,9 +6,8 @@ ghost use Rattle.http_requests.specs.Requests.{asks_act, asks_page};
 ghost use Rattle.session_gate.specs.DeskAnswers.{IsDeskAnswer, note_of, reply_of};
 
 use crate::answer::Answer;
-use crate::desk::Desk;
 use http_requests::Asked;
-use session_stops::{PageStop, ViewStop};
+use session_desk::{Desk, PageStop, ViewStop};
 use std::alloc::Global;
 use std::sync::Wait;
 use task_model::{ActStop, Face, Input};

@@ -7,7 +7,6 @@ ghost use Rattle.session_gate.specs.Connections.{Served};
 ghost use Rattle.session_gate.specs.Rounds.{IsRound};
 
 use crate::answering::answer;
-use crate::desk::Desk;
 use crate::ending::Ending;
 use crate::next::Next;
 use crate::plan::Plan;
@@ -18,6 +17,7 @@ use crate::trace::Trace;
 use bytes::BytesMut;
 use http_requests::Request;
 use outer_io::{Link, Written};
+use session_desk::Desk;
 use std::alloc::Global;
 use std::sync::Wait;
 

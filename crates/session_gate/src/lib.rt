@@ -6,7 +6,6 @@
 mod answer;
 mod answering;
 mod connection;
-mod desk;
 mod ending;
 mod filled;
 mod laws;
@@ -21,7 +20,6 @@ mod sending;
 mod trace;
 
 pub use connection::serve_connection;
-pub use desk::Desk;
 pub use ending::Ending;
 pub use laws::answered_requests_come_first;
 pub use note::Note;

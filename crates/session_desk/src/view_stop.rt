@@ -1,5 +1,5 @@
 ghost use Rattle.std.specs.Prelude.{◌≡◌};
-ghost use Rattle.session_stops.specs.declared.view_stop.ViewStop.TheVariants.{Memory};
+ghost use Rattle.session_desk.specs.declared.view_stop.ViewStop.TheVariants.{Memory};
 
 use task_model::OutOfMemory;
 

@@ -1,5 +1,5 @@
 ghost use Rattle.std.specs.Prelude.{◌≡◌};
-ghost use Rattle.session_stops.specs.declared.page_stop.PageStop.TheVariants.{Memory};
+ghost use Rattle.session_desk.specs.declared.page_stop.PageStop.TheVariants.{Memory};
 
 use task_model::OutOfMemory;
 
