@@ -1,4 +1,4 @@
-ghost use Rattle.std.specs.Prelude.{◌≡◌, [], ◌∷◌, ◌++◌, length, OnErr, OnOk};
+ghost use Rattle.std.specs.Prelude.{◌≡◌, ◌+◌, ◌≤◌, [], ◌∷◌, ◌++◌, drop, length, take, IfOk, OnErr, OnOk};
 
 use crate::fragment::Fragment;
 use std::alloc::Global;
@@ -36,6 +36,32 @@ impl Fragments {
         ensures err { OnErr result (self.new ≡ self.old) }
     {
         self.row.push(fragment)
+    }
+
+    /// The same fragments, in the same memory besides that of the list.
+    pub fn copy(&self, alloc: Global) -> Result<Fragments, OutOfMemory>
+        ensures { IfOk result (λ copy. copy ≡ self.now) }
+    {
+        let mut copy = Fragments::new(alloc);
+        copy.take_over(self, 0, self.len())?;
+        Ok(copy)
+    }
+
+    /// Puts so many fragments of another list, from a number on, behind the others, in the same memory besides that of the list.
+    pub fn take_over(
+        &mut self,
+        others: &Fragments,
+        from: usize,
+        count: usize,
+    ) -> Result<(), OutOfMemory>
+        requires { from + count ≤ length others.now }
+        ensures { OnOk result (self.new ≡ self.old ++ take count (drop from others.now)) }
+    {
+        self.row.reserve(count)?;
+        for fragment in &others.as_slice()[from..from + count] {
+            self.row.push(fragment.copy()?)?;
+        }
+        Ok(())
     }
 
     /// How many there are.

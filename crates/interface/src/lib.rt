@@ -6,4 +6,5 @@ mod shapes;
 mod shown;
 mod walk;
 
+pub use shapes::{edit_shape, share_shape};
 pub use walk::widgets;

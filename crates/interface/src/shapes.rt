@@ -6,7 +6,8 @@ ghost use Rattle.task_model.specs.Showing.Widget.{shape_term};
 
 use task_model::{Basic, OutOfMemory, Reads, Shape, Value, copy_basic, copy_value};
 
-pub(crate) fn edit_shape(b: &Basic, v: &Value) -> Result<Shape, OutOfMemory>
+/// An editor with its value.
+pub fn edit_shape(b: &Basic, v: &Value) -> Result<Shape, OutOfMemory>
     ensures { IfOk result (λ s. shape_term s ≡ model.edit_shape (basic_term b.now) (value_term v.now)) }
 {
     let b = copy_basic(b)?;
@@ -14,7 +15,7 @@ pub(crate) fn edit_shape(b: &Basic, v: &Value) -> Result<Shape, OutOfMemory>
 }
 
 /// A shared editor with the store's value, or with unit where there is no such place.
-pub(crate) fn share_shape<R: Reads>(b: &Basic, place: u64, reads: &R) -> Result<Shape, OutOfMemory>
+pub fn share_shape<R: Reads>(b: &Basic, place: u64, reads: &R) -> Result<Shape, OutOfMemory>
     ensures { IfOk result (λ s. shape_term s ≡ model.share_shape (basic_term b.now) (model.stored (R.values reads.now) place)) }
 {
     let b = copy_basic(b)?;

@@ -8,25 +8,25 @@ use task_tree::Trail;
 
 /// Where a walk through a tree is, and the offers that it has found.
 #[derive(Drop)]
-pub(crate) struct Found {
-    pub(crate) trail: Trail,
-    pub(crate) offers: Row<Offer>,
+pub struct FoundOffers {
+    pub trail: Trail,
+    pub offers: Row<Offer>,
 }
 
-impl Found {
+impl FoundOffers {
     /// At the root, with no offer.
-    pub(crate) fn new(alloc: Global) -> Found
+    pub fn new(alloc: Global) -> FoundOffers
         ensures trail { result.trail ≡ [] }
         ensures offers { result.offers.list ≡ [] }
     {
-        Found {
+        FoundOffers {
             trail: Trail::new(alloc),
             offers: Row::new(alloc),
         }
     }
 
     /// Adds what a sign offers at the node where the walk is.
-    pub(crate) fn push(&mut self, kind: OfferKind, sign: Sign) -> Result<(), OutOfMemory>
+    pub fn push(&mut self, kind: OfferKind, sign: Sign) -> Result<(), OutOfMemory>
         ensures trail { self.new.trail ≡ self.old.trail }
         ensures offers { OnOk result (map offer_term self.new.offers.list ≡ map offer_term self.old.offers.list
             ++ map (offer_below self.old.trail) (offered (offer_kind_term kind) sign)) }

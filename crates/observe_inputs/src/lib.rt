@@ -5,4 +5,5 @@ mod found;
 mod offering;
 mod signs;
 
+pub use found::FoundOffers;
 pub use offering::offers;

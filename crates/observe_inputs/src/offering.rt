@@ -7,7 +7,7 @@ ghost use Rattle.task_model.specs.Running.Offer.{offer_term, AreOffers};
 ghost use Rattle.observe_inputs.specs.TestsIn.{tests_in};
 ghost use Rattle.observe_inputs.specs.OffersFollow.{OffersFollow};
 
-use crate::found::Found;
+use crate::found::FoundOffers;
 use crate::signs::step_sign;
 use shared_store::Store;
 use std::sync::ledger::Ledger;
@@ -30,7 +30,7 @@ pub fn offers<L: Ledger>(
     ensures offers { IfOk result (λ os. AreOffers (checked_term engine.now) budget (tree_term t.now) (map value_term store.old.list)
         (map offer_term os.list)) }
 {
-    let mut found = Found::new(engine.alloc());
+    let mut found = FoundOffers::new(engine.alloc());
     add_offers(&mut found, engine, t, store, budget, steps)?;
     Ok(found.offers)
 }
@@ -38,7 +38,7 @@ pub fn offers<L: Ledger>(
 // Adds the offers of a part.
 #[cycle(offers)]
 fn add_offers<L: Ledger>(
-    found: &mut Found,
+    found: &mut FoundOffers,
     engine: &Engine,
     t: &Tree,
     store: &mut Store<Value>,
@@ -78,7 +78,7 @@ fn add_offers<L: Ledger>(
 
 // The offers of an external choice.
 fn add_pick<L: Ledger>(
-    found: &mut Found,
+    found: &mut FoundOffers,
     engine: &Engine,
     j: &Delay,
     k: &Delay,
@@ -103,7 +103,7 @@ fn add_pick<L: Ledger>(
 // The offers of the part that a turn leads to.
 #[cycle(offers)]
 fn add_part<L: Ledger>(
-    found: &mut Found,
+    found: &mut FoundOffers,
     engine: &Engine,
     part: &Tree,
     turn: Turn,

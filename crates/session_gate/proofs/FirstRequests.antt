@@ -7,7 +7,7 @@ use Rattle.http_requests.proofs.OneRequest.{one_request}
 use Rattle.session_gate.specs.Connections.{HoldsRequests, AllGoOn, MayEndLast, IsLastOf}
 
 -- the first of them
-front_request : (bytes rest one behind : Text) (r : RequestTerm) → bytes ≡ one ++ rest → IsRequest one r
+pub front_request : (bytes rest one behind : Text) (r : RequestTerm) → bytes ≡ one ++ rest → IsRequest one r
     → BeginsWith (bytes ++ behind) r (rest ++ behind)
 front_request bytes rest one behind r split is = record {
   front = one;

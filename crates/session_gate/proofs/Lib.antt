@@ -1,3 +1,4 @@
+pub mod CompleteLemmas
 pub mod ExchangeLemmas
 pub mod FirstRequests
 pub mod ListLemmas

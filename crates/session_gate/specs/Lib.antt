@@ -1,3 +1,4 @@
+pub mod Completeness
 pub mod DeskAnswers
 pub mod Connections
 pub mod Notes

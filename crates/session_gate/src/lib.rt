@@ -21,7 +21,7 @@ mod trace;
 
 pub use connection::serve_connection;
 pub use ending::Ending;
-pub use laws::answered_requests_come_first;
+pub use laws::{answered_requests_come_first, connections_are_complete};
 pub use note::Note;
 pub use note_kind::NoteKind;
 pub use trace::Trace;

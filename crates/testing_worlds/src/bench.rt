@@ -46,64 +46,41 @@ fn item_text(alloc: Global, item: Option<&Item>) -> Result<TaskText, OutOfMemory
 
 impl WorldBench {
     /// Opens the program of a text. A budget that is none is over.
-    pub fn open<L: Ledger>(
-        alloc: Global,
-        source: &str,
-        budget: u32,
-        steps: &mut Steps<L>,
-    ) -> Result<WorldBench, OpenStop> {
+    pub fn open(alloc: Global, source: &str, budget: u32) -> Result<WorldBench, OpenStop> {
         if budget < 1 || budget > BUDGET_LIMIT {
             return Err(OpenStop::Over);
         }
-        let world = World::open(alloc, accepted(alloc, source)?, budget, steps)?;
+        let world = World::open(alloc, accepted(alloc, source)?, budget)?;
         Ok(WorldBench { world })
     }
 
     /// The same where it is opened for sure. Over is as want of memory.
-    pub fn opened<L: Ledger>(
-        alloc: Global,
-        source: &str,
-        budget: u32,
-        steps: &mut Steps<L>,
-    ) -> Result<WorldBench, OutOfMemory> {
-        match WorldBench::open(alloc, source, budget, steps) {
+    pub fn opened(alloc: Global, source: &str, budget: u32) -> Result<WorldBench, OutOfMemory> {
+        match WorldBench::open(alloc, source, budget) {
             Ok(bench) => Ok(bench),
             Err(_) => Err(OutOfMemory),
         }
     }
 
     // Takes an input of a seat.
-    fn take<L: Ledger>(
-        &mut self,
-        alloc: Global,
-        seat: u8,
-        input: Input,
-        way: Way,
-        steps: &mut Steps<L>,
-    ) -> Result<Taken, ActStop>
+    fn take(&mut self, seat: u8, input: Input, way: Way) -> Result<Taken, ActStop>
         requires { IsSeat seat }
     {
         match way {
-            Way::Whole => self.world.handle(alloc, seat, input, steps),
+            Way::Whole => self.world.handle(seat, input),
             Way::Parts => {
-                self.world.prepare(alloc, seat, input, steps)?;
+                self.world.prepare(seat, input)?;
                 Ok(self.world.commit())
             }
         }
     }
 
     /// Gives an entry to the world.
-    pub fn handle<L: Ledger>(
-        &mut self,
-        alloc: Global,
-        entry: &Entry,
-        way: Way,
-        steps: &mut Steps<L>,
-    ) -> Result<Reply, OutOfMemory>
+    pub fn handle(&mut self, alloc: Global, entry: &Entry, way: Way) -> Result<Reply, OutOfMemory>
         requires { IsSeat entry.now.seat }
     {
         let input = copy_input(alloc, &entry.input)?;
-        match self.take(alloc, entry.seat, input, way, steps) {
+        match self.take(entry.seat, input, way) {
             Ok(Taken { version }) => Ok(Reply::Taken(version)),
             Err(ActStop::NotOffered) => Ok(Reply::NotOffered),
             Err(ActStop::Over) => Ok(Reply::Over),
@@ -111,17 +88,39 @@ impl WorldBench {
         }
     }
 
-    /// Prepares an entry, and abandons it: the line of what was prepared, which is empty where the entry is refused.
-    pub fn abandoned<L: Ledger>(
+    /// Gives an entry to the world, and asks for what is drawn of the prepared state before it is taken.
+    pub fn handle_drawn<L: Ledger>(
         &mut self,
         alloc: Global,
         entry: &Entry,
         steps: &mut Steps<L>,
-    ) -> Result<TaskText, OutOfMemory>
+    ) -> Result<Reply, OutOfMemory>
         requires { IsSeat entry.now.seat }
     {
         let input = copy_input(alloc, &entry.input)?;
-        match self.world.prepare(alloc, entry.seat, input, steps) {
+        match self.world.prepare(entry.seat, input) {
+            Ok(()) => match self.world.next_fragments(alloc, steps) {
+                Ok(_) => {
+                    let Taken { version } = self.world.commit();
+                    Ok(Reply::Taken(version))
+                }
+                Err(OutOfMemory) => {
+                    self.world.abandon();
+                    Err(OutOfMemory)
+                }
+            },
+            Err(ActStop::NotOffered) => Ok(Reply::NotOffered),
+            Err(ActStop::Over) => Ok(Reply::Over),
+            Err(ActStop::Memory) => Err(OutOfMemory),
+        }
+    }
+
+    /// Prepares an entry, and abandons it: the line of what was prepared, which is empty where the entry is refused.
+    pub fn abandoned(&mut self, alloc: Global, entry: &Entry) -> Result<TaskText, OutOfMemory>
+        requires { IsSeat entry.now.seat }
+    {
+        let input = copy_input(alloc, &entry.input)?;
+        match self.world.prepare(entry.seat, input) {
             Ok(()) => {
                 let line = item_text(alloc, self.world.next_item());
                 self.world.abandon();
@@ -133,15 +132,10 @@ impl WorldBench {
     }
 
     /// Gives entries to the world in one run: their replies, or none where memory ran out.
-    pub fn run<L: Ledger>(
-        &mut self,
-        alloc: Global,
-        entries: &[Entry],
-        steps: &mut Steps<L>,
-    ) -> Result<Row<Reply>, OutOfMemory>
+    pub fn run(&mut self, alloc: Global, entries: &[Entry]) -> Result<Row<Reply>, OutOfMemory>
         requires { All (λ e. IsSeat e.seat) entries.now }
     {
-        match self.world.run(alloc, entries, steps) {
+        match self.world.run(alloc, entries) {
             Ok(replies) => Ok(replies),
             Err(_) => Err(OutOfMemory),
         }
@@ -159,7 +153,7 @@ impl WorldBench {
         self.world.version()
     }
 
-    pub fn nodes(&self) -> u64 {
+    pub fn nodes(&self) -> Result<u64, OutOfMemory> {
         self.world.nodes()
     }
 

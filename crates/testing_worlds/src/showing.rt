@@ -81,10 +81,11 @@ pub fn world_text<L: Ledger>(
     steps: &mut Steps<L>,
 ) -> Result<String, OutOfMemory> {
     let mut text = state_text(alloc, bench)?;
-    let counts = format!(in alloc; "\nversion {} nodes {}\n", bench.version(), bench.nodes())?;
+    let nodes = bench.nodes()?;
+    let counts = format!(in alloc; "\nversion {} nodes {nodes}\n", bench.version())?;
     text.push_str(counts.as_str())?;
     text.push_str(history_text(alloc, bench)?.as_str())?;
-    if bench.nodes() <= NODES_SHOWN {
+    if nodes <= NODES_SHOWN {
         push_page(alloc, &mut text, bench, Face::Text, steps)?;
         push_page(alloc, &mut text, bench, Face::Html, steps)?;
     }
@@ -102,5 +103,5 @@ pub fn shows_each_node<L: Ledger>(
     for _ in page.text().trim_end().split('\n') {
         lines = lines.saturating_add(1);
     }
-    Ok(lines == bench.nodes().saturating_add(1))
+    Ok(lines == bench.nodes()?.saturating_add(1))
 }

@@ -6,7 +6,7 @@ use Rattle.task_model.specs.Showing.Widget.{stored}
 use Rattle.task_model.specs.Terms.Input.{EntryTerm}
 use Rattle.task_model.specs.Running.Outcome.{Outcome, IsOutcome, taken, not_offered, over_budget}
 use Rattle.world_core.specs.World.{WorldTerm}
-use Rattle.world_core.specs.TreeNodes.{tree_nodes}
+use Rattle.node_rows.specs.TreeNodes.{tree_nodes}
 use Rattle.input_lines.specs.Soak.{soak_next, soak_entry_of}
 use Rattle.tophat.specs.declared.soak.Tally.{Tally}
 use Rattle.tophat.specs.Session.{world_after}

@@ -56,10 +56,7 @@ impl<L: Ledger> Runner<L> {
         ensures { IfOk result (λ text. Answers (world_term self.old.world) (gives (entry_term entry)) text.list
             (world_term self.new.world)) }
     {
-        match self
-            .world
-            .handle(alloc, entry.seat, entry.input, &mut self.steps)
-        {
+        match self.world.handle(entry.seat, entry.input) {
             Ok(taken) => taken_text(alloc, taken),
             Err(ActStop::NotOffered) => row_of(alloc, b"not offered\n"),
             Err(ActStop::Over) => row_of(alloc, b"over budget\n"),

@@ -15,8 +15,7 @@ use input_lines::{soak_entry, soak_program};
 use itoa::Buffer;
 use literal_text::print_value;
 use std::alloc::Global;
-use std::sync::ledger::Ledger;
-use task_model::{ActStop, DEFAULT_BUDGET, Entry, OutOfMemory, Steps, TaskText};
+use task_model::{ActStop, DEFAULT_BUDGET, Entry, OutOfMemory, TaskText};
 use world_core::World;
 
 /// How many inputs were taken, refused, and over the budget.
@@ -29,13 +28,7 @@ pub(crate) struct Tally {
 
 impl Tally {
     // Gives an input to a world, and counts what became of it.
-    fn give<L: Ledger>(
-        &mut self,
-        alloc: Global,
-        world: &mut World,
-        entry: Entry,
-        steps: &mut Steps<L>,
-    ) -> Result<(), OutOfMemory>
+    fn give(&mut self, world: &mut World, entry: Entry) -> Result<(), OutOfMemory>
         requires seat { IsSeat entry.seat }
         requires rest { world.old.next ≡ None }
         requires room { all_inputs (tally_term self.old) < 2 ^ 32 - 1 }
@@ -43,7 +36,7 @@ impl Tally {
         ensures given { OnOk result (CountsInput (world_term world.old) (tally_term self.old) (entry_term entry) (world_term world.new)
             (tally_term self.new)) }
     {
-        match world.handle(alloc, entry.seat, entry.input, steps) {
+        match world.handle(entry.seat, entry.input) {
             Ok(_) => self.taken += 1,
             Err(ActStop::NotOffered) => self.refused += 1,
             Err(ActStop::Over) => self.over += 1,
@@ -54,45 +47,33 @@ impl Tally {
 }
 
 /// What becomes of so many inputs of the generator on its program, as a line (docs/FORMATS.md, "The soak generator").
-pub(crate) fn soaked_text<L: Ledger>(
-    alloc: Global,
-    count: u32,
-    seed: u64,
-    steps: &mut Steps<L>,
-) -> Result<TaskText, NoWorld>
+pub(crate) fn soaked_text(alloc: Global, count: u32, seed: u64) -> Result<TaskText, NoWorld>
     ensures text { TellsText (ReportsInputs count seed) result }
     ensures verdict_is { HasVerdictAfter result soak_text }
 {
     let source = soak_program(alloc)?;
-    match open_bytes(alloc, source.as_str().as_bytes(), DEFAULT_BUDGET, steps) {
-        Ok(world) => Ok(inputs_text(alloc, world, count, seed, steps)?),
+    match open_bytes(alloc, source.as_str().as_bytes(), DEFAULT_BUDGET) {
+        Ok(world) => Ok(inputs_text(alloc, world, count, seed)?),
         Err(why) => Err(why),
     }
 }
 
 // What becomes of so many inputs at a world, as a line.
-fn inputs_text<L: Ledger>(
+fn inputs_text(
     alloc: Global,
     mut world: World,
     count: u32,
     seed: u64,
-    steps: &mut Steps<L>,
 ) -> Result<TaskText, OutOfMemory>
     requires { world.next ≡ None }
     ensures { IfOk result (IsSummary count seed (world_term world)) }
 {
-    let tally = run_inputs(alloc, &mut world, count, seed, steps)?;
+    let tally = run_inputs(alloc, &mut world, count, seed)?;
     summary(alloc, count, tally, &world)
 }
 
 // Runs so many inputs of the generator, from a state of it on.
-fn run_inputs<L: Ledger>(
-    alloc: Global,
-    world: &mut World,
-    count: u32,
-    seed: u64,
-    steps: &mut Steps<L>,
-) -> Result<Tally, OutOfMemory>
+fn run_inputs(alloc: Global, world: &mut World, count: u32, seed: u64) -> Result<Tally, OutOfMemory>
     requires { world.old.next ≡ None }
     ensures rest { world.new.next ≡ None }
     ensures inputs { IfOk result (λ t. Soaks count seed (world_term world.old) no_inputs (world_term world.new) (tally_term t)) }
@@ -106,7 +87,7 @@ fn run_inputs<L: Ledger>(
     let mut left = count;
     while left > 0 {
         let (next, entry) = soak_entry(alloc, state)?;
-        tally.give(alloc, world, entry, steps)?;
+        tally.give(world, entry)?;
         state = next;
         left -= 1;
     }
@@ -123,7 +104,7 @@ fn summary(alloc: Global, count: u32, tally: Tally, world: &World) -> Result<Tas
     push_count(&mut text, " taken ", u64::from(tally.taken))?;
     push_count(&mut text, " refused ", u64::from(tally.refused))?;
     push_count(&mut text, " over ", u64::from(tally.over))?;
-    push_count(&mut text, " nodes ", world.nodes())?;
+    push_count(&mut text, " nodes ", world.nodes()?)?;
     push_place(alloc, &mut text, " a ", world, 0)?;
     push_place(alloc, &mut text, " b ", world, 1)?;
     text.push_str("\n")?;

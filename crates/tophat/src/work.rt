@@ -64,9 +64,7 @@ pub(crate) fn work<F: Files, I: Source, O: Sink, L: Ledger>(
             )
         }
         Ok(Command::Check { file }) => check_file(alloc, file, files, out),
-        Ok(Command::Soak { count, seed }) => {
-            soak(alloc, *count, *seed, out, Steps::<L>::new(blank))
-        }
+        Ok(Command::Soak { count, seed }) => soak(alloc, *count, *seed, out),
         Err(stop) => unasked(*stop),
     }
 }
@@ -146,7 +144,7 @@ fn run_bytes<I: Source, O: Sink, L: Ledger>(
     budget: u32,
     input: &mut I,
     out: &mut O,
-    mut steps: Steps<L>,
+    steps: Steps<L>,
 ) -> Result<Finish, NoWorld>
     requires { IsBudget budget }
     ensures ran { RunsBytes limits budget bytes.now (I.left input.old) (I.left input.new) (O.taken out.old) (O.taken out.new) result }
@@ -155,7 +153,7 @@ fn run_bytes<I: Source, O: Sink, L: Ledger>(
     ensures read_count { IfOk result (λ finish. I.faults input.new ≡ read_faults_after_run (I.faults input.old) finish) }
     ensures write_count { IfOk result (λ finish. O.faults out.new ≡ write_faults_after_run (O.faults out.old) finish) }
 {
-    match open_bytes(alloc, bytes, budget, &mut steps) {
+    match open_bytes(alloc, bytes, budget) {
         Ok(world) => {
             let mut runner = Runner::new(world, steps);
             Ok(drive(alloc, &mut runner, input, out, SCRIPT_BYTE_LIMIT))
@@ -200,13 +198,7 @@ fn checked_text(alloc: Global, bytes: &[u8]) -> Result<TaskText, NoWorld>
 }
 
 // Runs so many inputs of the generator on its program, and writes what became of them.
-fn soak<O: Sink, L: Ledger>(
-    alloc: Global,
-    count: u32,
-    seed: u64,
-    out: &mut O,
-    mut steps: Steps<L>,
-) -> Ending
+fn soak<O: Sink>(alloc: Global, count: u32, seed: u64, out: &mut O) -> Ending
     ensures worked { (holds : Option (Option Text)) (left : Option Text) → Worked limits (Some (soak count seed)) holds
         left left (O.taken out.old) (O.taken out.new) result }
     ensures ends { IsRunEnd result → ⊥ }
@@ -214,7 +206,7 @@ fn soak<O: Sink, L: Ledger>(
     ensures silent { IfSilent result (out.new ≡ out.old) }
     ensures output_count { O.faults out.new ≡ output_faults_after (O.faults out.old) result }
 {
-    match soaked_text(alloc, count, seed, &mut steps) {
+    match soaked_text(alloc, count, seed) {
         Ok(text) => write_text(out, &text),
         Err(why) => Ending::Unopened(why),
     }

@@ -25,7 +25,7 @@ use Rattle.task_laws.proofs.OutcomeLemmas.{lead_to_more}
 use Rattle.task_laws.proofs.HistoryLemmas.{version_length}
 use Rattle.typing_laws.specs.Assumed.{main_type}
 use Rattle.typing_laws.specs.Well.{MayAsk}
-use Rattle.typing_laws.proofs.HistoryLemmas.{main_fits, reached_kept}
+use Rattle.typing_laws.proofs.HistoryLemmas.{main_fits, opening_kept, reached_kept}
 use Rattle.html_pages.specs.Fragments.{face_text}
 use Rattle.world_core.specs.Pages.{IsWorldPage}
 use Rattle.world_core.specs.World.{WorldTerm, NextTerm, NextStands, MayFollow, IsStanding, with_item, LeadsOn}
@@ -102,12 +102,16 @@ module _ {X : Type 0} (view : X → State) (c : CheckedTerm) (budget : ℕ) (t :
       let wh = w.height in
       opening_spent (Err Over) a s o.0 o.1 o.2 (omega (arith, units, wu)) (omega (arith, height, wh))
 
+-- the opening fits
+pub opening_state_fits : (c : CheckedTerm) (budget : ℕ) (s : State) → IsAccepted c → IsOpening c budget s → Fits c s
+opening_state_fits c budget s accepted o = let k = opening_kept c accepted budget s o in (k.0, main_type c.program, k.2)
+
 -- ---- what a standing world shows
 -- the types of an accepted program are those that it gives
-typed_alone : (c : CheckedTerm) → IsAccepted c → c ≡ typed_program c.program
+pub typed_alone : (c : CheckedTerm) → IsAccepted c → c ≡ typed_program c.program
 typed_alone c a = ap (λ types. record { program = c.program; types = types }) a.types
 
-standing_typed : (w : WorldTerm) (s : IsStanding w) → IsAccepted (typed_program w.checked.program)
+pub standing_typed : (w : WorldTerm) (s : IsStanding w) → IsAccepted (typed_program w.checked.program)
     × IsReached (typed_program w.checked.program) w.budget s.entries w.state
 standing_typed w s =
     let e = typed_alone w.checked s.accepted in
@@ -131,8 +135,16 @@ leads_on w (Some n) s d =
 pub standing_leads : (w : WorldTerm) → IsStanding w → LeadsOn w w.next
 standing_leads w s = leads_on w w.next s s.follows
 
+-- its widgets are those of its history
+pub standing_widgets : (w : WorldTerm) → IsStanding w → (ws : List WidgetTerm) → AreWidgets w.checked w.budget w.state.tree w.state.store ws
+    → HasWidgets w.history ws
+standing_widgets w s ws shown =
+    let typed = standing_typed w s in
+    subst (λ h. HasWidgets h ws) (sym s.begins)
+    (w.state, typed.0, typed.1, subst (λ c. AreWidgets c w.budget w.state.tree w.state.store ws) (typed_alone w.checked s.accepted) shown)
+
 -- a page of either face
-faced : (face : Face) (h : List ItemTerm) (seat : ℕ) (text : Text) (ws : List WidgetTerm) → HasWidgets h ws
+pub faced : (face : Face) (h : List ItemTerm) (seat : ℕ) (text : Text) (ws : List WidgetTerm) → HasWidgets h ws
     → text ≡ face_text face (version_of h) seat ws → IsPage face h seat text
 faced faces.Text h seat text ws shown told = (ws, shown, told)
 faced faces.Html h seat text ws shown told = (ws, shown, told)

@@ -1,11 +1,12 @@
 -- How a world's fields hold what contracts see of it.
-use Rattle.std.specs.Prelude.{◌≡◌, ℕ, ◌<◌, List, [], ◌∷◌, Option, None, Some}
+use Rattle.std.specs.Prelude.{◌≡◌, ℕ, ◌<◌, Bool, false, List, [], ◌∷◌, map, Option, None, Some, is_some}
 use Rattle.task_model.specs.Terms.Rowed.{Rowed}
-use Rattle.task_model.specs.Running.Checked.{SeenChecked}
+use Rattle.task_model.specs.Terms.Value.{value_term}
+use Rattle.task_model.specs.Running.Checked.{SeenChecked, CheckedTerm, checked_term}
 use Rattle.task_model.specs.declared.value.Value.{Value}
-use Rattle.task_model.specs.declared.tree.Tree.{Tree}
 use Rattle.task_model.specs.declared.item.Item.{Item}
 use Rattle.shared_store.specs.Layered.{Layered}
+use Rattle.live_tree.specs.Live.{SeenLive, IsLive}
 use Rattle.world_core.specs.World.{SeenNext, SeenWorld, world_term, IsStanding}
 use Rattle.world_core.specs.declared.prepared.Prepared.{Prepared}
 
@@ -22,16 +23,23 @@ present_values (Some p) s = newest_layer s.layers
 -- what is prepared, over the values that it leads to
 abbrev pub seen_next : Option Prepared → List Value → Option SeenNext
 seen_next None σ = None
-seen_next (Some p) σ = Some (record { item = p.item; tree = p.tree; store = σ })
+seen_next (Some p) σ = Some (record { item = p.item; tree = p.live.tree; store = σ })
 
-abbrev pub seen_world : SeenChecked → ℕ → List Item → Tree → Layered Value → Option Prepared → SeenWorld
-seen_world c budget history tree store next = record {
+-- whether the table of what is prepared was made
+abbrev pub next_made : Option Prepared → Bool
+next_made None = false
+next_made (Some p) = is_some p.live.rows
+
+abbrev pub seen_world : SeenChecked → ℕ → List Item → SeenLive → Layered Value → Option Prepared → SeenWorld
+seen_world c budget history live store next = record {
   checked = c;
   budget = budget;
   history = history;
-  tree = tree;
+  tree = live.tree;
   store = present_values next store;
   next = seen_next next store.list;
+  drawn = is_some live.rows;
+  next_drawn = next_made next;
 }
 
 -- one layer stands exactly while an entry is prepared, for which the history has room
@@ -39,8 +47,15 @@ abbrev pub HasRoom : Option Prepared → Rowed Item → Layered Value → Type 0
 HasRoom None history store = store.layers ≡ []
 HasRoom (Some p) history store = (0 < history.spare) × (store.layers ≡ newest_layer store.layers ∷ [])
 
--- what every world keeps
-pub record IsKept (c : SeenChecked) (budget : ℕ) (history : Rowed Item) (tree : Tree) (store : Layered Value) (next : Option Prepared)
-    : Type 0 where
-  pub standing : IsStanding (world_term (seen_world c budget history.list tree store next))
+-- the rows of what is prepared, if anything is, are those of its tree over the values that it leads to
+abbrev pub NextIsLive : CheckedTerm → ℕ → Option Prepared → List Value → Type 0
+NextIsLive c budget None σ = Unit {0}
+NextIsLive c budget (Some p) σ = IsLive c budget (map value_term σ) p.live
+
+-- what the fields of every world keep: the rows are those of the present state
+pub record FieldsAgree (c : SeenChecked) (budget : ℕ) (history : Rowed Item) (live : SeenLive) (store : Layered Value)
+    (next : Option Prepared) : Type 0 where
+  pub standing : IsStanding (world_term (seen_world c budget history.list live store next))
   pub room : HasRoom next history store
+  pub rows : IsLive (checked_term c) budget (map value_term (present_values next store)) live
+  pub next_rows : NextIsLive (checked_term c) budget next store.list

@@ -1,4 +1,3 @@
-pub mod TreeNodes
 pub mod World
 pub mod Inside
 pub mod Replying

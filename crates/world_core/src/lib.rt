@@ -3,10 +3,8 @@
 #![tactic(auto)]
 
 mod answers;
-mod counted;
-mod leading;
+mod drawing;
 mod opening;
-mod page;
 mod prepared;
 mod running;
 mod world;

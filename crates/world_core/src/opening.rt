@@ -6,15 +6,16 @@ ghost use Rattle.task_model.specs.Terms.Item.{opened, history_term};
 ghost use Rattle.task_model.specs.Running.Checked.{checked_term};
 ghost use Rattle.task_model.specs.Terms.Program.{main_name};
 ghost use Rattle.task_model.specs.Running.State.{IsOpening};
+ghost use Rattle.live_tree.specs.Live.{IsLive};
 
 use crate::answers::OpenStop;
-use crate::counted::CountedTree;
 use host_eval::Names;
+use live_tree::LiveTree;
 use program_copies::copy_program;
 use shared_store::Store;
 use std::alloc::Global;
 use task_engine::{Engine, normalise};
-use task_model::{Checked, Item, OutOfMemory, Purse, Row, Stop, Task, TaskText, Tree, Value};
+use task_model::{Checked, Item, OutOfMemory, Purse, Row, Stop, Task, TaskText, Value};
 
 /// The history at the opening.
 pub(crate) fn opened_history(
@@ -35,15 +36,16 @@ pub(crate) fn opened_tree(
     engine: &Engine,
     budget: u32,
     store: &mut Store<Value>,
-) -> Result<CountedTree, OpenStop>
+) -> Result<LiveTree, OpenStop>
     requires { store.old.list ≡ [] }
     ensures layers { store.new.layers ≡ store.old.layers }
-    ensures ok { IfOk result (λ t. IsOpening (checked_term engine.now) budget (at (tree_term t) (map value_term store.new.list))) }
+    ensures ok { IfOk result (λ live. IsOpening (checked_term engine.now) budget
+        (at (tree_term live.tree) (map value_term store.new.list))) }
+    ensures rows { IfOk result (λ live. IsLive (checked_term engine.now) budget (map value_term store.new.list) live) }
     ensures over { IfErr result (λ stop. stop ≡ OpenStop.Over → (s : State) → IsOpening (checked_term engine.now) budget s → ⊥) }
 {
     let call = call_of_main(engine.alloc())?;
-    let tree = evaluated(engine, &call, budget, store)?;
-    Ok(CountedTree::of(tree)?)
+    evaluated(engine, &call, budget, store)
 }
 
 fn call_of_main(alloc: Global) -> Result<Task, OutOfMemory>
@@ -61,18 +63,20 @@ fn evaluated(
     call: &Task,
     budget: u32,
     store: &mut Store<Value>,
-) -> Result<Tree, OpenStop>
+) -> Result<LiveTree, OpenStop>
     requires empty { store.old.list ≡ [] }
     requires main { task_term call.now ≡ call_task main_name [] }
     ensures layers { store.new.layers ≡ store.old.layers }
-    ensures ok { IfOk result (λ t. IsOpening (checked_term engine.now) budget (at (tree_term t) (map value_term store.new.list))) }
+    ensures ok { IfOk result (λ live. IsOpening (checked_term engine.now) budget
+        (at (tree_term live.tree) (map value_term store.new.list))) }
+    ensures rows { IfOk result (λ live. IsLive (checked_term engine.now) budget (map value_term store.new.list) live) }
     ensures over { IfErr result (λ stop. stop ≡ OpenStop.Over → (s : State) → IsOpening (checked_term engine.now) budget s → ⊥) }
 {
     // The program of an engine is accepted.
     let _accepted = engine.checked().program();
     let names = Names::of_params(&[], &[], 0);
     match normalise(engine, call, &names, store, &mut Purse::new(budget)) {
-        Ok(tree) => Ok(tree),
+        Ok(tree) => Ok(LiveTree::of(tree)),
         Err(Stop::Over) => Err(OpenStop::Over),
         Err(Stop::Memory) => Err(OpenStop::Memory),
     }

@@ -8,18 +8,12 @@ ghost use Rattle.world_core.specs.Replying.{Runs, reply_answer};
 use crate::answers::{Reply, RunStop, Taken};
 use crate::world::World;
 use std::alloc::Global;
-use std::sync::ledger::Ledger;
-use task_model::{ActStop, Entry, OutOfMemory, Row, Steps, copy_input};
+use task_model::{ActStop, Entry, OutOfMemory, Row, copy_input};
 
 impl World {
     /// Takes entries in order, each at the world that the ones before it led to, where nothing is prepared. Where memory runs out, the
     /// entries in front were handled and have their replies, and the others weren't handled.
-    pub fn run<L: Ledger>(
-        &mut self,
-        alloc: Global,
-        entries: &[Entry],
-        steps: &mut Steps<L>,
-    ) -> Result<Row<Reply>, RunStop>
+    pub fn run(&mut self, alloc: Global, entries: &[Entry]) -> Result<Row<Reply>, RunStop>
         requires rest { self.old.next ≡ None }
         requires seats { All (λ e. IsSeat e.seat) entries.now }
         ensures { Runs (world_term self.old) (map entry_term entries.now) (world_term self.new) result }
@@ -29,7 +23,7 @@ impl World {
             if done.reserve(1).is_err() {
                 return Err(RunStop { done });
             }
-            match self.reply(alloc, entry, steps) {
+            match self.reply(alloc, entry) {
                 Ok(reply) => push_reply(&mut done, reply),
                 Err(OutOfMemory) => return Err(RunStop { done }),
             }
@@ -38,12 +32,7 @@ impl World {
     }
 
     // The reply to an entry.
-    fn reply<L: Ledger>(
-        &mut self,
-        alloc: Global,
-        entry: &Entry,
-        steps: &mut Steps<L>,
-    ) -> Result<Reply, OutOfMemory>
+    fn reply(&mut self, alloc: Global, entry: &Entry) -> Result<Reply, OutOfMemory>
         requires rest { self.old.next ≡ None }
         requires seat { IsSeat entry.now.seat }
         ensures rest { self.new.next ≡ None }
@@ -51,7 +40,7 @@ impl World {
         ensures refused { OnErr result (world_term self.new ≡ world_term self.old) }
     {
         let input = copy_input(alloc, &entry.input)?;
-        match self.handle(alloc, entry.seat, input, steps) {
+        match self.handle(entry.seat, input) {
             Ok(Taken { version }) => Ok(Reply::Taken(version)),
             Err(ActStop::NotOffered) => Ok(Reply::NotOffered),
             Err(ActStop::Over) => Ok(Reply::Over),

@@ -1,21 +1,22 @@
-ghost use Rattle.std.specs.Prelude.{◌≡◌, [], ◌∷◌, IfErr, IfOk, IsSome, None, slice_get};
+ghost use Rattle.std.specs.Prelude.{◌≡◌, ◌+◌, ◌*◌, ◌≤◌, ℕ, [], ◌∷◌, IfErr, IfOk, IsSome, None, OnOk, Some, slice_get, true};
 ghost use Rattle.std.specs.Option.{option_map};
 ghost use Rattle.task_model.specs.Terms.Tree.{tree_term, State};
 ghost use Rattle.task_model.specs.Terms.Input.{input_term};
 ghost use Rattle.task_model.specs.Terms.Item.{opened, history_term};
 ghost use Rattle.task_model.specs.Running.Checked.{checked_term};
 ghost use Rattle.task_model.specs.Running.State.{IsOpening, IsState, IsLegal, IsPage, IsSeat, IsBudget, version_of};
-ghost use Rattle.world_core.specs.Pages.{IsWorldPage};
-ghost use Rattle.world_core.specs.TreeNodes.{tree_nodes};
-ghost use Rattle.world_core.specs.World.{world_term, IsStanding, LeadsOn, Prepares, Commits, Replies, at_rest};
+ghost use Rattle.kept_nodes.specs.Kept.{IsRedrawn};
+ghost use Rattle.node_rows.specs.TreeNodes.{tree_nodes};
+ghost use Rattle.live_tree.specs.Live.{most_steps};
+ghost use Rattle.world_core.specs.Pages.{AreFragments, AreNextFragments, IsNextVersion, IsWorldPage, next_most_steps};
+ghost use Rattle.world_core.specs.World.{NextTerm, world_term, drawn_as, IsStanding, LeadsOn, Prepares, Commits, Replies, at_rest};
 
 use crate::answers::{OpenStop, Taken};
-use crate::counted::CountedTree;
-use crate::leading::lead;
+use crate::drawing::{Framing, drawn_fragments, drawn_page, next_drawn_fragments};
 use crate::opening::{opened_history, opened_tree};
-use crate::page::draw_page;
 use crate::prepared::Prepared;
-use html_pages::Page;
+use html_pages::{Fragments, Page};
+use live_tree::LiveTree;
 use shared_store::Store;
 use std::alloc::Global;
 use std::marker::Model;
@@ -32,7 +33,7 @@ pub struct World {
     engine: Engine,
     budget: u32,
     history: Row<Item>,
-    tree: CountedTree,
+    live: LiveTree,
     store: Store<Value>,
     next: Option<Prepared>,
 }
@@ -45,7 +46,7 @@ impl Model for World {
     ghost use Rattle.task_model.specs.contracts.tree.Tree as trees;
     ghost use Rattle.task_model.specs.contracts.value.Value as values;
     ghost use Rattle.world_core.specs.World.{SeenWorld};
-    ghost use Rattle.world_core.specs.Inside.{IsKept, seen_world};
+    ghost use Rattle.world_core.specs.Inside.{FieldsAgree, seen_world};
 
     ghost Value = { SeenWorld };
 
@@ -58,20 +59,15 @@ impl Model for World {
       values.the_row.coded,
     ) };
 
-    ghost view = { λ w. seen_world w.engine w.budget w.history.list w.tree w.store w.next };
+    ghost view = { λ w. seen_world w.engine w.budget w.history.list w.live w.store w.next };
 
-    ghost invariant = { λ w. IsKept w.engine w.budget w.history w.tree w.store w.next };
+    ghost invariant = { λ w. FieldsAgree w.engine w.budget w.history w.live w.store w.next };
 }
 
 impl World {
     /// Opens a program: `main()` is evaluated and settled within the budget, 1 to 1,000,000 units. The history is that one item, and
-    /// nothing is prepared.
-    pub fn open<L: Ledger>(
-        alloc: Global,
-        c: Checked,
-        budget: u32,
-        _steps: &mut Steps<L>,
-    ) -> Result<World, OpenStop>
+    /// nothing is prepared. Nothing is tested for offers, and nothing drawn.
+    pub fn open(alloc: Global, c: Checked, budget: u32) -> Result<World, OpenStop>
         requires { IsBudget budget }
         ensures program { IfOk result (λ w. checked_term w.checked ≡ checked_term c) }
         ensures budget { IfOk result (λ w. w.budget ≡ budget) }
@@ -85,40 +81,32 @@ impl World {
         let history = opened_history(alloc, &c, budget)?;
         let engine = Engine::new(alloc, c)?;
         let mut store = Store::new(alloc);
-        let tree = opened_tree(&engine, budget, &mut store)?;
+        let live = opened_tree(&engine, budget, &mut store)?;
         Ok(World {
             engine,
             budget,
             history,
-            tree,
+            live,
             store,
             next: None,
         })
     }
 
     /// Prepares an input of a seat, 1 to 64, where nothing is prepared: the entry, and the state that it leads to, if the tree offers
-    /// it and the budget holds. All that can be refused is refused here. A refusal changes nothing.
-    pub fn prepare<L: Ledger>(
-        &mut self,
-        _alloc: Global,
-        seat: u8,
-        input: Input,
-        _steps: &mut Steps<L>,
-    ) -> Result<(), ActStop>
+    /// it and the budget holds. All that can be refused is refused here. A refusal changes nothing. Nothing is tested for offers, and nothing
+    /// drawn.
+    pub fn prepare(&mut self, seat: u8, input: Input) -> Result<(), ActStop>
         requires seat { IsSeat seat }
         requires rest { self.old.next ≡ None }
-        ensures { Prepares (world_term self.old) (record { seat = seat; input = input_term input }) (world_term self.new) result }
+        ensures prepares { Prepares (world_term self.old) (record { seat = seat; input = input_term input }) (world_term self.new) result }
+        ensures made { self.new.drawn ≡ self.old.drawn }
     {
         self.history.reserve(1)?;
-        let tree = lead(
-            &self.engine,
-            self.tree.tree(),
-            &mut self.store,
-            &input,
-            self.budget,
-        )?;
+        let live = self
+            .live
+            .apply(&self.engine, &mut self.store, &input, self.budget)?;
         let item = Item::Took(Entry { seat, input });
-        self.next = Some(Prepared { item, tree });
+        self.next = Some(Prepared { item, live });
         Ok(())
     }
 
@@ -136,13 +124,14 @@ impl World {
     /// What is prepared is taken. It takes no memory.
     pub fn commit(&mut self) -> Taken
         requires { IsSome self.old.next }
-        ensures { Commits (world_term self.old) (world_term self.new) result }
+        ensures commits { Commits (world_term self.old) (world_term self.new) result }
+        ensures made { self.new.drawn ≡ self.old.next_drawn }
     {
         match self.next.take() {
             None => unreachable!(),
-            Some(Prepared { item, tree }) => {
+            Some(Prepared { item, live }) => {
                 self.store.keep();
-                self.tree = tree;
+                self.live = live;
                 match self.history.push(item) {
                     Ok(()) => {}
                     Err(_) => unreachable!(),
@@ -155,7 +144,8 @@ impl World {
 
     /// What is prepared is given up, if anything is. It takes no memory.
     pub fn abandon(&mut self)
-        ensures { world_term self.new ≡ at_rest (world_term self.old) }
+        ensures rest { world_term self.new ≡ at_rest (world_term self.old) }
+        ensures made { self.new.drawn ≡ self.old.drawn }
     {
         if self.next.take().is_some() {
             self.store.drop_layer();
@@ -163,20 +153,14 @@ impl World {
     }
 
     /// Takes an input of a seat, 1 to 64, where nothing is prepared, if the tree offers it and the budget holds. A refusal changes
-    /// nothing.
-    pub fn handle<L: Ledger>(
-        &mut self,
-        alloc: Global,
-        seat: u8,
-        input: Input,
-        steps: &mut Steps<L>,
-    ) -> Result<Taken, ActStop>
+    /// nothing. Nothing is tested for offers, and nothing drawn.
+    pub fn handle(&mut self, seat: u8, input: Input) -> Result<Taken, ActStop>
         requires seat { IsSeat seat }
         requires rest { self.old.next ≡ None }
         ensures replies { Replies (world_term self.old) (record { seat = seat; input = input_term input }) (world_term self.new) result }
         ensures rest { self.new.next ≡ None }
     {
-        self.prepare(alloc, seat, input, steps)?;
+        self.prepare(seat, input)?;
         Ok(self.commit())
     }
 
@@ -215,14 +199,14 @@ impl World {
     pub fn tree(&self) -> &Tree
         ensures { result.now ≡ self.now.tree }
     {
-        self.tree.tree()
+        self.live.tree()
     }
 
-    /// The number of the tree's nodes.
-    pub fn nodes(&self) -> u64
-        ensures { result ≡ tree_nodes (tree_term self.now.tree) }
+    /// The number of the tree's nodes, by one walk. A number that no 64 bits hold is want of memory.
+    pub fn nodes(&self) -> Result<u64, OutOfMemory>
+        ensures { IfOk result (λ n. n ≡ tree_nodes (tree_term self.now.tree)) }
     {
-        self.tree.nodes()
+        self.live.nodes()
     }
 
     /// What the store holds at a place, where nothing is prepared.
@@ -236,8 +220,73 @@ impl World {
         }
     }
 
+    /// What is drawn of the present state, where nothing is prepared. It is made where it is first asked for, by at most two tests and one
+    /// drawing for each node, which are counted, and kept. The world stays, but that its state was drawn.
+    pub fn fragments<L: Ledger>(
+        &mut self,
+        alloc: Global,
+        steps: &mut Steps<L>,
+    ) -> Result<Fragments, OutOfMemory>
+        requires rest { self.old.next ≡ None }
+        ensures world { self.new ≡ drawn_as self.new.drawn self.old.next_drawn self.old }
+        ensures made { OnOk result (self.new.drawn ≡ true) }
+        ensures fragments { IfOk result (AreFragments (history_term self.old.history)) }
+        ensures steps { OnOk result (steps.new ≤ steps.old + most_steps self.old.drawn (tree_term self.old.tree)) }
+    {
+        drawn_fragments(
+            alloc,
+            &self.engine,
+            &mut self.live,
+            &mut self.store,
+            self.budget,
+            steps,
+        )
+    }
+
+    /// What is drawn of the prepared state, as for the present one. Where that was drawn the rows of kept nodes are taken over, and no more
+    /// than the other nodes are tested and drawn. A commit keeps it.
+    pub fn next_fragments<L: Ledger>(
+        &mut self,
+        alloc: Global,
+        steps: &mut Steps<L>,
+    ) -> Result<Fragments, OutOfMemory>
+        requires prepared { IsSome self.old.next }
+        ensures world { self.new ≡ drawn_as self.old.drawn self.new.next_drawn self.old }
+        ensures made { OnOk result (self.new.next_drawn ≡ true) }
+        ensures fragments { IfOk result (AreNextFragments (world_term self.old).history (world_term self.old).next) }
+        ensures steps { OnOk result (steps.new ≤ steps.old + next_most_steps self.old.next_drawn (world_term self.old).next) }
+        ensures few { OnOk result (self.old.drawn ≡ true → (n : NextTerm) → (world_term self.old).next ≡ Some n → (m : ℕ)
+            → IsRedrawn (world_term self.old).state n.state m → steps.new ≤ steps.old + 3 * m) }
+    {
+        match self.next.take() {
+            None => unreachable!(),
+            Some(prepared) => {
+                let Prepared { item, mut live } = prepared;
+                let fragments = next_drawn_fragments(
+                    alloc,
+                    &self.engine,
+                    &self.live,
+                    &mut live,
+                    &mut self.store,
+                    self.budget,
+                    steps,
+                );
+                self.next = Some(Prepared { item, live });
+                fragments
+            }
+        }
+    }
+
+    /// The number of inputs taken, once what is prepared is committed.
+    pub fn next_version(&self) -> u64
+        requires prepared { IsSome self.now.next }
+        ensures { IsNextVersion (world_term self.now).history (world_term self.now).next result }
+    {
+        self.history.as_slice().len() as u64
+    }
+
     /// The page of the present state for a seat, 1 to 64, in one of the faces, where nothing is prepared (docs/FORMATS.md, "Pages" and
-    /// "HTML pages"). It counts the tests of offers and the drawings; the world stays.
+    /// "HTML pages"). It frames what is drawn of that state, as `fragments` makes and keeps it.
     pub fn page<L: Ledger>(
         &mut self,
         alloc: Global,
@@ -247,21 +296,27 @@ impl World {
     ) -> Result<Page, OutOfMemory>
         requires seat { IsSeat seat }
         requires rest { self.old.next ≡ None }
-        ensures world { self.new ≡ self.old }
+        ensures world { self.new ≡ drawn_as self.new.drawn self.old.next_drawn self.old }
+        ensures made { OnOk result (self.new.drawn ≡ true) }
         ensures version { IfOk result (λ page. page.version ≡ version_of (history_term self.old.history)) }
         ensures page { IfOk result (λ page. IsWorldPage face (world_term self.old) seat page.text) }
         ensures legal { IfOk result (λ page. IsPage face (history_term self.old.history) seat page.text) }
+        ensures steps { OnOk result (steps.new ≤ steps.old + most_steps self.old.drawn (tree_term self.old.tree)) }
     {
-        let version = self.version();
-        draw_page(
+        // The history is legal.
+        let _legal = self.history();
+        let framing = Framing {
+            face,
+            version: self.version(),
+            seat,
+        };
+        drawn_page(
             alloc,
             &self.engine,
-            self.tree.tree(),
+            &mut self.live,
             &mut self.store,
             self.budget,
-            face,
-            version,
-            seat,
+            framing,
             steps,
         )
     }

@@ -32,8 +32,8 @@ impl BlockTest for Kind {
         match self {
             Kind::Events => events::differences(alloc, block, steps),
             Kind::Offers => offering::differences(alloc, block, steps),
-            Kind::Sets => setting::differences(alloc, block, steps),
-            Kind::Wants => wants::differences(alloc, block, steps),
+            Kind::Sets => setting::differences(alloc, block),
+            Kind::Wants => wants::differences(alloc, block),
         }
     }
 }

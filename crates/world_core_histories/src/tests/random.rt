@@ -62,15 +62,10 @@ fn page_text<L: Ledger>(
 }
 
 // The reply to a line.
-fn replied<L: Ledger>(
-    alloc: Global,
-    bench: &mut WorldBench,
-    line: &str,
-    steps: &mut Steps<L>,
-) -> Result<Reply, OutOfMemory> {
+fn replied(alloc: Global, bench: &mut WorldBench, line: &str) -> Result<Reply, OutOfMemory> {
     let script = Script::of(alloc, line)?;
     match script.first() {
-        Some(entry) => bench.handle(alloc, entry, Way::Whole, steps),
+        Some(entry) => bench.handle(alloc, entry, Way::Whole),
         None => Err(OutOfMemory),
     }
 }
@@ -87,8 +82,8 @@ fn give_until_taken<L: Ledger>(
     let page = page_text(alloc, bench, steps)?;
     let state = state_text(alloc, bench)?;
     for number in 0..most {
-        let line = drawn(alloc, draws, page.as_str(), bench.nodes())?;
-        match replied(alloc, bench, line.as_str(), steps)? {
+        let line = drawn(alloc, draws, page.as_str(), bench.nodes()?)?;
+        match replied(alloc, bench, line.as_str())? {
             Reply::Taken(_) => {
                 tally.taken = tally.taken.saturating_add(1);
                 return Ok(number.saturating_add(1));
@@ -146,7 +141,7 @@ fn again<L: Ledger>(
 ) -> Result<String, OutOfMemory> {
     let (_, lines) = history.split_once('\n').unwrap_or((history, ""));
     let script = Script::of(alloc, lines)?;
-    let replies = bench.run(alloc, script.entries(), steps)?;
+    let replies = bench.run(alloc, script.entries())?;
     if !are_all_taken(replies.as_slice()) {
         return Ok(String::from_str(alloc, "not all taken")?);
     }
@@ -165,11 +160,11 @@ impl BlockTest for Histories {
     ) -> Result<String, OutOfMemory> {
         let (budget, source) = block.split_once('@').unwrap_or((block, ""));
         let budget = budget.parse::<u32>().unwrap_or(0);
-        let mut bench = WorldBench::opened(alloc, source, budget, steps)?;
+        let mut bench = WorldBench::opened(alloc, source, budget)?;
         let tally = give_all(alloc, &mut bench, steps)?;
         let history = history_text(alloc, &bench)?;
         let told = world_text(alloc, &mut bench, steps)?;
-        let mut fresh = WorldBench::opened(alloc, source, budget, steps)?;
+        let mut fresh = WorldBench::opened(alloc, source, budget)?;
         let again = again(alloc, &mut fresh, history.as_str(), steps)?;
         if tally.is_right(budget) && told.as_str() == again.as_str() {
             return Ok(String::new(alloc));

@@ -21,7 +21,7 @@ fn leaves_all<L: Ledger>(
     requires { IsSeat entry.now.seat }
 {
     let before = world_text(alloc, bench, steps)?;
-    let prepared = bench.abandoned(alloc, entry, steps)?;
+    let prepared = bench.abandoned(alloc, entry)?;
     let after = world_text(alloc, bench, steps)?;
     let line = print_entry(alloc, entry)?;
     let is_shown = prepared.as_str().is_empty() || prepared.as_str() == line.as_str();
@@ -90,7 +90,7 @@ fn given<L: Ledger>(
     let before = world_text(alloc, bench, steps)?;
     let earlier = history_text(alloc, bench)?;
     let version = bench.version();
-    let reply = bench.handle(alloc, entry, way, steps)?;
+    let reply = bench.handle(alloc, entry, way)?;
     let rest = match reply {
         Reply::Taken(now) => { taken_text(alloc, bench, entry, earlier.as_str(), (version, now))? }
         _ => refused_text(alloc, bench, before.as_str(), steps)?,
@@ -159,13 +159,9 @@ pub(super) struct Case<'c> {
 
 impl Case<'_> {
     // Gives the other lines, in one run.
-    fn lead<L: Ledger>(
-        &self,
-        bench: &mut WorldBench,
-        steps: &mut Steps<L>,
-    ) -> Result<(), OutOfMemory> {
+    fn lead(&self, bench: &mut WorldBench) -> Result<(), OutOfMemory> {
         let above = Script::of(self.alloc, self.lines)?;
-        bench.run(self.alloc, above.entries(), steps)?;
+        bench.run(self.alloc, above.entries())?;
         Ok(())
     }
 
@@ -176,7 +172,7 @@ impl Case<'_> {
         way: Way,
         steps: &mut Steps<L>,
     ) -> Result<String, OutOfMemory> {
-        self.lead(bench, steps)?;
+        self.lead(bench)?;
         line_told(self.alloc, bench, self.line, way, steps)
     }
 
@@ -187,7 +183,7 @@ impl Case<'_> {
         way: Way,
         steps: &mut Steps<L>,
     ) -> Result<String, OpenStop> {
-        let mut bench = WorldBench::open(self.alloc, self.source, budget, steps)?;
+        let mut bench = WorldBench::open(self.alloc, self.source, budget)?;
         Ok(self.told_at(&mut bench, way, steps)?)
     }
 

@@ -2,8 +2,7 @@
 ghost use Rattle.task_model.specs.Running.State.{IsSeat};
 
 use std::alloc::Global;
-use std::sync::ledger::Ledger;
-use task_model::{Entry, OutOfMemory, Steps};
+use task_model::{Entry, OutOfMemory};
 use testing_worlds::{Script, Way, WorldBench};
 use world_core::Reply;
 
@@ -35,15 +34,14 @@ y..........@task main() : unit = new r = () in share r
 ......y...y@task main() : [[int]] = new r = nil [int] in share r"#;
 
 // The mark of an entry at a world.
-fn reply_mark<L: Ledger>(
+fn reply_mark(
     alloc: Global,
     bench: &mut WorldBench,
     entry: &Entry,
-    steps: &mut Steps<L>,
 ) -> Result<&'static str, OutOfMemory>
     requires { IsSeat entry.now.seat }
 {
-    match bench.handle(alloc, entry, Way::Whole, steps)? {
+    match bench.handle(alloc, entry, Way::Whole)? {
         Reply::Taken(_) => Ok("y"),
         Reply::NotOffered => Ok("."),
         Reply::Over => Ok("?"),
@@ -51,58 +49,39 @@ fn reply_mark<L: Ledger>(
 }
 
 // The mark of an entry at a program.
-fn entry_mark<L: Ledger>(
-    alloc: Global,
-    source: &str,
-    entry: &Entry,
-    steps: &mut Steps<L>,
-) -> Result<&'static str, OutOfMemory>
+fn entry_mark(alloc: Global, source: &str, entry: &Entry) -> Result<&'static str, OutOfMemory>
     requires { IsSeat entry.now.seat }
 {
-    let mut bench = WorldBench::opened(alloc, source, 10_000, steps)?;
-    reply_mark(alloc, &mut bench, entry, steps)
+    let mut bench = WorldBench::opened(alloc, source, 10_000)?;
+    reply_mark(alloc, &mut bench, entry)
 }
 
 // The mark of a value at a program.
-fn mark<L: Ledger>(
-    alloc: Global,
-    source: &str,
-    literal: &str,
-    steps: &mut Steps<L>,
-) -> Result<&'static str, OutOfMemory> {
+fn mark(alloc: Global, source: &str, literal: &str) -> Result<&'static str, OutOfMemory> {
     let line = format!(in alloc; "1 . set {literal}")?;
     let script = Script::of(alloc, line.as_str())?;
     match script.first() {
-        Some(entry) => entry_mark(alloc, source, entry, steps),
+        Some(entry) => entry_mark(alloc, source, entry),
         None => Err(OutOfMemory),
     }
 }
 
 // The marks of values at a program.
-fn marks<L: Ledger>(
-    alloc: Global,
-    source: &str,
-    literals: &str,
-    steps: &mut Steps<L>,
-) -> Result<String, OutOfMemory> {
+fn marks(alloc: Global, source: &str, literals: &str) -> Result<String, OutOfMemory> {
     let mut text = String::new(alloc);
     for literal in literals.split('@') {
-        text.push_str(mark(alloc, source, literal, steps)?)?;
+        text.push_str(mark(alloc, source, literal)?)?;
     }
     Ok(text)
 }
 
 /// What differs from the marks of a table.
-pub(super) fn differences<L: Ledger>(
-    alloc: Global,
-    table: &str,
-    steps: &mut Steps<L>,
-) -> Result<String, OutOfMemory> {
+pub(super) fn differences(alloc: Global, table: &str) -> Result<String, OutOfMemory> {
     let mut all = String::new(alloc);
     let (literals, rows) = table.split_once('\n').unwrap_or((table, ""));
     for row in rows.split('\n') {
         let (wanted, source) = row.split_once('@').unwrap_or((row, ""));
-        let told = marks(alloc, source, literals, steps)?;
+        let told = marks(alloc, source, literals)?;
         if told.as_str() != wanted {
             all.push_str(format!(in alloc; "{told}@{source}\n")?.as_str())?;
         }

@@ -2,8 +2,7 @@
 ghost use Rattle.task_model.specs.Running.State.{IsSeat};
 
 use std::alloc::Global;
-use std::sync::ledger::Ledger;
-use task_model::{Entry, OutOfMemory, Steps};
+use task_model::{Entry, OutOfMemory};
 use testing_worlds::{Script, Way, WorldBench, history_text, reply_text, state_text};
 use world_core::Reply;
 
@@ -42,12 +41,11 @@ fn is_so(
 }
 
 // Whether an event for which memory ran out left all as it was, and its entry comes to what is written afterwards.
-fn is_right_again<L: Ledger>(
+fn is_right_again(
     alloc: Global,
     bench: &mut WorldBench,
     entry: &Entry,
     texts: (&str, &str),
-    steps: &mut Steps<L>,
 ) -> Result<bool, OutOfMemory>
     requires { IsSeat entry.now.seat }
 {
@@ -55,62 +53,45 @@ fn is_right_again<L: Ledger>(
     if kept_text(alloc, bench)?.as_str() != before {
         return Ok(false);
     }
-    let reply = bench.handle(alloc, entry, Way::Whole, steps)?;
+    let reply = bench.handle(alloc, entry, Way::Whole)?;
     is_so(alloc, bench, reply, wanted)
 }
 
 // Whether an entry comes to what is written, at once or where memory ran out for it.
-fn is_right<L: Ledger>(
+fn is_right(
     alloc: Global,
     bench: &mut WorldBench,
     entry: &Entry,
     wanted: &str,
-    steps: &mut Steps<L>,
 ) -> Result<bool, OutOfMemory>
     requires { IsSeat entry.now.seat }
 {
     let before = kept_text(alloc, bench)?;
-    match bench.handle(alloc, entry, Way::Whole, steps) {
+    match bench.handle(alloc, entry, Way::Whole) {
         Ok(reply) => is_so(alloc, bench, reply, wanted),
-        Err(OutOfMemory) => {
-            is_right_again(alloc, bench, entry, (before.as_str(), wanted), steps)
-        }
+        Err(OutOfMemory) => { is_right_again(alloc, bench, entry, (before.as_str(), wanted)) }
     }
 }
 
 // Whether the line of a program comes to what is written.
-fn is_row_right<L: Ledger>(
-    alloc: Global,
-    bench: &mut WorldBench,
-    row: &str,
-    steps: &mut Steps<L>,
-) -> Result<bool, OutOfMemory> {
+fn is_row_right(alloc: Global, bench: &mut WorldBench, row: &str) -> Result<bool, OutOfMemory> {
     let (line, wanted) = row.split_once('@').unwrap_or((row, ""));
     let script = Script::of(alloc, line)?;
     match script.first() {
-        Some(entry) => is_right(alloc, bench, entry, wanted, steps),
+        Some(entry) => is_right(alloc, bench, entry, wanted),
         None => Ok(false),
     }
 }
 
 // The same from the opening on.
-fn is_block_right<L: Ledger>(
-    alloc: Global,
-    source: &str,
-    row: &str,
-    steps: &mut Steps<L>,
-) -> Result<bool, OutOfMemory> {
-    let mut bench = WorldBench::opened(alloc, source, 10_000, steps)?;
-    is_row_right(alloc, &mut bench, row, steps)
+fn is_block_right(alloc: Global, source: &str, row: &str) -> Result<bool, OutOfMemory> {
+    let mut bench = WorldBench::opened(alloc, source, 10_000)?;
+    is_row_right(alloc, &mut bench, row)
 }
 
 /// What differs from the line of a program, if anything.
-pub(super) fn differences<L: Ledger>(
-    alloc: Global,
-    block: &str,
-    steps: &mut Steps<L>,
-) -> Result<String, OutOfMemory> {
+pub(super) fn differences(alloc: Global, block: &str) -> Result<String, OutOfMemory> {
     let (source, row) = block.split_once('\n').unwrap_or((block, ""));
-    let is_right = is_block_right(alloc, source, row, steps)?;
+    let is_right = is_block_right(alloc, source, row)?;
     Ok(String::from_str(alloc, if is_right { "" } else { source })?)
 }

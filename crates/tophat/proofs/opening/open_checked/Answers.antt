@@ -6,7 +6,7 @@ use Rattle.tophat.proofs.OpeningLemmas.{opened_world}
 use Rattle.tophat.proofs.opening.open_checked.Goals as goal
 
 pub returns-in-Ok : goal.returns-in-Ok
-returns-in-Ok g c =
+returns-in-Ok c =
     let w = world_term c.in-Ok.world in
     record {
       opens = (
@@ -19,4 +19,4 @@ returns-in-Ok g c =
     }
 
 pub returns-in-Err-Over : goal.returns-in-Err-Over
-returns-in-Err-Over g c = record { opens = (c.in-Err-Over.ensures.over c.in-Err-Over.field-0-is, refl); rest = tt }
+returns-in-Err-Over c = record { opens = (c.in-Err-Over.ensures.over c.in-Err-Over.field-0-is, refl); rest = tt }

@@ -7,17 +7,17 @@ use Rattle.tophat.proofs.SoakLemmas.{soaks_step, counts_one, soaks_none}
 use Rattle.tophat.proofs.soak.run_inputs.Goals as goal
 
 pub loop-left-init : goal.loop-left-init
-loop-left-init g c = (omega arith, c.requires, λ u r s. s)
+loop-left-init c = (omega arith, c.requires, λ u r s. s)
 
 pub give-requires-clause-room : goal.give-requires-clause-room
-give-requires-clause-room g c =
+give-requires-clause-room c =
     let all = c.loop-left.invariant.0 in
     let some = c.loop-left-test.true in
     let fits = c.ranges.count.fits in
     omega (arith, all, some, fits)
 
 pub loop-left-preserved : goal.loop-left-preserved
-loop-left-preserved g c =
+loop-left-preserved c =
     let old = tally_term c.loop-left.tally in
     let new = tally_term c.give.new.self in
     let given = c.in_ok-give.ensures.given in
@@ -35,7 +35,7 @@ loop-left-preserved g c =
     )
 
 pub returns-clause-inputs : goal.returns-clause-inputs
-returns-clause-inputs g c =
+returns-clause-inputs c =
     let none : c.loop-left.left ≡ 0 = omega (arith, c.loop-left-test.false) in
     c.loop-left.invariant.2 (world_term c.loop-left.world) (tally_term c.loop-left.tally)
     (soaks_none c.loop-left.left c.loop-left.state (world_term c.loop-left.world) (tally_term c.loop-left.tally) none)

@@ -17,7 +17,7 @@ returns c =
     let over =
     c.in_ok-push_count-4.ensures ∙ ap (λ n. string_bytes c.push_count-3.new.text ++ (codes " over " ++ decimal n)) c.from-4.ensures in
     let nodes =
-    c.in_ok-push_count-5.ensures ∙ ap (λ n. string_bytes c.push_count-4.new.text ++ (codes " nodes " ++ decimal n)) c.nodes.ensures in
+    c.in_ok-push_count-5.ensures ∙ ap (λ n. string_bytes c.push_count-4.new.text ++ (codes " nodes " ++ decimal n)) c.in_ok-nodes.ensures in
     let all = all_pushed _ _ _ _ _ _ _ _ _ _ _ _ _ _ _ _ _ c.new-text.ensures.bytes count taken refused over nodes
     c.in_ok-push_place.ensures
     c.in_ok-push_place-2.ensures c.in_ok-push_str.ensures.bytes in

@@ -17,9 +17,9 @@ normalise-requires c = record {
 
 pub returns-in-Ok-clause-ok : goal.returns-in-Ok-clause-ok
 returns-in-Ok-clause-ok c =
-    opening_is (λ (u : Tree). at (tree_term u) (map value_term c.normalise.new.store.list)) (checked_term c.args.engine.now) c.args.budget
+    rw c.of.ensures (opening_is (λ (u : Tree). at (tree_term u) (map value_term c.normalise.new.store.list)) (checked_term c.args.engine.now) c.args.budget
     (task_term c.args.call.now) (names_term c.of_params-names.result) _ _ _ c.requires.main c.of_params-names.ensures
-    (ap (map value_term) c.requires.empty) c.new.ensures.units c.new.ensures.height _ c.in-Ok.ensures.spends
+    (ap (map value_term) c.requires.empty) c.new.ensures.units c.new.ensures.height _ c.in-Ok.ensures.spends)
 
 pub returns-in-Err-Over-clause-over : goal.returns-in-Err-Over-clause-over
 returns-in-Err-Over-clause-over c = λ _ s o.

@@ -5,6 +5,6 @@ use Rattle.world_core.proofs.world.World.abandon.Goals as goal
 
 pub invariant_of-self : goal.invariant_of-self
 invariant_of-self c =
-    given_up c.self.inside.engine c.self.inside.budget c.self.inside.history c.self.inside.tree c.self.inside.store c.drop_layer.new.self
+    given_up c.self.inside.engine c.self.inside.budget c.self.inside.history c.self.inside.live c.self.inside.store c.drop_layer.new.self
     c.self.inside.next c.take.new.self (ap is_some (sym c.take.ensures.value) ∙ sym c.is_some.ensures ∙ c.if-is_some.true)
     c.take.ensures.after c.drop_layer.ensures c.self.invariant

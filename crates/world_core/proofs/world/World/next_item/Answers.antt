@@ -7,5 +7,5 @@ use Rattle.world_core.proofs.world.World.next_item.Goals as goal
 pub returns-in-Some-clause-leads : goal.returns-in-Some-clause-leads
 returns-in-Some-clause-leads c =
     subst (λ w. LeadsOn (world_term w) (world_term w).next) c.self.view_is
-    (standing_leads (world c.self.inside.engine c.self.inside.budget c.self.inside.history c.self.inside.tree c.self.inside.store
+    (standing_leads (world c.self.inside.engine c.self.inside.budget c.self.inside.history c.self.inside.live c.self.inside.store
     c.self.inside.next) c.self.invariant.standing)

@@ -7,13 +7,13 @@ use Rattle.task_laws.proofs.RanLemmas.{stopped}
 use Rattle.world_core.specs.declared.answers.OpenStop.TheVariants.{Over}
 use Rattle.world_core.proofs.world.World.open.Goals as goal
 
-pub returns-in_err-tree-clause-over : goal.returns-in_err-tree-clause-over
-returns-in_err-tree-clause-over g c =
-    rw (stopped _ c.in_err-tree.field-0.0 c.from_residual-in_err-tree.ensures.1)
-    (subst (λ (k : SeenChecked). c.in_err-tree.field-0.0 ≡ Over → (s : State) → IsOpening (checked_term k) c.args.budget s → ⊥)
-    c.in_ok-engine.ensures c.in_err-tree.ensures.over)
+pub returns-in_err-live-clause-over : goal.returns-in_err-live-clause-over
+returns-in_err-live-clause-over c =
+    rw (stopped _ c.in_err-live.field-0.0 c.from_residual-in_err-live.ensures.1)
+    (subst (λ (k : SeenChecked). c.in_err-live.field-0.0 ≡ Over → (s : State) → IsOpening (checked_term k) c.args.budget s → ⊥)
+    c.in_ok-engine.ensures c.in_err-live.ensures.over)
 
 pub returns-clause-state : goal.returns-clause-state
-returns-clause-state g c =
+returns-clause-state c =
     subst (λ (k : SeenChecked). IsOpening (checked_term k) c.args.budget
-    (at (tree_term c.in_ok-tree.tree) (map value_term c.opened_tree.new.store.list))) c.in_ok-engine.ensures c.in_ok-tree.ensures.ok
+    (at (tree_term c.in_ok-live.live.tree) (map value_term c.opened_tree.new.store.list))) c.in_ok-engine.ensures c.in_ok-live.ensures.ok

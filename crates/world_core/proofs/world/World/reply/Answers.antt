@@ -5,7 +5,7 @@ use Rattle.world_core.specs.World.{world_term, Replies}
 use Rattle.world_core.proofs.world.World.reply.Goals as goal
 
 pub returns-in-Err-Over-clause-replies : goal.returns-in-Err-Over-clause-replies
-returns-in-Err-Over-clause-replies g c =
+returns-in-Err-Over-clause-replies c =
     subst (λ i. Replies (world_term c.args.self.now) (record { seat = c.args.entry.now.seat; input = i }) (world_term c.handle.new.self)
     (Err Over)) c.in_ok-input.ensures
     (subst (Replies (world_term c.args.self.now) (record { seat = c.args.entry.now.seat; input = input_term c.in_ok-input.input })

@@ -1,0 +1,56 @@
+ghost use Rattle.std.specs.Prelude.{◌≡◌, ◌+◌, ◌≤◌, map, IfOk, OnOk};
+ghost use Rattle.task_model.specs.Terms.Value.{value_term};
+ghost use Rattle.task_model.specs.Terms.Tree.{next_tree, xor_tree, cont_term, delay_term, tree_term, at};
+ghost use Rattle.task_model.specs.Running.Checked.{checked_term};
+ghost use Rattle.task_model.specs.Checking.Fits.{Fits};
+ghost use Rattle.task_model.specs.Running.Rules.{value_of};
+ghost use Rattle.task_model.specs.Running.Sign.{IsSideSign, IsStepSign};
+
+use shared_store::Store;
+use std::sync::ledger::Ledger;
+use task_engine::{Engine, test_next, test_side};
+use task_model::{Cont, Delay, OutOfMemory, Sign, Steps, Tree, Value};
+use task_tree::value;
+
+/// The sign of a user step: No where its left part has no value, and else that of its one test.
+pub(crate) fn step_sign<L: Ledger>(
+    engine: &Engine,
+    left: &Tree,
+    k: &Cont,
+    store: &mut Store<Value>,
+    budget: u32,
+    steps: &mut Steps<L>,
+) -> Result<Sign, OutOfMemory>
+    requires fits { Fits (checked_term engine.now) (at (next_tree (tree_term left.now) (cont_term k.now)) (map value_term store.old.list)) }
+    ensures store { store.new ≡ store.old }
+    ensures steps { OnOk result (steps.new ≤ steps.old + 1) }
+    ensures sign { IfOk result (λ s. IsStepSign (checked_term engine.now) budget
+        (value_of (tree_term left.now) (map value_term store.old.list)) (cont_term k.now) (map value_term store.old.list) s) }
+{
+    let Some(v) = value(engine.alloc(), left, store)? else {
+        return Ok(Sign::No);
+    };
+    test_next(engine, k, v, store, budget, steps)
+}
+
+/// The signs of both sides of an external choice, by a test of each.
+pub(crate) fn choice_signs<L: Ledger>(
+    engine: &Engine,
+    j: &Delay,
+    k: &Delay,
+    store: &mut Store<Value>,
+    budget: u32,
+    steps: &mut Steps<L>,
+) -> Result<(Sign, Sign), OutOfMemory>
+    requires fits { Fits (checked_term engine.now) (at (xor_tree (delay_term j.now) (delay_term k.now)) (map value_term store.old.list)) }
+    ensures store { store.new ≡ store.old }
+    ensures steps { OnOk result (steps.new ≡ steps.old + 2) }
+    ensures left { IfOk result (λ signs. IsSideSign (checked_term engine.now) budget (delay_term j.now)
+        (map value_term store.old.list) signs.0) }
+    ensures right { IfOk result (λ signs. IsSideSign (checked_term engine.now) budget (delay_term k.now)
+        (map value_term store.old.list) signs.1) }
+{
+    let left = test_side(engine, j, store, budget, steps)?;
+    let right = test_side(engine, k, store, budget, steps)?;
+    Ok((left, right))
+}

@@ -1,0 +1,37 @@
+-- What contracts see of a tree with its table.
+use Rattle.std.specs.Prelude.{ℕ, ◌*◌, Bool, true, false, List, Option, None, Some, Result, Ok, Err}
+use Rattle.task_model.specs.Terms.Value.{ValueTerm}
+use Rattle.task_model.specs.Terms.Tree.{TreeTerm, tree_term}
+use Rattle.task_model.specs.Running.Checked.{CheckedTerm}
+use Rattle.task_model.specs.declared.tree.Tree.{Tree}
+use Rattle.task_model.specs.declared.stops.ActStop.{ActStop}
+use Rattle.node_rows.specs.Rows.{RowsTerm, AreRows}
+use Rattle.node_rows.specs.TreeNodes.{tree_nodes}
+
+-- a tree, and the rows of its table, if they were made
+pub record SeenLive : Type 0 where
+  pub tree : Tree
+  pub rows : Option RowsTerm
+
+-- a tree whose table wasn't made
+abbrev pub bare_tree : Tree → SeenLive
+bare_tree t = record { tree = t; rows = None }
+
+-- rows, if there are any, are those of a tree over these values
+abbrev pub AreRowsIfMade : CheckedTerm → ℕ → TreeTerm → List ValueTerm → Option RowsTerm → Type 0
+AreRowsIfMade c budget t σ None = Unit {0}
+AreRowsIfMade c budget t σ (Some rows) = AreRows c budget t σ rows
+
+-- its rows, if they were made, are those of the tree over these values
+abbrev pub IsLive : CheckedTerm → ℕ → List ValueTerm → SeenLive → Type 0
+IsLive c budget σ live = AreRowsIfMade c budget (tree_term live.tree) σ live.rows
+
+-- at most so many tests and drawings make the table of a tree: none where it was made, and else two tests and a drawing for each node
+abbrev pub most_steps : (drawn : Bool) → TreeTerm → ℕ
+most_steps true t = 0
+most_steps false t = 3 * tree_nodes t
+
+-- the answer without the table
+abbrev pub led_tree : Result SeenLive ActStop → Result Tree ActStop
+led_tree (Ok live) = Ok live.tree
+led_tree (Err stop) = Err stop

@@ -1,0 +1,248 @@
+ghost use Rattle.std.specs.Prelude.{◌≡◌, ◌+◌, ◌*◌, ◌<◌, ◌≤◌, ℕ, List, ◌∷◌, length, map, slice_get, IfOk, IsSome, None, OnErr, OnOk, Some};
+ghost use Rattle.std.specs.Option.{is_some, option_map};
+ghost use Rattle.task_model.specs.Terms.Value.{ValueTerm, value_term};
+ghost use Rattle.task_model.specs.Terms.Tree.{tree_term, at};
+ghost use Rattle.task_model.specs.Terms.Input.{input_term};
+ghost use Rattle.task_model.specs.Terms.Held.{IsHeldAct};
+ghost use Rattle.task_model.specs.Running.Checked.{CheckedTerm, checked_term};
+ghost use Rattle.task_model.specs.Running.Offer.{offer_term, AreOffers};
+ghost use Rattle.task_model.specs.Showing.Widget.{widget_term, AreWidgets};
+ghost use Rattle.task_model.specs.Checking.Fits.{Fits};
+ghost use Rattle.task_model.specs.declared.value.Value.{Value};
+ghost use Rattle.handle_input.specs.Answers.{TellsOutcome};
+ghost use Rattle.kept_nodes.specs.Kept.{IsRedrawn};
+ghost use Rattle.node_rows.specs.Rows.{AreRows};
+ghost use Rattle.node_rows.specs.TreeNodes.{tree_nodes};
+ghost use Rattle.live_tree.specs.Live.{IsLive, bare_tree, led_tree, most_steps};
+
+use crate::counting::count_nodes;
+use handle_input::interact;
+use html_pages::Fragments;
+use interface::widgets;
+use kept_nodes::{changed_places, kept};
+use kept_rows::next_rows;
+use node_rows::{NodeRows, fresh_rows};
+use shared_store::Store;
+use std::alloc::Global;
+use std::marker::Model;
+use std::sync::ledger::Ledger;
+use task_engine::Engine;
+use task_model::{ActStop, Input, Offer, OutOfMemory, Reads, Row, Steps, Tree, Value, Widget};
+
+/// A tree with its table, which is made where it is asked for. What its rows were observed over, a store's values and a budget, stands in the
+/// contracts of its calls.
+#[derive(Drop)]
+pub struct LiveTree {
+    tree: Tree,
+    rows: Option<NodeRows>,
+}
+
+impl Model for LiveTree {
+    ghost use Rattle.std.specs.Coded.{codes};
+    ghost use Rattle.task_model.specs.contracts.tree.Tree as trees;
+    ghost use Rattle.live_tree.specs.Live.{SeenLive};
+
+    ghost Value = { SeenLive };
+
+    ghost coded = { Prim.hlevel (codes, trees.the_row.coded) };
+
+    ghost view = { λ t. record { tree = t.tree; rows = t.rows } };
+}
+
+impl LiveTree {
+    /// A tree whose table wasn't made.
+    pub fn of(tree: Tree) -> LiveTree
+        ensures { result ≡ bare_tree tree }
+    {
+        LiveTree { tree, rows: None }
+    }
+
+    /// The tree that an input leads to within a budget, beside this one: over values that stand above those of before, which are a layer
+    /// then. Its table isn't made. A refusal leaves the store.
+    pub fn apply(
+        &self,
+        engine: &Engine,
+        store: &mut Store<Value>,
+        input: &Input,
+        budget: u32,
+    ) -> Result<LiveTree, ActStop>
+        requires fits { Fits (checked_term engine.now) (at (tree_term self.now.tree) (map value_term store.old.list)) }
+        ensures refused { OnErr result (store.new ≡ store.old) }
+        ensures layer { OnOk result (store.new.layers ≡ store.old.list ∷ store.old.layers) }
+        ensures held { OnOk result (IsHeldAct (input_term input.now).act) }
+        ensures outcome { TellsOutcome (checked_term engine.now) budget (at (tree_term self.now.tree) (map value_term store.old.list))
+            (input_term input.now) (map value_term store.new.list) (led_tree result) }
+        ensures bare { IfOk result (λ t. t.rows ≡ None) }
+    {
+        store.begin()?;
+        match self.led(engine, store, input, budget) {
+            Ok(next) => Ok(next),
+            Err(stop) => {
+                store.drop_layer();
+                Err(stop)
+            }
+        }
+    }
+
+    // The tree that an input leads to, over the values that it leads to.
+    fn led(
+        &self,
+        engine: &Engine,
+        store: &mut Store<Value>,
+        input: &Input,
+        budget: u32,
+    ) -> Result<LiveTree, ActStop>
+        requires fits { Fits (checked_term engine.now) (at (tree_term self.now.tree) (map value_term store.old.list)) }
+        ensures layers { store.new.layers ≡ store.old.layers }
+        ensures held { OnOk result (IsHeldAct (input_term input.now).act) }
+        ensures outcome { TellsOutcome (checked_term engine.now) budget (at (tree_term self.now.tree) (map value_term store.old.list))
+            (input_term input.now) (map value_term store.new.list) (led_tree result) }
+        ensures bare { IfOk result (λ t. t.rows ≡ None) }
+    {
+        let tree = interact(engine, self.tree(), store, input, budget)?;
+        Ok(LiveTree { tree, rows: None })
+    }
+
+    /// Makes the table by at most two tests and one drawing for each node. Where it was made, nothing is tested or drawn again. The tree and
+    /// the store stay.
+    pub fn draw<L: Ledger>(
+        &mut self,
+        engine: &Engine,
+        store: &mut Store<Value>,
+        budget: u32,
+        steps: &mut Steps<L>,
+    ) -> Result<(), OutOfMemory>
+        requires fits { Fits (checked_term engine.now) (at (tree_term self.old.tree) (map value_term store.old.list)) }
+        requires live { IsLive (checked_term engine.now) budget (map value_term store.old.list) self.old }
+        ensures store { store.new ≡ store.old }
+        ensures tree { self.new.tree ≡ self.old.tree }
+        ensures live { IsLive (checked_term engine.now) budget (map value_term store.old.list) self.new }
+        ensures drawn { OnOk result (IsSome self.new.rows) }
+        ensures steps { OnOk result (steps.new ≤ steps.old + most_steps (is_some self.old.rows) (tree_term self.old.tree)) }
+    {
+        if self.rows.is_none() {
+            let rows = fresh_rows(engine, &self.tree, store, budget, steps)?;
+            self.rows = Some(rows);
+        }
+        Ok(())
+    }
+
+    /// The same of a tree that an event led to, whose values stand above those of the tree before, which are the newest layer. Where the table
+    /// of that one was made the rows of kept nodes are taken over: then no more than the other nodes are tested and drawn.
+    pub fn draw_next<L: Ledger>(
+        &mut self,
+        before: &LiveTree,
+        engine: &Engine,
+        store: &mut Store<Value>,
+        budget: u32,
+        steps: &mut Steps<L>,
+    ) -> Result<(), OutOfMemory>
+        requires fits { Fits (checked_term engine.now) (at (tree_term self.old.tree) (map value_term store.old.list)) }
+        requires live { IsLive (checked_term engine.now) budget (map value_term store.old.list) self.old }
+        requires layer { 0 < length store.old.layers }
+        requires before { (σ : List Value) → slice_get store.old.layers 0 ≡ Some σ
+            → IsLive (checked_term engine.now) budget (map value_term σ) before.now }
+        ensures store { store.new ≡ store.old }
+        ensures tree { self.new.tree ≡ self.old.tree }
+        ensures live { IsLive (checked_term engine.now) budget (map value_term store.old.list) self.new }
+        ensures drawn { OnOk result (IsSome self.new.rows) }
+        ensures steps { OnOk result (steps.new ≤ steps.old + most_steps (is_some self.old.rows) (tree_term self.old.tree)) }
+        ensures few { OnOk result (IsSome before.now.rows → (σ : List Value) → slice_get store.old.layers 0 ≡ Some σ → (n : ℕ)
+            → IsRedrawn (at (tree_term before.now.tree) (map value_term σ)) (at (tree_term self.old.tree) (map value_term store.old.list)) n
+            → steps.new ≤ steps.old + 3 * n) }
+    {
+        if self.rows.is_some() {
+            return Ok(());
+        }
+        let rows = self.rows_from(before, engine, store, budget, steps)?;
+        self.rows = Some(rows);
+        Ok(())
+    }
+
+    // The rows of a tree that an event led to.
+    fn rows_from<L: Ledger>(
+        &self,
+        before: &LiveTree,
+        engine: &Engine,
+        store: &mut Store<Value>,
+        budget: u32,
+        steps: &mut Steps<L>,
+    ) -> Result<NodeRows, OutOfMemory>
+        requires fits { Fits (checked_term engine.now) (at (tree_term self.now.tree) (map value_term store.old.list)) }
+        requires layer { 0 < length store.old.layers }
+        requires before { (σ : List Value) → slice_get store.old.layers 0 ≡ Some σ
+            → IsLive (checked_term engine.now) budget (map value_term σ) before.now }
+        ensures store { store.new ≡ store.old }
+        ensures rows { IfOk result (AreRows (checked_term engine.now) budget (tree_term self.now.tree) (map value_term store.old.list)) }
+        ensures steps { OnOk result (steps.new ≤ steps.old + 3 * tree_nodes (tree_term self.now.tree)) }
+        ensures few { OnOk result (IsSome before.now.rows → (σ : List Value) → slice_get store.old.layers 0 ≡ Some σ → (n : ℕ)
+            → IsRedrawn (at (tree_term before.now.tree) (map value_term σ)) (at (tree_term self.now.tree) (map value_term store.old.list)) n
+            → steps.new ≤ steps.old + 3 * n) }
+    {
+        match &before.rows {
+            None => fresh_rows(engine, &self.tree, store, budget, steps),
+            Some(rows) => {
+                let alloc = engine.alloc();
+                let changed = changed_places(alloc, store)?;
+                let marks = kept(alloc, Some(&before.tree), &self.tree, &changed)?;
+                next_rows(
+                    engine,
+                    &before.tree,
+                    rows,
+                    &self.tree,
+                    &marks,
+                    store,
+                    budget,
+                    steps,
+                )
+            }
+        }
+    }
+
+    /// The tree.
+    pub fn tree(&self) -> &Tree
+        ensures { result.now ≡ self.now.tree }
+    {
+        &self.tree
+    }
+
+    /// How many nodes it has, by one walk. A number that no 64 bits hold is want of memory.
+    pub fn nodes(&self) -> Result<u64, OutOfMemory>
+        ensures { IfOk result (λ n. n ≡ tree_nodes (tree_term self.now.tree)) }
+    {
+        count_nodes(&self.tree)
+    }
+
+    /// What it offers, in pre-order, where its table was made: no test is made again. The table may be of any program, budget and values.
+    pub fn offers(&self, alloc: Global) -> Result<Row<Offer>, OutOfMemory>
+        requires drawn { IsSome self.now.rows }
+        ensures { IfOk result (λ os. (c : CheckedTerm) (budget : ℕ) (σ : List ValueTerm) → IsLive c budget σ self.now
+            → AreOffers c budget (tree_term self.now.tree) σ (map offer_term os.list)) }
+    {
+        match &self.rows {
+            None => unreachable!(),
+            Some(rows) => rows.offers(alloc, &self.tree),
+        }
+    }
+
+    /// The widgets of its nodes over the values of its table, in pre-order, where it was made: no test is made again.
+    pub fn widgets<R: Reads>(&self, alloc: Global, reads: &R) -> Result<Row<Widget>, OutOfMemory>
+        requires drawn { IsSome self.now.rows }
+        ensures { IfOk result (λ ws. (c : CheckedTerm) (budget : ℕ) → IsLive c budget (R.values reads.now) self.now
+            → AreWidgets c budget (tree_term self.now.tree) (R.values reads.now) (map widget_term ws.list)) }
+    {
+        let offers = self.offers(alloc)?;
+        widgets(alloc, &self.tree, reads, offers.as_slice())
+    }
+
+    /// What is drawn of each node, in pre-order, where the table was made.
+    pub fn fragments(&self) -> &Fragments
+        requires drawn { IsSome self.now.rows }
+        ensures { option_map (λ r. r.fragments) self.now.rows ≡ Some result.now }
+    {
+        match &self.rows {
+            None => unreachable!(),
+            Some(rows) => rows.fragments(),
+        }
+    }
+}

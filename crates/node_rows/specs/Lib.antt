@@ -1,0 +1,3 @@
+pub mod TreeNodes
+pub mod Rows
+pub mod Offered

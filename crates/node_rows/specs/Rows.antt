@@ -1,0 +1,63 @@
+-- The rows of a tree: what is observed of each of its nodes.
+use Rattle.std.specs.Prelude.{◌≡◌, ℕ, List, [], ◌∷◌, ◌++◌, map, take, drop}
+use Rattle.task_model.specs.Terms.Value.{ValueTerm}
+use Rattle.task_model.specs.Terms.Tree.{TreeTerm}
+use Rattle.task_model.specs.Running.Checked.{CheckedTerm}
+use Rattle.task_model.specs.Showing.Widget.{ShapeTerm, step_shape, pick_shape, WidgetTerm, AreWidgets}
+use Rattle.task_model.specs.declared.widget.Sign.{Sign}
+use Rattle.task_model.specs.declared.widget.Sign.TheVariants as signs
+use Rattle.html_pages.specs.Fragments.{FragmentTerm, fragment_of}
+use Rattle.node_rows.specs.declared.signs.Signs.{Signs}
+use Rattle.node_rows.specs.declared.signs.Signs.TheVariants as signed
+
+-- rows: the signs of each node's tests, and its fragment
+pub record RowsTerm : Type 0 where
+  pub signs : List Signs
+  pub fragments : List FragmentTerm
+
+-- the signs that a shape shows
+abbrev pub signs_of : ShapeTerm → Signs
+signs_of (step_shape s) = signed.Step s
+signs_of (pick_shape s z) = signed.Pick s z
+signs_of shape = signed.Untested
+
+-- the signs of a widget's node
+abbrev pub widget_signs : WidgetTerm → Signs
+widget_signs w = signs_of w.shape
+
+-- the sign of a step, of a left and of a right side: No where there is none
+abbrev pub step_sign : Signs → Sign
+step_sign (signed.Step s) = s
+step_sign other = signs.No
+
+abbrev pub left_sign : Signs → Sign
+left_sign (signed.Pick s z) = s
+left_sign other = signs.No
+
+abbrev pub right_sign : Signs → Sign
+right_sign (signed.Pick s z) = z
+right_sign other = signs.No
+
+-- the rows of these widgets
+abbrev pub rows_of : List WidgetTerm → RowsTerm
+rows_of ws = record { signs = map widget_signs ws; fragments = map fragment_of ws }
+
+-- the row of one widget
+abbrev pub row_of : WidgetTerm → RowsTerm
+row_of w = rows_of (w ∷ [])
+
+-- no rows
+abbrev pub no_rows : RowsTerm
+no_rows = record { signs = []; fragments = [] }
+
+-- rows, and others behind them
+abbrev pub rows_append : RowsTerm → RowsTerm → RowsTerm
+rows_append r s = record { signs = r.signs ++ s.signs; fragments = r.fragments ++ s.fragments }
+
+-- so many of these rows, from a number on
+abbrev pub rows_part : ℕ → ℕ → RowsTerm → RowsTerm
+rows_part from count r = record { signs = take count (drop from r.signs); fragments = take count (drop from r.fragments) }
+
+-- these are the rows of a tree over a store: those of its widgets
+abbrev pub AreRows : CheckedTerm → ℕ → TreeTerm → List ValueTerm → RowsTerm → Type 0
+AreRows c budget t σ rows = (ws : List WidgetTerm) × AreWidgets c budget t σ ws × (rows ≡ rows_of ws)

@@ -1,0 +1,12 @@
+//! What is observed of the nodes of a tree, in a row for each node: the signs of its tests, and what is drawn of it. Rows answer what the
+//! tree offers with no test.
+#![tactic(auto)]
+
+mod fresh;
+mod offering;
+mod rows;
+mod signs;
+
+pub use fresh::fresh_rows;
+pub use rows::NodeRows;
+pub use signs::Signs;

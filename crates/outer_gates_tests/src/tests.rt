@@ -1,0 +1,2 @@
+mod listening;
+mod memory;

@@ -1,0 +1,5 @@
+pub mod Within
+pub mod Sessions
+pub mod Events
+pub mod Openings
+pub mod Closings
