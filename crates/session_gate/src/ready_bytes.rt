@@ -1,22 +1,28 @@
-ghost use Rattle.std.specs.Prelude.{◌≡◌, false, true, IfOk};
-ghost use Rattle.http_replies.specs.Replies.{reply_bytes, taken_reply, memory_reply};
-ghost use Rattle.http_replies.specs.ReplyForms.{HasPhrase, reply_term};
+ghost use Rattle.std.specs.Prelude.{◌≡◌, ◌≢◌, ◌≤◌, ◌||◌, false, true, IfOk, IsOk, IsTrue, OnErr};
+ghost use Rattle.http_replies.specs.Replies.{reply_bytes, page_reply, taken_reply, memory_reply};
+ghost use Rattle.http_replies.specs.ReplyForms.{HasPhrase};
+ghost use Rattle.session_gate.specs.DeskAnswers.{note_of, reply_of};
+ghost use Rattle.session_gate.specs.Notes.{is_memory};
+ghost use Rattle.session_gate.specs.declared.note_kind.NoteKind.TheVariants.{Taken};
 ghost use Rattle.session_gate.specs.ReadyBytes.{ready_bytes};
 
-use http_replies::{HeadRoom, HttpReply, whole_reply, write_head};
+use crate::answer::Answer;
+use html_pages::{Headed, Page};
+use http_replies::{HeadRoom, whole_reply, write_head};
 use std::alloc::Global;
-use task_model::OutOfMemory;
+use task_model::{Face, OutOfMemory};
 
-/// The bytes of a reply: a head alone, which takes no memory, or a whole reply.
+/// The bytes of a reply: a head alone, which takes no memory, a head with a page behind it, or a whole reply.
 #[derive(Drop)]
 pub(crate) enum ReadyBytes {
     Head(HeadRoom),
+    Page(Headed),
     Whole(Vec<u8>),
 }
 
 impl ReadyBytes {
-    /// The reply to an input that led to this version.
-    pub(crate) fn taken(version: u64, closes: bool) -> ReadyBytes
+    // The reply to an input that led to this version.
+    fn taken(version: u64, closes: bool) -> ReadyBytes
         ensures { ready_bytes result ≡ reply_bytes (taken_reply version) false closes }
     {
         let mut head = HeadRoom::new();
@@ -33,17 +39,61 @@ impl ReadyBytes {
         ReadyBytes::Head(head)
     }
 
-    /// Any reply.
-    pub(crate) fn whole(
+    /// The reply of an answer, which tells the end of the connection where that `closes` or memory ran out. A page's bytes are copied only
+    /// where the page has no room for the head. It fails only where memory runs out, and never for an input that was taken.
+    pub(crate) fn of(
         alloc: Global,
-        reply: &HttpReply<'_>,
+        answer: Answer,
         head_only: bool,
         closes: bool,
     ) -> Result<ReadyBytes, OutOfMemory>
-        requires { HasPhrase (reply_term reply.now) }
-        ensures { IfOk result (λ bytes. ready_bytes bytes ≡ reply_bytes (reply_term reply.now) head_only closes) }
+        requires { HasPhrase (reply_of answer) }
+        ensures bytes { IfOk result (λ bytes. ready_bytes bytes
+            ≡ reply_bytes (reply_of answer) head_only (closes || is_memory (note_of answer).kind)) }
+        ensures err { OnErr result ((note_of answer).kind ≢ Taken) }
     {
-        Ok(ReadyBytes::Whole(whole_reply(alloc, reply, head_only, closes)?))
+        match answer {
+            Answer::Taken { version } => Ok(ReadyBytes::taken(version, closes)),
+            Answer::Memory { .. } => Ok(ReadyBytes::memory()),
+            Answer::Page { face, page } => ReadyBytes::page(alloc, face, page, head_only, closes),
+            other => ReadyBytes::whole(alloc, &other, head_only, closes),
+        }
+    }
+
+    // The reply that shows a page. Its head alone takes no memory, and neither does a head in the room of the page.
+    fn page(
+        alloc: Global,
+        face: Face,
+        page: Page,
+        head_only: bool,
+        closes: bool,
+    ) -> Result<ReadyBytes, OutOfMemory>
+        ensures bytes { IfOk result (λ bytes. ready_bytes bytes ≡ reply_bytes (page_reply face page.text) head_only closes) }
+        ensures head { IsTrue head_only → IsOk result }
+        ensures room { 256 ≤ page.room → IsOk result }
+    {
+        let mut head = HeadRoom::new();
+        let size = page.text().len() as u64;
+        write_head(200, None, Some(face), size, closes, &mut head);
+        if head_only {
+            Ok(ReadyBytes::Head(head))
+        } else {
+            Ok(ReadyBytes::Page(page.behind(alloc, head.bytes())?))
+        }
+    }
+
+    // The reply of any answer, in memory of its own.
+    fn whole(
+        alloc: Global,
+        answer: &Answer,
+        head_only: bool,
+        closes: bool,
+    ) -> Result<ReadyBytes, OutOfMemory>
+        requires { HasPhrase (reply_of answer.now) }
+        ensures { IfOk result (λ bytes. ready_bytes bytes ≡ reply_bytes (reply_of answer.now) head_only closes) }
+    {
+        let bytes = whole_reply(alloc, &answer.reply(), head_only, closes)?;
+        Ok(ReadyBytes::Whole(bytes))
     }
 
     /// The bytes.
@@ -52,6 +102,7 @@ impl ReadyBytes {
     {
         match self {
             ReadyBytes::Head(head) => head.bytes(),
+            ReadyBytes::Page(bytes) => bytes.as_slice(),
             ReadyBytes::Whole(bytes) => bytes.as_slice(),
         }
     }
