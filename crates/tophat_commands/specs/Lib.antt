@@ -1,0 +1,4 @@
+pub mod ServedFiles
+pub mod Courses
+pub mod Serves
+pub mod FulfilsCommand

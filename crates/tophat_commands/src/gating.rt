@@ -1,0 +1,126 @@
+ghost use Rattle.std.specs.Prelude.{◌≡◌, ◌⊎◌, ◌<◌, ◌++◌, Option};
+ghost use Rattle.std.specs.Io.KnownBytes.{Appends};
+ghost use Rattle.outer_io.specs.Sink.{Wrote, faults_after_text};
+ghost use Rattle.task_model.specs.Terms.Item.{history_term};
+ghost use Rattle.task_model.specs.Terms.Text.{Text};
+ghost use Rattle.task_model.specs.Running.State.{IsSeat};
+ghost use Rattle.command_words.specs.Commands.{serve_term};
+ghost use Rattle.history_lines.specs.EntryLines.{entries_text};
+ghost use Rattle.task_server.specs.declared.gate_state.GateState.{GateState};
+ghost use Rattle.tophat.specs.Ended.{output_faults_after};
+ghost use Rattle.tophat_commands.specs.Courses.{GateCourse, IsServedWhole, IsStarved, IsWholeEnd, WritesServed, end_of_entries, port_line};
+
+use command_words::ServeWords;
+use history_lines::{EntriesWritten, write_entries};
+use itoa::Buffer;
+use outer_gates::Gate;
+use outer_io::{Sink, Written, write_four};
+use std::alloc::Global;
+use std::sync::Wait;
+use std::thread::Threads;
+use task_server::{ServeStop, Served, Serving, serve_opening};
+use tophat::{Ending, NoWorld};
+use world_lock::Opening;
+
+/// A gate that was had, and how the command ends.
+#[derive(Drop)]
+pub(crate) struct Gated<G: Drop> {
+    pub(crate) gate: G,
+    pub(crate) ending: Ending,
+}
+
+/// Tells the port, serves the gate over the opened world, and writes the entries of the closed history.
+pub(crate) fn serve_gate<G: Gate, O: Sink, R: Threads + Wait + Copy + Send + Sync>(
+    rt: &R,
+    alloc: Global,
+    opening: Opening<R>,
+    gate: G,
+    asked: &ServeWords,
+    out: &mut O,
+) -> Gated<G>
+    requires seats { (opening.seats ≡ asked.seats) × IsSeat opening.seats }
+    requires workers { 0 < asked.workers }
+    ensures course { GateCourse (history_term opening.history) (serve_term asked.now) (G.told gate) (G.told result.gate)
+        (O.taken out.old) (O.taken out.new) result.ending }
+    ensures count { O.faults out.new ≡ output_faults_after (O.faults out.old) result.ending }
+{
+    match tell_port(out, asked.port) {
+        Written::Whole => serve_told(rt, alloc, opening, gate, asked, out),
+        Written::Failed => Gated {
+            gate,
+            ending: Ending::WriteFault,
+        },
+    }
+}
+
+// Writes the line that tells the port. It takes no memory.
+fn tell_port<O: Sink>(out: &mut O, port: u16) -> Written
+    ensures text { Wrote (O.taken out.old) (O.taken out.new) (port_line port) result }
+    ensures count { O.faults out.new ≡ faults_after_text (O.faults out.old) result }
+{
+    let mut digits = Buffer::new();
+    write_four(
+        out,
+        b"serving on port ",
+        digits.format(port).as_bytes(),
+        b"\n",
+        b"",
+    )
+}
+
+// Serves the gate, once the port is told.
+fn serve_told<G: Gate, O: Sink, R: Threads + Wait + Copy + Send + Sync>(
+    rt: &R,
+    alloc: Global,
+    opening: Opening<R>,
+    gate: G,
+    asked: &ServeWords,
+    out: &mut O,
+) -> Gated<G>
+    requires seats { (opening.seats ≡ asked.seats) × IsSeat opening.seats }
+    requires workers { 0 < asked.workers }
+    ensures course { (first : Option Text) → Appends first (O.taken out.old) (port_line asked.port)
+        → IsStarved asked.port first (O.taken out.new) result.ending
+        ⊎ IsServedWhole (history_term opening.history) (serve_term asked.now) (G.told gate) (G.told result.gate) first (O.taken out.new)
+        result.ending }
+    ensures count { O.faults out.new ≡ output_faults_after (O.faults out.old) result.ending }
+{
+    let Serving { gate, result } = serve_opening(
+        rt,
+        alloc,
+        opening,
+        gate,
+        asked.workers,
+        asked.connections,
+    );
+    let ending = match result {
+        Ok(served) => write_served(alloc, &served, Ending::Wrote, out),
+        Err(ServeStop::GateFault(served)) => {
+            write_served(alloc, &served, Ending::GateFault, out)
+        }
+        Err(ServeStop::Memory) => Ending::Unopened(NoWorld::Memory),
+    };
+    Gated { gate, ending }
+}
+
+// Writes the entries of the closed history. The end is this one where they were written whole.
+fn write_served<O: Sink>(alloc: Global, served: &Served, whole: Ending, out: &mut O) -> Ending
+    requires whole { (state : GateState) × IsWholeEnd state whole }
+    ensures wrote { (state : GateState) (line : Text) (first : Option Text) → IsWholeEnd state whole → Appends first (O.taken out.old) line
+        → WritesServed state (line ++ entries_text (history_term served.now.closed.world.history)) first (O.taken out.new) result }
+    ensures count { O.faults out.new ≡ output_faults_after (O.faults out.old) result }
+{
+    let written = write_entries(alloc, served.closed.world.history(), out);
+    end_of(written, whole)
+}
+
+// The end by how the entries were written.
+fn end_of(written: EntriesWritten, whole: Ending) -> Ending
+    ensures { result ≡ end_of_entries whole written }
+{
+    match written {
+        EntriesWritten::Whole => whole,
+        EntriesWritten::Failed => Ending::WriteFault,
+        EntriesWritten::Memory => Ending::Unopened(NoWorld::Memory),
+    }
+}
