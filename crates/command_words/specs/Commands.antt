@@ -11,7 +11,7 @@ use Rattle.command_words.specs.declared.serve_words.ServeWords.{ServeWords}
 use Rattle.command_words.specs.declared.stop.WordStop.{WordStop}
 use Rattle.command_words.specs.declared.stop.WordStop.TheVariants.{Memory, Outside}
 
--- the numbers of `serve`: a budget, how many seats and how many workers there are, a port, and after how many connections it ends
+-- the numbers of `serve`: a budget, how many seats and workers there are, a port, and how many connections are taken
 pub record ServeTerm : Type 0 where
   pub budget : ℕ
   pub seats : ℕ

@@ -9,6 +9,6 @@ pub struct ServeWords {
     pub workers: u8,
     /// The port that is listened on: 1 to 65,535.
     pub port: u16,
-    /// After how many connections the serving ends: 1 to 1,000,000.
+    /// How many connections are taken: 1 to 1,000,000.
     pub connections: u64,
 }
