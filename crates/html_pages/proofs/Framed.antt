@@ -1,10 +1,9 @@
 -- Pages from their fragments.
-use Rattle.std.proofs.Common.{◌≡◌, ℕ, List, [], ◌∷◌, ◌++◌, map, codes, decimal, refl, sym, ap, ◌∙◌, append-nil}
-use Rattle.std.specs.Prelude.{Result, Ok, Err, IfOk}
+use Rattle.std.proofs.Common.{◌≡◌, ℕ, List, [], ◌∷◌, ◌++◌, map, codes, refl, ap, ◌∙◌, append-nil}
 use Rattle.task_model.specs.Terms.Text.{Text}
 use Rattle.task_model.specs.Showing.Widget.{WidgetTerm}
 use Rattle.task_model.specs.Showing.Page.{head_text, widget_line, widget_lines}
-use Rattle.task_model.specs.Showing.Html.{paragraph, widget_fragment, widget_fragments}
+use Rattle.task_model.specs.Showing.Html.{widget_fragment, widget_fragments}
 use Rattle.task_model.specs.declared.widget.Face.{Face}
 use Rattle.task_model.specs.declared.widget.Face.TheVariants as faces
 use Rattle.html_pages.specs.Fragments.{FragmentTerm, face_text, fragment_of, fragments_text, page_end, page_start}

@@ -1,13 +1,12 @@
 -- Texts of which nothing is read as markup.
-use Rattle.std.proofs.Common.{◌≡◌, ℕ, Bool, true, false, cond, List, [], ◌∷◌, ◌++◌, codes, refl}
+use Rattle.std.proofs.Common.{◌≡◌, Bool, true, false, cond, List, [], ◌∷◌, ◌++◌, codes, refl}
 use Rattle.std.specs.Prelude.{◌==◌, ◌&&◌, ◌||◌, not}
-use Rattle.std.proofs.lemmas.Bool.{and_parts}
 use Rattle.task_model.specs.Terms.Text.{Text}
 use Rattle.task_model.specs.Terms.Basic.{BasicTerm, unit_type, bool_type, int_type, text_type, pair_type, list_type}
 use Rattle.task_model.specs.Terms.Value.{ValueTerm, unit_value, bool_value, int_value, text_value, pair_value, list_value}
 use Rattle.task_model.specs.Syntax.Literal.{basic_text, value_text}
 use Rattle.task_model.specs.Showing.Page.{path_text, turns_text}
-use Rattle.task_model.specs.Showing.Html.{entity, html_escaped, shown_value}
+use Rattle.task_model.specs.Showing.Html.{html_escaped, shown_value}
 use Rattle.task_model.specs.declared.input.Turn.{Turn}
 use Rattle.task_model.specs.declared.input.Turn.TheVariants as turns
 use Rattle.html_pages.specs.Escaping.{begins_entity, is_inert}

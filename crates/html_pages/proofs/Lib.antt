@@ -1,4 +1,5 @@
 pub mod Escapes
 pub mod Inert
 pub mod Framed
+pub mod Behind
 pub mod Pieces

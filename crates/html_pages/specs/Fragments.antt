@@ -33,10 +33,11 @@ empty_fragment path b = record {
   html = editor_text path (codes "enter") b [];
 }
 
--- a page: the version that it shows, and its text
+-- a page: the version that it shows, its text, and how many bytes of room stand in front of the text
 pub record PageTerm : Type 0 where
   pub version : ℕ
   pub text : Text
+  pub room : ℕ
 
 -- the page of these widgets in one of the faces
 abbrev pub face_text : Face → ℕ → ℕ → List WidgetTerm → Text

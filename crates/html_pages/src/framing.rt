@@ -1,4 +1,4 @@
-ghost use Rattle.std.specs.Prelude.{◌≡◌, ◌++◌, List, codes, decimal, map, IfOk, OnOk, string_bytes};
+ghost use Rattle.std.specs.Prelude.{◌≡◌, ◌++◌, List, codes, decimal, length, map, IfOk, OnOk, string_bytes};
 ghost use Rattle.task_model.specs.Showing.Widget.{WidgetTerm};
 ghost use Rattle.task_model.specs.Showing.Html as model;
 ghost use Rattle.html_pages.specs.Fragments.{face_text, fragment_of, fragments_text, page_end, page_start};
@@ -11,10 +11,17 @@ use std::alloc::Global;
 use task_model::{Face, OutOfMemory};
 use terminal_view::push;
 
-// Room for the bytes of a page besides its fragments.
-const FRAME_ROOM: usize = 256;
+// The bytes of a page besides its fragments are no more.
+const FRAME_BYTES: usize = 256;
 
-/// The page of these fragments in one of the faces. Its memory is taken once.
+// Room for the head of a reply, of as many bytes as one has at most (docs/FORMATS.md, "Replies").
+const HEAD_ROOM: &str = "\
+    ----------------------------------------------------------------\
+    ----------------------------------------------------------------\
+    ----------------------------------------------------------------\
+    ----------------------------------------------------------------";
+
+/// The page of these fragments in one of the faces, with no room in front. Its memory is taken once.
 pub fn frame(
     alloc: Global,
     face: Face,
@@ -27,21 +34,60 @@ pub fn frame(
     ensures text { (ws : List WidgetTerm) → list.now ≡ map fragment_of ws → IfOk result
         (λ page. page.text ≡ face_text face version seat ws) }
 {
+    framed(alloc, "", face, version, seat, list)
+}
+
+/// The same page behind room for the head of any reply (docs/FORMATS.md, "Replies"). Its memory is taken once.
+pub fn frame_behind_room(
+    alloc: Global,
+    face: Face,
+    version: u64,
+    seat: u8,
+    list: &Fragments,
+) -> Result<Page, OutOfMemory>
+    ensures version { IfOk result (λ page. page.version ≡ version) }
+    ensures text { (ws : List WidgetTerm) → list.now ≡ map fragment_of ws → IfOk result
+        (λ page. page.text ≡ face_text face version seat ws) }
+    ensures room { IfOk result (λ page. page.room ≡ 256) }
+{
+    framed(alloc, HEAD_ROOM, face, version, seat, list)
+}
+
+// The page behind this room.
+fn framed(
+    alloc: Global,
+    room: &str,
+    face: Face,
+    version: u64,
+    seat: u8,
+    list: &Fragments,
+) -> Result<Page, OutOfMemory>
+    ensures version { IfOk result (λ page. page.version ≡ version) }
+    ensures text { (ws : List WidgetTerm) → list.now ≡ map fragment_of ws → IfOk result
+        (λ page. page.text ≡ face_text face version seat ws) }
+    ensures room { IfOk result (λ page. page.room ≡ length room.now) }
+{
     let fragments = list.as_slice();
-    let mut text = String::with_capacity(alloc, room(face, fragments))?;
-    push_start(&mut text, face, version, seat)?;
-    push_fragments(&mut text, face, fragments)?;
-    push(&mut text, end(face))?;
-    Ok(Page { version, text })
+    let size = page_size(face, fragments).saturating_add(room.len());
+    let mut padded = String::with_capacity(alloc, size)?;
+    push(&mut padded, room)?;
+    push_start(&mut padded, face, version, seat)?;
+    push_fragments(&mut padded, face, fragments)?;
+    push(&mut padded, end(face))?;
+    Ok(Page {
+        version,
+        room: room.len(),
+        padded,
+    })
 }
 
 // As many bytes as a page of these fragments has, or more.
-fn room(face: Face, list: &[Fragment]) -> usize {
-    let mut room = FRAME_ROOM;
+fn page_size(face: Face, list: &[Fragment]) -> usize {
+    let mut size = FRAME_BYTES;
     for fragment in list {
-        room = room.saturating_add(fragment.text(face).len());
+        size = size.saturating_add(fragment.text(face).len());
     }
-    room
+    size
 }
 
 fn push_start(text: &mut String, face: Face, version: u64, seat: u8) -> Result<(), OutOfMemory>

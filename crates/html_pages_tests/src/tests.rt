@@ -1,7 +1,7 @@
 //! Tables of widgets with their texts in both faces, and pages of them.
 ghost use Rattle.std.specs.Prelude.{◌≡◌};
 
-use html_pages::{Fragment, Fragments, draw_node, escape, frame};
+use html_pages::{Fragment, Fragments, Page, draw_node, escape, frame, frame_behind_room};
 use literal_text::{read_any, read_basic};
 use std::alloc::Global;
 use std::marker::Brand;
@@ -341,17 +341,28 @@ fn fragments(alloc: Global, widgets: &[Widget]) -> Result<Fragments, OutOfMemory
     Ok(list)
 }
 
-fn assert_page(
+// A page's version, its text and its bytes.
+fn assert_page(rt: &(impl Abort + AllocGlobal), page: Page, want: &str) -> Result<(), OutOfMemory> {
+    assert_eq!(rt; page.version(), u64::MAX);
+    assert_eq!(rt; page.text(), want);
+    assert_eq!(rt; page.into_bytes().as_slice(), want.as_bytes());
+    Ok(())
+}
+
+// The page of fragments, with and without room in front.
+fn assert_pages(
     rt: &(impl Abort + AllocGlobal),
     face: Face,
     list: &Fragments,
     want: &str,
 ) -> Result<(), OutOfMemory> {
-    let page = frame(rt.alloc(), face, u64::MAX, 64, list)?;
-    assert_eq!(rt; page.version(), u64::MAX);
-    assert_eq!(rt; page.text(), want);
-    assert_eq!(rt; page.into_bytes().as_slice(), want.as_bytes());
-    Ok(())
+    let alloc = rt.alloc();
+    assert_page(rt, frame(alloc, face, u64::MAX, 64, list)?, want)?;
+    assert_page(
+        rt,
+        frame_behind_room(alloc, face, u64::MAX, 64, list)?,
+        want,
+    )
 }
 
 #[test]
@@ -360,8 +371,8 @@ fn pages(rt: HostRuntime) -> Result<(), Fail> {
     let list = fragments(rt.alloc(), widgets.as_slice())?;
     assert_eq!(rt; list.len(), 2);
     let lines = "version 18446744073709551615 seat 64\n. then\n.S then\n";
-    assert_page(&rt, Face::Text, &list, lines)?;
-    assert_page(
+    assert_pages(&rt, Face::Text, &list, lines)?;
+    assert_pages(
         &rt,
         Face::Html,
         &list,
@@ -369,5 +380,36 @@ fn pages(rt: HostRuntime) -> Result<(), Fail> {
     )?;
     let terminal = draw_terminal(rt.alloc(), u64::MAX, 64, widgets.as_slice())?;
     assert_eq!(rt; terminal.as_str(), lines);
+    Ok(())
+}
+
+// A page behind a head of so many bytes.
+fn assert_headed(
+    rt: &(impl Abort + AllocGlobal),
+    page: Page,
+    size: usize,
+) -> Result<(), OutOfMemory> {
+    let alloc = rt.alloc();
+    let mut head = String::new(alloc);
+    for _ in 0..size {
+        head.push_str("h")?;
+    }
+    let want = format!(in alloc; "{head}{}", page.text())?;
+    let headed = page.behind(alloc, head.as_bytes())?;
+    assert_eq!(rt; headed.as_slice(), want.as_bytes());
+    Ok(())
+}
+
+// Heads that need less than the room, all of it, and more; and pages without room.
+#[test]
+fn heads(rt: HostRuntime) -> Result<(), Fail> {
+    let widgets = two_widgets(rt.alloc())?;
+    let list = fragments(rt.alloc(), widgets.as_slice())?;
+    for size in [0, 1, 255, 256, 257] {
+        let roomy = frame_behind_room(rt.alloc(), Face::Html, 7, 1, &list)?;
+        assert_headed(&rt, roomy, size)?;
+        let narrow = frame(rt.alloc(), Face::Html, 7, 1, &list)?;
+        assert_headed(&rt, narrow, size)?;
+    }
     Ok(())
 }

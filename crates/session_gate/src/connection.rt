@@ -93,7 +93,7 @@ fn serve_request<D: Desk, K: Link, R: Wait>(
 {
     let plan = Plan::of(&request);
     let answer = answer(rt, alloc, desk, request.asked);
-    let ready = Ready::of(alloc, &answer, plan.head_only, plan.is_last(left));
+    let ready = Ready::of(alloc, answer, plan.head_only, plan.is_last(left));
     trace.add(ready.note);
     kept.advance(request.length as usize);
     match send(link, ready.bytes.as_slice()) {

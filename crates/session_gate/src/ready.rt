@@ -20,15 +20,15 @@ pub(crate) struct Ready {
 impl Ready {
     /// The reply of an answer, which tells the end of the connection where that `closes`. An input that was taken is told without
     /// memory. Where there is none for another reply the connection ends by one that says so.
-    pub(crate) fn of(alloc: Global, answer: &Answer, head_only: bool, closes: bool) -> Ready
-        requires { HasPhrase (reply_of answer.now) }
-        ensures { IsReady answer.now head_only closes result.note (ready_bytes result.bytes) }
+    pub(crate) fn of(alloc: Global, answer: Answer, head_only: bool, closes: bool) -> Ready
+        requires { HasPhrase (reply_of answer) }
+        ensures { IsReady answer head_only closes result.note (ready_bytes result.bytes) }
     {
         let note = answer.note();
         let bytes = match note.kind {
             NoteKind::Taken => ReadyBytes::taken(note.version, closes),
             NoteKind::Memory => ReadyBytes::memory(),
-            _ => match ReadyBytes::whole(alloc, &answer.reply(), head_only, closes) {
+            _ => match ReadyBytes::of(alloc, answer, head_only, closes) {
                 Ok(bytes) => bytes,
                 Err(_) => return Ready::out_of_memory(note.version),
             },

@@ -1,16 +1,20 @@
-ghost use Rattle.std.specs.Prelude.{◌≡◌, false, true, IfOk};
-ghost use Rattle.http_replies.specs.Replies.{reply_bytes, taken_reply, memory_reply};
+ghost use Rattle.std.specs.Prelude.{◌≡◌, ◌≤◌, false, true, IfOk, IsOk, IsTrue};
+ghost use Rattle.http_replies.specs.Replies.{reply_bytes, page_reply, taken_reply, memory_reply};
 ghost use Rattle.http_replies.specs.ReplyForms.{HasPhrase, reply_term};
+ghost use Rattle.session_gate.specs.DeskAnswers.{reply_of};
 ghost use Rattle.session_gate.specs.ReadyBytes.{ready_bytes};
 
+use crate::answer::Answer;
+use html_pages::{Headed, Page};
 use http_replies::{HeadRoom, HttpReply, whole_reply, write_head};
 use std::alloc::Global;
-use task_model::OutOfMemory;
+use task_model::{Face, OutOfMemory};
 
-/// The bytes of a reply: a head alone, which takes no memory, or a whole reply.
+/// The bytes of a reply: a head alone, which takes no memory, a head with a page behind it, or a whole reply.
 #[derive(Drop)]
 pub(crate) enum ReadyBytes {
     Head(HeadRoom),
+    Page(Headed),
     Whole(Vec<u8>),
 }
 
@@ -33,8 +37,46 @@ impl ReadyBytes {
         ReadyBytes::Head(head)
     }
 
-    /// Any reply.
-    pub(crate) fn whole(
+    /// The reply of any answer. A page's bytes are copied only where the page has no room for the head.
+    pub(crate) fn of(
+        alloc: Global,
+        answer: Answer,
+        head_only: bool,
+        closes: bool,
+    ) -> Result<ReadyBytes, OutOfMemory>
+        requires { HasPhrase (reply_of answer) }
+        ensures { IfOk result (λ bytes. ready_bytes bytes ≡ reply_bytes (reply_of answer) head_only closes) }
+    {
+        match answer {
+            Answer::Page { face, page } => ReadyBytes::page(alloc, face, page, head_only, closes),
+            _ => ReadyBytes::whole(alloc, &answer.reply(), head_only, closes),
+        }
+    }
+
+    // The reply that shows a page. Its head alone takes no memory, and neither does a head in the room of the page.
+    fn page(
+        alloc: Global,
+        face: Face,
+        page: Page,
+        head_only: bool,
+        closes: bool,
+    ) -> Result<ReadyBytes, OutOfMemory>
+        ensures bytes { IfOk result (λ bytes. ready_bytes bytes ≡ reply_bytes (page_reply face page.text) head_only closes) }
+        ensures head { IsTrue head_only → IsOk result }
+        ensures room { 256 ≤ page.room → IsOk result }
+    {
+        let mut head = HeadRoom::new();
+        let size = page.text().len() as u64;
+        write_head(200, None, Some(face), size, closes, &mut head);
+        if head_only {
+            Ok(ReadyBytes::Head(head))
+        } else {
+            Ok(ReadyBytes::Page(page.behind(alloc, head.bytes())?))
+        }
+    }
+
+    // Any reply, in memory of its own.
+    fn whole(
         alloc: Global,
         reply: &HttpReply<'_>,
         head_only: bool,
@@ -52,6 +94,7 @@ impl ReadyBytes {
     {
         match self {
             ReadyBytes::Head(head) => head.bytes(),
+            ReadyBytes::Page(bytes) => bytes.as_slice(),
             ReadyBytes::Whole(bytes) => bytes.as_slice(),
         }
     }

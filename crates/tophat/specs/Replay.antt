@@ -8,7 +8,7 @@ use Rattle.task_model.specs.Running.State.{IsSeat, IsLegal, version_of}
 use Rattle.line_frame.specs.declared.finish.Finish.TheVariants.{Done}
 use Rattle.input_lines.specs.ScriptLines.{IsScriptLine, gives}
 use Rattle.input_lines.specs.EntryText.{entry_line, entry_text}
-use Rattle.tophat.specs.declared.ending.Ending.TheVariants.{Ran}
+use Rattle.tophat.specs.declared.ending.CommandEnding.TheVariants.{Ran}
 use Rattle.tophat.specs.Top.{Limits, Report}
 
 -- the printed entries of a history, each with its LF

@@ -9,12 +9,13 @@ mod tutorial;
 mod worked_rows;
 
 use block::assert_blocks;
-use case::{Case, PAIR, RUN, bytes, expect, files, one, words};
+use case::{Case, PAIR, RUN, bytes, expect, files, one, run, words};
+use command_words::{Command, read_command};
 use outer_io::{Got, MemSink, MemSource, Source};
 use std::alloc::Global;
 use std::test::Fail;
 use task_model::{OutOfMemory, Row};
-use tophat::tophat;
+use tophat::plain;
 
 #[test]
 fn worked_commands(rt: HostRuntime) -> Result<(), Fail> {
@@ -80,6 +81,40 @@ fn wrong_words(rt: HostRuntime) -> Result<(), Fail> {
         expect(&rt, &Case { words, ..RUN }, 5, (2, b"", USAGE))?;
     }
     Ok(expect(&rt, &Case { words: "", ..RUN }, 5, (2, b"", USAGE))?)
+}
+
+// What is to be served and with which numbers, as a text; or none where that isn't asked for.
+fn serving_of(alloc: Global, text: &str) -> Result<String, OutOfMemory> {
+    let words = words(alloc, text)?;
+    let mut serving = String::new(alloc);
+    if let Ok(Command::Serve { file, serving: of }) = read_command(alloc, words.as_slice()) {
+        serving.push_str(file.as_str())?;
+        for number in [
+            of.budget as u64,
+            of.seats as u64,
+            of.workers as u64,
+            of.port as u64,
+            of.connections,
+        ] {
+            let text = format!(in alloc; " {number}")?;
+            serving.push_str(text.as_str())?;
+        }
+    }
+    Ok(serving)
+}
+
+// The words of `serve` are read, and nothing of them is a plain command.
+#[test]
+fn served_words(rt: HostRuntime) -> Result<(), Fail> {
+    for row in worked_rows::SERVED_WORDS.split('\n') {
+        let (words, want) = row.split_once(" = ").unwrap_or((row, ""));
+        assert_eq!(rt; serving_of(rt.alloc(), words)?.as_str(), want, "{row}");
+        let (status, out, err) = run(rt.alloc(), &Case { words, ..RUN }, 5)?;
+        assert_eq!(rt; status, None, "{row}");
+        assert!(rt; out.taken().is_empty(), "{row}");
+        assert!(rt; err.taken().is_empty(), "{row}");
+    }
+    Ok(())
 }
 
 #[test]
@@ -319,7 +354,7 @@ fn left<I: Source>(input: &mut I) -> u64 {
 }
 
 // Three pages are asked for, in pieces of this size; the write of this number fails. The status, and how many bytes are then left.
-fn stopped_at(alloc: Global, piece: usize, write: u64) -> Result<(u8, u64), OutOfMemory>
+fn stopped_at(alloc: Global, piece: usize, write: u64) -> Result<(Option<u8>, u64), OutOfMemory>
     requires { 0 < piece }
 {
     let words = words(alloc, RUN.words)?;
@@ -328,7 +363,7 @@ fn stopped_at(alloc: Global, piece: usize, write: u64) -> Result<(u8, u64), OutO
     let mut input = MemSource::new(script, piece, Row::new(alloc));
     let mut out = MemSink::new(alloc, 4_096, one(alloc, write)?);
     let mut err = MemSink::new(alloc, 4_096, Row::new(alloc));
-    let status = tophat(
+    let status = plain(
         alloc,
         words.as_slice(),
         &mut files,
@@ -352,7 +387,7 @@ fn nothing_is_read_before_what_came_is_answered(rt: HostRuntime) -> Result<(), F
         (14, 1, 7),
         (14, 2, 0),
     ] {
-        assert_eq!(rt; stopped_at(rt.alloc(), piece, write)?, (6, want));
+        assert_eq!(rt; stopped_at(rt.alloc(), piece, write)?, (Some(6), want));
     }
     Ok(())
 }

@@ -16,7 +16,7 @@ ghost use Rattle.world_lock.specs.Sessions.{session_term};
 
 use crate::mark::Mark;
 use crate::shared::Shared;
-use html_pages::{Page, frame};
+use html_pages::{Page, frame_behind_room};
 use page_board::{BoardReader, Front, Moment};
 use session_desk::{PageStop, ViewStop};
 use std::alloc::Global;
@@ -54,14 +54,14 @@ impl<M: Mark> Model for Session<M> {
         (session_term (seen_session s.seat s.reader s.own.items s.page_at_calls)) s.seen s.share.parts s.share.amount };
 }
 
-// What a session shows of a moment: its version, and its page for the seat.
+// What a session shows of a moment: its version, and its page for the seat, behind room for the head of a reply.
 fn view(alloc: Global, face: Face, seat: u8, moment: &Moment) -> (u64, Result<Page, OutOfMemory>)
     ensures version { result.0 ≡ moment.now.version }
     ensures page { (h : _) → StandsFor moment.now h → IfOk result.1 (ShowsPage face h seat) }
 {
     (
         moment.version,
-        frame(alloc, face, moment.version, seat, &moment.fragments),
+        frame_behind_room(alloc, face, moment.version, seat, &moment.fragments),
     )
 }
 

@@ -1,5 +1,4 @@
-use Rattle.std.proofs.Common.{ap, sym, ◌∙◌}
-use Rattle.http_replies.specs.Replies.{ReplyTerm, reply_bytes}
+use Rattle.std.proofs.Common.{ap, ◌∙◌}
 use Rattle.session_gate.specs.ReadyBytes.{ready_bytes}
 use Rattle.session_gate.proofs.RoundLemmas.{ready_taken, ready_memory, ready_whole}
 use Rattle.session_gate.proofs.ready.Ready.of.Goals as goal
@@ -9,7 +8,5 @@ pub returns : goal.returns
 returns c = elim c.match-note.branch [
   | in-Taken w ↦ ready_taken c.note-note.ensures w.in-Taken.is (ap ready_bytes w.bytes-is ∙ w.taken-bytes.ensures)
   | in-Memory w ↦ ready_memory c.note-note.ensures w.in-Memory.is (ap ready_bytes w.bytes-is ∙ w.memory-bytes.ensures)
-  | in_default+in-Ok w ↦ ready_whole c.note-note.ensures w.in_default.not-Memory
-      (ap ready_bytes w.bytes-is ∙ w.in-Ok.ensures
-      ∙ ap (λ (z : ReplyTerm). reply_bytes z c.args.head_only c.args.closes) w.reply.ensures)
+  | in_default+in-Ok w ↦ ready_whole c.note-note.ensures w.in_default.not-Memory (ap ready_bytes w.bytes-is ∙ w.in-Ok.ensures)
 ]
