@@ -27,7 +27,8 @@ use Rattle.command_words.specs.Commands.{run}
 use Rattle.tophat.specs.Verdict.{accepted, IsVerdict}
 use Rattle.tophat.specs.Session.{Tells, answer_text}
 use Rattle.tophat.specs.Top.{limits, world, world_at, Reports}
-use Rattle.tophat.specs.Replay.{entries_text, show_line, replay_script, taken_lines, replayed, AreShort, AskAgain, IsReplayable}
+use Rattle.history_lines.specs.EntryLines.{entries_text}
+use Rattle.tophat.specs.Replay.{show_line, replay_script, taken_lines, replayed, AreShort, AskAgain, IsReplayable}
 use Rattle.tophat.proofs.SmallTrees.{legal_again}
 use Rattle.tophat.proofs.EntryLines.{entry_is_line, show_is_line}
 

@@ -7,15 +7,10 @@ use Rattle.task_model.specs.Syntax.Printed.{program_text}
 use Rattle.task_model.specs.Running.State.{IsSeat, IsLegal, version_of}
 use Rattle.line_frame.specs.declared.finish.Finish.TheVariants.{Done}
 use Rattle.input_lines.specs.ScriptLines.{IsScriptLine, gives}
-use Rattle.input_lines.specs.EntryText.{entry_line, entry_text}
+use Rattle.input_lines.specs.EntryText.{entry_line}
+use Rattle.history_lines.specs.EntryLines.{entries_text}
 use Rattle.tophat.specs.declared.ending.CommandEnding.TheVariants.{Ran}
 use Rattle.tophat.specs.Top.{Limits, Report}
-
--- the printed entries of a history, each with its LF
-abbrev pub entries_text : List ItemTerm → Text
-entries_text [] = []
-entries_text (opened p budget ∷ items) = entries_text items
-entries_text (took e ∷ items) = entry_text e ++ entries_text items
 
 -- the line that asks for the page of a seat
 abbrev pub show_line : ℕ → Text

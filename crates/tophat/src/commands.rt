@@ -61,8 +61,9 @@ fn is_plain(asked: &Result<Command, WordStop>) -> bool
     }
 }
 
-// Does what a plain command asks for, tells how it ended, and answers the status.
-fn perform<F: Files, I: Source, O: Sink, E: Sink>(
+/// Does what a plain command asks for, or tells that the words ask for none, and answers the status (docs/FORMATS.md, "Statuses"). It always
+/// returns.
+pub fn perform<F: Files, I: Source, O: Sink, E: Sink>(
     alloc: Global,
     asked: &Result<Command, WordStop>,
     files: &mut F,

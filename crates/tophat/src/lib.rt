@@ -17,7 +17,7 @@ mod type_fault;
 mod verdict;
 mod work;
 
-pub use commands::plain;
+pub use commands::{perform, plain};
 pub use ending::CommandEnding;
 pub use laws::{
     all_lines_are_answered, all_was_written, histories_are_replayed, one_report, statuses_tell_ends,

@@ -11,8 +11,8 @@ use Rattle.history_lines.specs.declared.entries_written.EntriesWritten.{EntriesW
 use Rattle.history_lines.specs.declared.entries_written.EntriesWritten.TheVariants as entries
 use Rattle.task_server.specs.declared.gate_state.GateState.{GateState}
 use Rattle.tophat.specs.Ended.{output_faults_after}
-use Rattle.tophat.specs.declared.ending.Ending.{Ending}
-use Rattle.tophat.specs.declared.ending.Ending.TheVariants as endings
+use Rattle.tophat.specs.declared.ending.CommandEnding.{CommandEnding}
+use Rattle.tophat.specs.declared.ending.CommandEnding.TheVariants as endings
 use Rattle.tophat_commands.specs.Courses.{IsWholeEnd, TakesPart, WritesServed, end_of_entries}
 
 -- the entries of a first part of a history are a first part of its entries' text

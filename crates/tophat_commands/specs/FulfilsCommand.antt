@@ -7,7 +7,7 @@ use Rattle.tophat.specs.Ending.{text_of}
 use Rattle.tophat.specs.Fulfils.{Fulfils}
 use Rattle.tophat.specs.Objects.{Around, Objects, IsUntouched}
 use Rattle.tophat.specs.Top.{Limits}
-use Rattle.tophat.specs.declared.ending.Ending.TheVariants.{Unopened}
+use Rattle.tophat.specs.declared.ending.CommandEnding.TheVariants.{Unopened}
 use Rattle.tophat.specs.declared.no_world.NoWorld.TheVariants.{Memory}
 use Rattle.tophat_commands.specs.Serves.{Serves}
 

@@ -5,8 +5,8 @@ use Rattle.task_model.specs.Terms.Tree.{State}
 use Rattle.task_model.specs.Terms.Item.{ItemTerm, opened}
 use Rattle.task_model.specs.Running.Checked.{CheckedTerm}
 use Rattle.task_model.specs.Running.State.{IsOpening}
-use Rattle.tophat.specs.declared.ending.Ending.{Ending}
-use Rattle.tophat.specs.declared.ending.Ending.TheVariants.{Absent, FileTooLong, FileFault, Unopened}
+use Rattle.tophat.specs.declared.ending.CommandEnding.{CommandEnding}
+use Rattle.tophat.specs.declared.ending.CommandEnding.TheVariants.{Absent, FileTooLong, FileFault, Unopened}
 use Rattle.tophat.specs.declared.no_world.NoWorld.{NoWorld}
 use Rattle.tophat.specs.declared.no_world.NoWorld.TheVariants.{Refused, OverBudget, Memory}
 use Rattle.tophat.specs.Verdict.{IsOnlyVerdict, accepted, refused}
@@ -33,7 +33,7 @@ pub record IsOpenedFrom (limit budget : ℕ) (holds : Option (Option Text)) (sta
   pub opened_of : IsOpenedOf budget bytes start
 
 -- The file holds no program that opens: it isn't there, or is too long, or can't be had, or its bytes have no opening.
-abbrev pub HasNoOpening : (limit budget : ℕ) → Option (Option Text) → Ending → Type 0
+abbrev pub HasNoOpening : (limit budget : ℕ) → Option (Option Text) → CommandEnding → Type 0
 HasNoOpening limit budget holds Absent = IsFile holds None
 HasNoOpening limit budget holds FileTooLong = (bytes : Text) × (limit < length bytes) × IsFile holds (Some bytes)
 HasNoOpening limit budget holds FileFault = ⊤

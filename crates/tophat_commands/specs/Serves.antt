@@ -10,34 +10,34 @@ use Rattle.tophat.specs.Ended.{Heard, NoneFailed, OneFailed, file_faults_after, 
 use Rattle.tophat.specs.Ending.{status_of, text_of}
 use Rattle.tophat.specs.Objects.{Around, Counted, Objects}
 use Rattle.tophat.specs.Top.{Limits}
-use Rattle.tophat.specs.declared.ending.Ending.{Ending}
-use Rattle.tophat.specs.declared.ending.Ending.TheVariants.{GateFault, Unopened}
+use Rattle.tophat.specs.declared.ending.CommandEnding.{CommandEnding}
+use Rattle.tophat.specs.declared.ending.CommandEnding.TheVariants.{GateFault, Unopened}
 use Rattle.tophat.specs.declared.no_world.NoWorld.TheVariants.{Memory}
 use Rattle.tophat_commands.specs.Courses.{GateCourse}
 use Rattle.tophat_commands.specs.ServedFiles.{HasNoOpening, IsOpenedFrom}
 
 -- No gate could be had at the port, and one call failed; or memory for it ran out.
-abbrev pub IsGateless : Counted → Ending → Type 0
+abbrev pub IsGateless : Counted → CommandEnding → Type 0
 IsGateless ports GateFault = OneFailed ports
 IsGateless ports (Unopened Memory) = NoneFailed ports
 IsGateless ports ending = ⊥
 
 module _ (l : Limits) (name : Text) (asked : ServeTerm) (o : Objects) (ports : Around (ℕ → Option GateTold)) where
   -- The file has no opening, and no gate was asked for.
-  pub record IsUnopened (ending : Ending) : Type 0 where
+  pub record IsUnopened (ending : CommandEnding) : Type 0 where
     pub none : HasNoOpening l.file asked.budget (o.files.before name) ending
     pub out : o.out.Untouched
     pub ports_are : ports.Untouched
 
   -- The file's program was opened, and no gate could be had.
-  pub record IsUngated (ending : Ending) : Type 0 where
+  pub record IsUngated (ending : CommandEnding) : Type 0 where
     pub start : List ItemTerm
     pub from : IsOpenedFrom l.file asked.budget (o.files.before name) start
     pub out : o.out.Untouched
     pub gateless : IsGateless ports.faults ending
 
   -- The file's program was opened, and a gate was made, which told this at first and tells that now.
-  pub record IsGated (now : GateTold) (ending : Ending) : Type 0 where
+  pub record IsGated (now : GateTold) (ending : CommandEnding) : Type 0 where
     pub start : List ItemTerm
     pub from : IsOpenedFrom l.file asked.budget (o.files.before name) start
     pub entry : GateTold
@@ -47,14 +47,14 @@ module _ (l : Limits) (name : Text) (asked : ServeTerm) (o : Objects) (ports : A
     pub course : GateCourse start asked entry now o.out.before o.out.now ending
 
   -- How far the command came, by whether a gate was had.
-  abbrev pub HasCome : Option GateTold → Ending → Type 0
+  abbrev pub HasCome : Option GateTold → CommandEnding → Type 0
   HasCome None ending = IsUnopened ending ⊎ IsUngated ending
   HasCome (Some now) ending = IsGated now ending
 
   -- The promise of a command that serves, and ended with this status and this gate: its file was asked for once, and the input is as it was;
   -- status, text on `err` and counts belong to one end; and so does what was written, by how far it came.
   pub record Serves (gate : Option GateTold) (status : ℕ) : Type 0 where
-    pub ending : Ending
+    pub ending : CommandEnding
     pub status_is : status ≡ status_of ending
     pub heard : Heard o.err (text_of name ending)
     pub request : AsksOnce l.file name o.files

@@ -19,14 +19,14 @@ use std::alloc::Global;
 use std::sync::Wait;
 use std::thread::Threads;
 use task_server::{ServeStop, Served, Serving, serve_opening};
-use tophat::{Ending, NoWorld};
+use tophat::{CommandEnding, NoWorld};
 use world_lock::Opening;
 
 /// A gate that was had, and how the command ends.
 #[derive(Drop)]
 pub(crate) struct Gated<G: Drop> {
     pub(crate) gate: G,
-    pub(crate) ending: Ending,
+    pub(crate) ending: CommandEnding,
 }
 
 /// Tells the port, serves the gate over the opened world, and writes the entries of the closed history.
@@ -48,7 +48,7 @@ pub(crate) fn serve_gate<G: Gate, O: Sink, R: Threads + Wait + Copy + Send + Syn
         Written::Whole => serve_told(rt, alloc, opening, gate, asked, out),
         Written::Failed => Gated {
             gate,
-            ending: Ending::WriteFault,
+            ending: CommandEnding::WriteFault,
         },
     }
 }
@@ -94,17 +94,17 @@ fn serve_told<G: Gate, O: Sink, R: Threads + Wait + Copy + Send + Sync>(
         asked.connections,
     );
     let ending = match result {
-        Ok(served) => write_served(alloc, &served, Ending::Wrote, out),
+        Ok(served) => write_served(alloc, &served, CommandEnding::Wrote, out),
         Err(ServeStop::GateFault(served)) => {
-            write_served(alloc, &served, Ending::GateFault, out)
+            write_served(alloc, &served, CommandEnding::GateFault, out)
         }
-        Err(ServeStop::Memory) => Ending::Unopened(NoWorld::Memory),
+        Err(ServeStop::Memory) => CommandEnding::Unopened(NoWorld::Memory),
     };
     Gated { gate, ending }
 }
 
 // Writes the entries of the closed history. The end is this one where they were written whole.
-fn write_served<O: Sink>(alloc: Global, served: &Served, whole: Ending, out: &mut O) -> Ending
+fn write_served<O: Sink>(alloc: Global, served: &Served, whole: CommandEnding, out: &mut O) -> CommandEnding
     requires whole { (state : GateState) × IsWholeEnd state whole }
     ensures wrote { (state : GateState) (line : Text) (first : Option Text) → IsWholeEnd state whole → Appends first (O.taken out.old) line
         → WritesServed state (line ++ entries_text (history_term served.now.closed.world.history)) first (O.taken out.new) result }
@@ -115,12 +115,12 @@ fn write_served<O: Sink>(alloc: Global, served: &Served, whole: Ending, out: &mu
 }
 
 // The end by how the entries were written.
-fn end_of(written: EntriesWritten, whole: Ending) -> Ending
+fn end_of(written: EntriesWritten, whole: CommandEnding) -> CommandEnding
     ensures { result ≡ end_of_entries whole written }
 {
     match written {
         EntriesWritten::Whole => whole,
-        EntriesWritten::Failed => Ending::WriteFault,
-        EntriesWritten::Memory => Ending::Unopened(NoWorld::Memory),
+        EntriesWritten::Failed => CommandEnding::WriteFault,
+        EntriesWritten::Memory => CommandEnding::Unopened(NoWorld::Memory),
     }
 }

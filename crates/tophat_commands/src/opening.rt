@@ -13,7 +13,7 @@ use outer_io::Files;
 use std::alloc::Global;
 use std::sync::Wait;
 use task_model::{Checked, TaskText};
-use tophat::{Ending, NoWorld, read_file, verdict_on};
+use tophat::{CommandEnding, NoWorld, read_file, verdict_on};
 use world_core::OpenStop;
 use world_lock::{Opening, make_opening};
 
@@ -25,7 +25,7 @@ pub(crate) fn open_file<F: Files, R: Wait + Copy>(
     budget: u32,
     seats: u8,
     files: &mut F,
-) -> Result<Opening<R>, Ending>
+) -> Result<Opening<R>, CommandEnding>
     requires budget { IsBudget budget }
     requires seats { IsSeat seats }
     ensures opened { IfOk result (λ o. IsOpenedFrom limits.file budget (F.holds files.old name.now) (history_term o.history)) }
@@ -38,7 +38,7 @@ pub(crate) fn open_file<F: Files, R: Wait + Copy>(
     match read_file(alloc, name, files) {
         Ok(bytes) => match open_bytes(rt, alloc, bytes.as_slice(), budget, seats) {
             Ok(opening) => Ok(opening),
-            Err(why) => Err(Ending::Unopened(why)),
+            Err(why) => Err(CommandEnding::Unopened(why)),
         },
         Err(ending) => Err(ending),
     }

@@ -15,14 +15,14 @@ use std::alloc::Global;
 use std::sync::Wait;
 use std::thread::Threads;
 use task_model::TaskText;
-use tophat::{Ending, NoWorld};
+use tophat::{CommandEnding, NoWorld};
 use world_lock::Opening;
 
 /// How far a command that serves came: the gate, where one was had, and how it ends.
 #[derive(Drop)]
 pub(crate) struct Come<G: Drop> {
     pub(crate) gate: Option<G>,
-    pub(crate) ending: Ending,
+    pub(crate) ending: CommandEnding,
 }
 
 /// Opens the program in the file of this name, listens at the port, and serves who comes.
@@ -67,11 +67,11 @@ fn serve_opened<O: Sink, P: Ports, R: Threads + Wait + Copy + Send + Sync>(
         }
         Listening::Failed => Come {
             gate: None,
-            ending: Ending::GateFault,
+            ending: CommandEnding::GateFault,
         },
         Listening::Memory => Come {
             gate: None,
-            ending: Ending::Unopened(NoWorld::Memory),
+            ending: CommandEnding::Unopened(NoWorld::Memory),
         },
     }
 }

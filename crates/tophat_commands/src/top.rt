@@ -5,7 +5,7 @@ ghost use Rattle.tophat.specs.Top.{limits};
 ghost use Rattle.tophat_commands.specs.FulfilsCommand.{FulfilsCommand};
 
 use crate::done::Done;
-use crate::serving::serve;
+use crate::serving::serve_file;
 use command_words::{Command, read_command};
 use outer_io::{Files, Sink, Source};
 use outer_ports::Ports;
@@ -13,7 +13,7 @@ use std::alloc::Global;
 use std::sync::Wait;
 use std::thread::Threads;
 use task_model::TaskText;
-use tophat::plain;
+use tophat::perform;
 
 /// Does what the words of a command line ask for, without the program's own name.
 ///
@@ -45,7 +45,7 @@ pub fn tophat<F: Files, I: Source, O: Sink, E: Sink, P: Ports, R: Threads + Wait
             Done { status: come.ending.status(), gate: come.gate }
         }
         asked => Done {
-            status: plain(alloc, asked, files, input, out, err),
+            status: perform(alloc, &asked, files, input, out, err),
             gate: None,
         },
     }
