@@ -14,11 +14,11 @@ pub record IsNewGate (gate : GateTold) : Type 0 where
   pub faults : gate.faults ≡ 0
 
 -- A gate comes only where one can be had. It tells what was told of it, and was not called yet.
-abbrev pub Opens : {G : Type 0} → (G → GateTold) → Option GateTold → Listening G → Type 0
-Opens tells None (Gate gate) = ⊥
-Opens tells (Some told) (Gate gate) = (tells gate ≡ told) × IsNewGate told
-Opens tells told Failed = ⊤
-Opens tells told Memory = ⊤
+abbrev pub GivesGate : {G : Type 0} → (G → GateTold) → Option GateTold → Listening G → Type 0
+GivesGate tells None (Gate gate) = ⊥
+GivesGate tells (Some told) (Gate gate) = (tells gate ≡ told) × IsNewGate told
+GivesGate tells told Failed = ⊤
+GivesGate tells told Memory = ⊤
 
 -- What is told of a port stays, unless a gate came.
 abbrev pub KeepsPort : {G : Type 0} → (old new : Option GateTold) → Listening G → Type 0

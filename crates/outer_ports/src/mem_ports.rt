@@ -2,7 +2,7 @@ ghost use Rattle.std.specs.Prelude.{◌≡◌, ◌≤◌, ◌↔◌, ◌==◌, �
 ghost use Rattle.outer_io.specs.Causes.{Rose};
 ghost use Rattle.outer_gates.specs.MemGates.{gate_in_memory};
 ghost use Rattle.outer_ports.specs.MemPorts.{told_at};
-ghost use Rattle.outer_ports.specs.Opening.{IsNewGate, Opens, KeepsPort, faults_after_listening};
+ghost use Rattle.outer_ports.specs.Opening.{IsNewGate, GivesGate, KeepsPort, faults_after_listening};
 
 use crate::listening::Listening;
 use crate::new_gate::NewGate;
@@ -47,7 +47,7 @@ impl Ports for MemPorts {
     ghost faults = { λ p. p.faults };
 
     fn listen(&mut self, _alloc: Global, port: u16) -> Listening<MemGate>
-        ensures gate { Opens gate_in_memory (told_at self.old port) result }
+        ensures gate { GivesGate gate_in_memory (told_at self.old port) result }
         ensures keeps { (other : ℕ) → KeepsPort (told_at self.old other) (told_at self.new other) result }
         ensures count { self.old.faults ≤ self.new.faults }
         ensures failed { result ≡ Listening.Failed → Rose self.old.faults self.new.faults }
