@@ -1,6 +1,9 @@
-//! What `input_lines` reads and prints: tests alone, of lines, their columns and the soak.
+//! What `input_lines` reads and prints: tests alone, of lines, their columns, the soak
+//! and the entries of histories.
 #![tactic(auto)]
 
+#[cfg(test)]
+mod entries;
 #[cfg(test)]
 mod limits;
 #[cfg(test)]

@@ -1,2 +1,3 @@
 mod listening;
 mod memory;
+mod ports;

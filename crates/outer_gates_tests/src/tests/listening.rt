@@ -5,7 +5,7 @@ use std::net::{TcpListener, TcpStream};
 use std::test::Fail;
 use std::time::Duration;
 
-fn times() -> LinkTimes {
+pub(crate) fn times() -> LinkTimes {
     LinkTimes {
         idle: Duration::from_millis(200),
         request: Duration::from_millis(200),
@@ -14,7 +14,7 @@ fn times() -> LinkTimes {
 }
 
 // The first three bytes of the next link, which is then shut.
-fn next_bytes<G: Gate>(gate: &mut G) -> Result<[u8; 3], Fail> {
+pub(crate) fn next_bytes<G: Gate>(gate: &mut G) -> Result<[u8; 3], Fail> {
     let mut room = [0u8; 3];
     match gate.accept() {
         Accept::Link(mut link) => {

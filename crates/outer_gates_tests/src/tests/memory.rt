@@ -16,7 +16,7 @@ fn link(alloc: Global) -> MemLink
     MemLink::new(source, MemSink::new(alloc, 9, Row::new(alloc)))
 }
 
-fn two_links(alloc: Global) -> Result<VecDeque<MemLink>, OutOfMemory>
+pub(crate) fn two_links(alloc: Global) -> Result<VecDeque<MemLink>, OutOfMemory>
     ensures { IfOk result (λ links. All (λ l. IsFresh (told_in_memory l)) links.items) }
 {
     let mut links = VecDeque::new(alloc);

@@ -1,0 +1,88 @@
+-- Where the writing of a history's entries stands.
+use Rattle.std.proofs.Common.{◌≡◌, ◌∙◌, ℕ, List, [], ◌∷◌, ◌++◌, Option, ap, refl, sym, subst, append_assoc, append-nil}
+use Rattle.std.specs.Io.KnownBytes.{Appends, Keeps}
+use Rattle.std.proofs.KnownBytes.{Appends-nil, Appends-trans}
+use Rattle.task_model.specs.Terms.Text.{Text}
+use Rattle.task_model.specs.Terms.Item.{ItemTerm, opened, took}
+use Rattle.input_lines.specs.EntryText.{entry_text}
+use Rattle.outer_io.specs.Links.{Beside}
+use Rattle.outer_io.specs.Sink.{IsStart}
+use Rattle.history_lines.specs.EntryLines.{WroteEntries, entries_text}
+use Rattle.history_lines.specs.declared.entries_written.EntriesWritten.TheVariants.{Whole, Failed, Memory}
+
+-- the lines of these items were written, and those of the rest are left
+pub record HasWritten (old now : Option (List ℕ)) (before count : ℕ) (first beside : Beside) (items rest : List ItemTerm) : Type 0 where
+  pub done : List ItemTerm
+  pub split : items ≡ done ++ rest
+  pub taken : Appends old now (entries_text done)
+  pub same : count ≡ before
+  pub keeps : beside ≡ first
+
+-- the lines of two histories, one behind the other
+pub entries_text-append : (xs ys : List ItemTerm) → entries_text (xs ++ ys) ≡ entries_text xs ++ entries_text ys
+entries_text-append [] ys = refl
+entries_text-append (opened p budget ∷ xs) ys = entries_text-append xs ys
+entries_text-append (took e ∷ xs) ys =
+    ap (λ t. entry_text e ++ t) (entries_text-append xs ys) ∙ sym (append_assoc (entry_text e) (entries_text xs) (entries_text ys))
+
+-- the next item is in front of the others that are left
+next_of : (done rest : List ItemTerm) (item : ItemTerm) → done ++ (item ∷ rest) ≡ (done ++ (item ∷ [])) ++ rest
+next_of done rest item = sym (append_assoc done (item ∷ []) rest)
+
+-- nothing is written yet
+pub begun : (now : Option (List ℕ)) (count : ℕ) (first : Beside) (items : List ItemTerm) → HasWritten now now count count first first items items
+begun now count first items = record { done = []; split = refl; taken = Appends-nil now; same = refl; keeps = refl }
+
+-- the next item was written
+pub written_next : (old mid new : Option (List ℕ)) (before now later : ℕ) (first next last : Beside) (items rest : List ItemTerm)
+    (item : ItemTerm) → HasWritten old mid before now first next items (item ∷ rest) → WroteEntries mid new (item ∷ []) Whole
+    → later ≡ now → last ≡ next → HasWritten old new before later first last items rest
+written_next old mid new before now later first next last items rest item w t e b = record {
+  done = w.done ++ (item ∷ []);
+  split = w.split ∙ next_of w.done rest item;
+  taken = rw (entries_text-append w.done (item ∷ []))
+      (Appends-trans old mid new (entries_text w.done) (entries_text (item ∷ [])) w.taken t);
+  same = e ∙ w.same;
+  keeps = b ∙ w.keeps;
+}
+
+-- all were written
+pub written_all : (old now : Option (List ℕ)) (before count : ℕ) (first beside : Beside) (items : List ItemTerm)
+    → HasWritten old now before count first beside items [] → WroteEntries old now items Whole
+written_all old now before count first beside items w =
+    subst (λ (xs : List ItemTerm). Appends old now (entries_text xs)) (sym (w.split ∙ append-nil w.done)) w.taken
+
+-- a write failed at the next item
+pub failed_next : (old mid new : Option (List ℕ)) (before count : ℕ) (first beside : Beside) (items rest : List ItemTerm) (item : ItemTerm)
+    → HasWritten old mid before count first beside items (item ∷ rest) → WroteEntries mid new (item ∷ []) Failed
+    → WroteEntries old new items Failed
+failed_next old mid new before count first beside items rest item w f = (
+  entries_text w.done ++ f.0,
+  (
+    f.1.0 ++ entries_text rest,
+    ap entries_text (w.split ∙ next_of w.done rest item)
+        ∙ entries_text-append (w.done ++ (item ∷ [])) rest
+        ∙ ap (λ t. t ++ entries_text rest) (entries_text-append w.done (item ∷ []))
+        ∙ ap (λ t. (entries_text w.done ++ t) ++ entries_text rest) f.1.1
+        ∙ ap (λ t. t ++ entries_text rest) (sym (append_assoc (entries_text w.done) f.0 f.1.0))
+        ∙ append_assoc (entries_text w.done ++ f.0) f.1.0 (entries_text rest),
+  ),
+  Appends-trans old mid new (entries_text w.done) f.0 w.taken f.2,
+)
+
+-- memory ran out at the next item
+pub ran_out_next : (old mid new : Option (List ℕ)) (before count : ℕ) (first beside : Beside) (items rest : List ItemTerm) (item : ItemTerm)
+    → HasWritten old mid before count first beside items (item ∷ rest) → WroteEntries mid new (item ∷ []) Memory
+    → WroteEntries old new items Memory
+ran_out_next old mid new before count first beside items rest item w m = (
+  w.done ++ m.0,
+  (
+    m.1.0,
+    m.1.1 ++ rest,
+    w.split ∙ next_of w.done rest item
+        ∙ ap (λ xs. (w.done ++ xs) ++ rest) m.1.2
+        ∙ ap (λ xs. xs ++ rest) (sym (append_assoc w.done m.0 (took m.1.0 ∷ m.1.1)))
+        ∙ append_assoc (w.done ++ m.0) (took m.1.0 ∷ m.1.1) rest,
+  ),
+  rw (entries_text-append w.done m.0) (Appends-trans old mid new (entries_text w.done) (entries_text m.0) w.taken m.2),
+)

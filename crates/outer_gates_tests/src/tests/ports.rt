@@ -1,0 +1,71 @@
+use crate::tests::listening::{next_bytes, times};
+use crate::tests::memory::two_links;
+use outer_gates::{ListenerGate, MemGate};
+use outer_ports::{Listening, MemPorts, Ports, SystemPorts};
+use std::alloc::Global;
+use std::io::Write;
+use std::net::{Net, TcpListener, TcpStream};
+use std::test::Fail;
+use std::time::Clock;
+use task_model::Row;
+
+// What comes of a call for a gate, in a word. A gate is dropped.
+fn answered<P: Ports>(ports: &mut P, alloc: Global, port: u16) -> &'static str {
+    match ports.listen(alloc, port) {
+        Listening::Gate(_) => "gate",
+        Listening::Failed => "failed",
+        Listening::Memory => "memory",
+    }
+}
+
+// A gate at a port of this machine, whatever tells the time there.
+fn listen_at<R: Net + Clock + Sync>(
+    rt: &R,
+    alloc: Global,
+    port: u16,
+) -> Listening<ListenerGate<'_, R>> {
+    SystemPorts::new(rt, times()).listen(alloc, port)
+}
+
+// A port of this machine at which nobody listens.
+fn free_port(rt: &HostRuntime) -> Result<u16, Fail> {
+    Ok(TcpListener::bind(rt, "127.0.0.1:0")?.local_addr()?.port())
+}
+
+#[test]
+fn ports_in_memory_have_one_gate(rt: HostRuntime) -> Result<(), Fail> {
+    let alloc = rt.alloc();
+    let gate = MemGate::new(alloc, two_links(alloc)?, Row::new(alloc))?;
+    let mut ports = MemPorts::new(80, Some(gate));
+    assert_eq!(rt; answered(&mut ports, alloc, 81), "failed");
+    assert_eq!(rt; answered(&mut ports, alloc, 80), "gate");
+    assert_eq!(rt; answered(&mut ports, alloc, 80), "failed");
+    let mut none = MemPorts::new(80, None);
+    assert_eq!(rt; answered(&mut none, alloc, 80), "failed");
+    Ok(())
+}
+
+#[test]
+fn a_free_port_of_this_machine_has_a_gate(rt: HostRuntime) -> Result<(), Fail> {
+    let port = free_port(&rt)?;
+    match listen_at(&rt, rt.alloc(), port) {
+        Listening::Gate(mut gate) => {
+            let mut asks = TcpStream::connect(&rt, ("127.0.0.1", port))?;
+            asks.write_all(b"ask")?;
+            assert_eq!(rt; next_bytes(&mut gate)?, *b"ask");
+        }
+        _ => return Err(Fail::from("no gate")),
+    }
+    Ok(())
+}
+
+#[test]
+fn a_port_that_is_taken_has_none(rt: HostRuntime) -> Result<(), Fail> {
+    let taken = TcpListener::bind(&rt, "127.0.0.1:0")?;
+    let port = taken.local_addr()?.port();
+    let mut ports = SystemPorts::new(&rt, times());
+    assert_eq!(rt; answered(&mut ports, rt.alloc(), port), "failed");
+    drop(taken);
+    assert_eq!(rt; answered(&mut ports, rt.alloc(), port), "gate");
+    Ok(())
+}

@@ -1,0 +1,2 @@
+pub mod MemPorts
+pub mod Opening
