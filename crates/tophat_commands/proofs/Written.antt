@@ -1,12 +1,12 @@
 -- What is written of a served gate.
-use Rattle.std.proofs.Common.{◌≡◌, ℕ, List, ◌++◌, Option, sym, ap, ◌∙◌, append_assoc}
+use Rattle.std.proofs.Common.{◌≡◌, ℕ, List, [], ◌∷◌, ◌++◌, Option, refl, sym, ap, ◌∙◌, append_assoc}
 use Rattle.std.specs.Io.KnownBytes.{Appends}
 use Rattle.std.proofs.KnownBytes.{Appends-trans}
-use Rattle.outer_io.specs.Causes.{next_count}
 use Rattle.outer_io.specs.Sink.{IsStart}
 use Rattle.task_model.specs.Terms.Text.{Text}
 use Rattle.task_model.specs.Terms.Item.{ItemTerm, opened, took}
-use Rattle.history_lines.specs.EntryLines.{AreBeforeEntry, WroteEntries, entries_text, faults_after_entries}
+use Rattle.input_lines.specs.EntryText.{entry_text}
+use Rattle.history_lines.specs.EntryLines.{WroteEntries, entries_text, faults_after_entries}
 use Rattle.history_lines.specs.declared.entries_written.EntriesWritten.{EntriesWritten}
 use Rattle.history_lines.specs.declared.entries_written.EntriesWritten.TheVariants as entries
 use Rattle.task_server.specs.declared.gate_state.GateState.{GateState}
@@ -15,8 +15,59 @@ use Rattle.tophat.specs.declared.ending.CommandEnding.{CommandEnding}
 use Rattle.tophat.specs.declared.ending.CommandEnding.TheVariants as endings
 use Rattle.tophat_commands.specs.Courses.{IsWholeEnd, TakesPart, WritesServed, end_of_entries}
 
--- the entries of a first part of a history are a first part of its entries' text
+-- the entries of a first part of a history stand in front of the others
 entries_append : (first more : List ItemTerm) → entries_text (first ++ more) ≡ entries_text first ++ entries_text more
 entries_append [] more = refl
 entries_append (opened p budget ∷ items) more = entries_append items more
-entries_append (took e ∷ items) more = ap (λ (t : Text). _ ++ t) (entries_append items more) ∙ sym (append_assoc _ (entries_text items) (entries_text more))
+entries_append (took e ∷ items) more =
+    ap (λ (t : Text). entry_text e ++ t) (entries_append items more) ∙ sym (append_assoc (entry_text e) (entries_text items) (entries_text more))
+
+-- a first part behind a line
+behind_line : (line part text : Text) → IsStart part text → IsStart (line ++ part) (line ++ text)
+behind_line line part text s = (s.0, ap (λ (t : Text). line ++ t) s.1 ∙ sym (append_assoc line part s.0))
+
+-- a line was taken, and then a first part of a text
+pub part_behind : (line part text : Text) (first mid new : Option Text) → IsStart part text → Appends first mid line → Appends mid new part
+    → TakesPart (line ++ text) first new
+part_behind line part text first mid new s begun went = (line ++ part, behind_line line part text s, Appends-trans first mid new line part begun went)
+
+-- the end where all was written
+whole_written : (state : GateState) (text : Text) (first new : Option Text) (whole : CommandEnding) → IsWholeEnd state whole → Appends first new text
+    → WritesServed state text first new whole
+whole_written state text first new endings.Wrote is took = (is, took)
+whole_written state text first new endings.GateFault is took = (is, took)
+whole_written state text first new endings.Usage is took = absurd is
+whole_written state text first new endings.Absent is took = absurd is
+whole_written state text first new endings.FileTooLong is took = absurd is
+whole_written state text first new endings.FileFault is took = absurd is
+whole_written state text first new (endings.Unopened why) is took = absurd is
+whole_written state text first new (endings.Ran finish) is took = absurd is
+whole_written state text first new endings.WriteFault is took = absurd is
+
+-- the entries were written behind a line
+pub served_written : (state : GateState) (line : Text) (items : List ItemTerm) (first mid new : Option Text) (whole : CommandEnding)
+    (written : EntriesWritten) → IsWholeEnd state whole → Appends first mid line → WroteEntries mid new items written
+    → WritesServed state (line ++ entries_text items) first new (end_of_entries whole written)
+served_written state line items first mid new whole entries.Whole is begun went =
+    whole_written state (line ++ entries_text items) first new whole is (Appends-trans first mid new line (entries_text items) begun went)
+served_written state line items first mid new whole entries.Failed is begun went =
+    part_behind line went.0 (entries_text items) first mid new went.1 begun went.2
+served_written state line items first mid new whole entries.Memory is begun went =
+    let (e, rest, all) = went.1 in
+    part_behind line (entries_text went.0) (entries_text items) first mid new
+        (entries_text (took e ∷ rest), ap entries_text all ∙ entries_append went.0 (took e ∷ rest)) begun went.2
+
+-- the count after the entries were written
+pub served_count : (state : GateState) (before : ℕ) (whole : CommandEnding) (written : EntriesWritten) → IsWholeEnd state whole
+    → faults_after_entries before written ≡ output_faults_after before (end_of_entries whole written)
+served_count state before endings.Wrote entries.Whole is = refl
+served_count state before endings.GateFault entries.Whole is = refl
+served_count state before endings.Usage entries.Whole is = absurd is
+served_count state before endings.Absent entries.Whole is = absurd is
+served_count state before endings.FileTooLong entries.Whole is = absurd is
+served_count state before endings.FileFault entries.Whole is = absurd is
+served_count state before (endings.Unopened why) entries.Whole is = absurd is
+served_count state before (endings.Ran finish) entries.Whole is = absurd is
+served_count state before endings.WriteFault entries.Whole is = absurd is
+served_count state before whole entries.Failed is = refl
+served_count state before whole entries.Memory is = refl

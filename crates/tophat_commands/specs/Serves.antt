@@ -22,43 +22,49 @@ IsGateless ports GateFault = OneFailed ports
 IsGateless ports (Unopened Memory) = NoneFailed ports
 IsGateless ports ending = ⊥
 
-module _ (l : Limits) (name : Text) (asked : ServeTerm) (o : Objects) (ports : Around (ℕ → Option GateTold)) where
-  -- The file has no opening, and no gate was asked for.
-  pub record IsUnopened (ending : CommandEnding) : Type 0 where
-    pub none : HasNoOpening l.file asked.budget (o.files.before name) ending
-    pub out : o.out.Untouched
+-- A gate was made at the port, which told this at first, and tells that now.
+pub record IsGated (start : List ItemTerm) (asked : ServeTerm) (out : Around (Option Text)) (ports : Around (ℕ → Option GateTold))
+    (now : GateTold) (ending : CommandEnding) : Type 0 where
+  pub entry : GateTold
+  pub told : ports.before asked.port ≡ Some entry
+  pub new : IsNewGate entry
+  pub faults : NoneFailed ports.faults
+  pub course : GateCourse start asked entry now out.before out.now ending
+
+-- What came of listening at the port, by whether a gate was had. Where none was, nothing was written.
+abbrev pub HasListened : List ItemTerm → ServeTerm → Around (Option Text) → Around (ℕ → Option GateTold) → Option GateTold → CommandEnding
+    → Type 0
+HasListened start asked out ports None ending = out.Untouched × IsGateless ports.faults ending
+HasListened start asked out ports (Some now) ending = IsGated start asked out ports now ending
+
+module _ (l : Limits) (name : Text) (asked : ServeTerm) (files : Around (Text → Option (Option Text))) (out : Around (Option Text))
+    (ports : Around (ℕ → Option GateTold)) (gate : Option GateTold) (ending : CommandEnding) where
+  -- The file has no opening. No gate was asked for, and nothing was written.
+  pub record IsUnopened : Type 0 where
+    pub none : HasNoOpening l.file asked.budget (files.before name) ending
+    pub out_is : out.Untouched
     pub ports_are : ports.Untouched
+    pub no_gate : gate ≡ None
 
-  -- The file's program was opened, and no gate could be had.
-  pub record IsUngated (ending : CommandEnding) : Type 0 where
+  -- The file's program was opened, and a gate was asked for at the port.
+  pub record IsOpenedAndServed : Type 0 where
     pub start : List ItemTerm
-    pub from : IsOpenedFrom l.file asked.budget (o.files.before name) start
-    pub out : o.out.Untouched
-    pub gateless : IsGateless ports.faults ending
+    pub from : IsOpenedFrom l.file asked.budget (files.before name) start
+    pub listened : HasListened start asked out ports gate ending
 
-  -- The file's program was opened, and a gate was made, which told this at first and tells that now.
-  pub record IsGated (now : GateTold) (ending : CommandEnding) : Type 0 where
-    pub start : List ItemTerm
-    pub from : IsOpenedFrom l.file asked.budget (o.files.before name) start
-    pub entry : GateTold
-    pub told : ports.before asked.port ≡ Some entry
-    pub new : IsNewGate entry
-    pub faults : NoneFailed ports.faults
-    pub course : GateCourse start asked entry now o.out.before o.out.now ending
+  -- How far the command came.
+  abbrev pub HasCome : Type 0
+  HasCome = IsUnopened ⊎ IsOpenedAndServed
 
-  -- How far the command came, by whether a gate was had.
-  abbrev pub HasCome : Option GateTold → CommandEnding → Type 0
-  HasCome None ending = IsUnopened ending ⊎ IsUngated ending
-  HasCome (Some now) ending = IsGated now ending
-
-  -- The promise of a command that serves, and ended with this status and this gate: its file was asked for once, and the input is as it was;
-  -- status, text on `err` and counts belong to one end; and so does what was written, by how far it came.
-  pub record Serves (gate : Option GateTold) (status : ℕ) : Type 0 where
-    pub ending : CommandEnding
-    pub status_is : status ≡ status_of ending
-    pub heard : Heard o.err (text_of name ending)
-    pub request : AsksOnce l.file name o.files
-    pub input : o.input.Untouched
-    pub file_count : o.files.faults.now ≡ file_faults_after o.files.faults.before ending
-    pub output_count : o.out.faults.now ≡ output_faults_after o.out.faults.before ending
-    pub come : HasCome gate ending
+-- The promise of a command that serves, and ended with this status and this gate: its file was asked for once, and the input is as it was;
+-- status, text on `err` and counts belong to one end, and so does what was written, by how far it came.
+pub record Serves (l : Limits) (name : Text) (asked : ServeTerm) (o : Objects) (ports : Around (ℕ → Option GateTold))
+    (gate : Option GateTold) (status : ℕ) : Type 0 where
+  pub ending : CommandEnding
+  pub status_is : status ≡ status_of ending
+  pub heard : Heard o.err (text_of name ending)
+  pub request : AsksOnce l.file name o.files
+  pub input : o.input.Untouched
+  pub file_count : o.files.faults.now ≡ file_faults_after o.files.faults.before ending
+  pub output_count : o.out.faults.now ≡ output_faults_after o.out.faults.before ending
+  pub come : HasCome l name asked o.files o.out ports gate ending

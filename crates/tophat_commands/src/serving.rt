@@ -1,16 +1,19 @@
-ghost use Rattle.std.specs.Prelude.{◌≡◌, ◌<◌, Option, option_map};
+ghost use Rattle.std.specs.Prelude.{◌≡◌, ◌<◌, ℕ, None, Some, option_map};
+ghost use Rattle.task_model.specs.Terms.Item.{history_term};
 ghost use Rattle.task_model.specs.Running.State.{IsBudget, IsSeat};
 ghost use Rattle.command_words.specs.Commands.{serve_term};
 ghost use Rattle.tophat.specs.Asks.{AsksOnce};
 ghost use Rattle.tophat.specs.Ended.{file_faults_after, output_faults_after};
 ghost use Rattle.tophat.specs.Objects.{around};
 ghost use Rattle.tophat.specs.Top.{limits};
+ghost use Rattle.tophat_commands.specs.Serves.{HasCome, HasListened};
 
 use crate::gating::{Gated, serve_gate};
 use crate::opening::open_file;
 use command_words::ServeWords;
-use outer_gates::{Listening, Ports};
+use outer_gates::Gate;
 use outer_io::{Files, Sink};
+use outer_ports::{Listening, Ports};
 use std::alloc::Global;
 use std::sync::Wait;
 use std::thread::Threads;
@@ -38,6 +41,12 @@ pub(crate) fn serve_file<F: Files, O: Sink, P: Ports, R: Threads + Wait + Copy +
     requires budget { IsBudget asked.budget }
     requires seats { IsSeat asked.seats }
     requires workers { 0 < asked.workers }
+    ensures come { HasCome limits name.now (serve_term asked.now) (around F.holds F.faults files.old files.new)
+        (around O.taken O.faults out.old out.new) (around P.opens P.faults ports.old ports.new) (option_map P.Gate.told result.gate)
+        result.ending }
+    ensures request { AsksOnce limits.file name.now (around F.holds F.faults files.old files.new) }
+    ensures file_count { F.faults files.new ≡ file_faults_after (F.faults files.old) result.ending }
+    ensures output_count { O.faults out.new ≡ output_faults_after (O.faults out.old) result.ending }
 {
     match open_file(rt, alloc, name, asked.budget, asked.seats, files) {
         Ok(opening) => serve_opened(rt, alloc, opening, asked, out, ports),
@@ -56,22 +65,30 @@ fn serve_opened<O: Sink, P: Ports, R: Threads + Wait + Copy + Send + Sync>(
 ) -> Come<P::Gate>
     requires seats { (opening.seats ≡ asked.seats) × IsSeat opening.seats }
     requires workers { 0 < asked.workers }
+    ensures listened { HasListened (history_term opening.history) (serve_term asked.now) (around O.taken O.faults out.old out.new)
+        (around P.opens P.faults ports.old ports.new) (option_map P.Gate.told result.gate) result.ending }
+    ensures no_file { (before : ℕ) → file_faults_after before result.ending ≡ before }
+    ensures output_count { O.faults out.new ≡ output_faults_after (O.faults out.old) result.ending }
 {
     match ports.listen(alloc, asked.port) {
-        Listening::Gate(gate) => {
-            let Gated { gate, ending } = serve_gate(rt, alloc, opening, gate, asked, out);
-            Come {
-                gate: Some(gate),
-                ending,
-            }
-        }
-        Listening::Failed => Come {
-            gate: None,
-            ending: CommandEnding::GateFault,
-        },
-        Listening::Memory => Come {
-            gate: None,
-            ending: CommandEnding::Unopened(NoWorld::Memory),
-        },
+        Listening::Gate(gate) => had(serve_gate(rt, alloc, opening, gate, asked, out)),
+        Listening::Failed => none(CommandEnding::GateFault),
+        Listening::Memory => none(CommandEnding::Unopened(NoWorld::Memory)),
     }
+}
+
+fn had<G: Gate>(gated: Gated<G>) -> Come<G>
+    ensures { result ≡ record { gate = Some gated.gate; ending = gated.ending } }
+{
+    let Gated { gate, ending } = gated;
+    Come {
+        gate: Some(gate),
+        ending,
+    }
+}
+
+fn none<G: Gate>(ending: CommandEnding) -> Come<G>
+    ensures { result ≡ record { gate = None; ending = ending } }
+{
+    Come { gate: None, ending }
 }
