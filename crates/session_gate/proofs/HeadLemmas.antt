@@ -1,5 +1,5 @@
 -- The heads of pages.
-use Rattle.std.proofs.Common.{◌≡◌, ℕ, ◌+◌, ◌<◌, ◌≤◌, ◌^◌, Bool, true, false, ◌++◌, length, codes, decimal, Some, None, ap, sym, ◌∙◌, arith, length-append}
+use Rattle.std.proofs.Common.{ℕ, ◌<◌, ◌≤◌, ◌^◌, Bool, true, false, ◌++◌, length, codes, decimal, Some, None, arith, length-append}
 use Rattle.std.proofs.lemmas.Fmt.{length-decimal-le}
 use Rattle.task_model.specs.Terms.Text.{Text}
 use Rattle.task_model.specs.declared.widget.Face.{Face}
@@ -9,9 +9,8 @@ use Rattle.http_replies.specs.Replies.{close_line, head_line, reply_head_text, t
 size_line : (size : ℕ) → size < 2 ^ 64 → length (head_line (codes "Content-Length: " ++ decimal size)) ≤ 38
 size_line size small =
     let digits : length (decimal size) ≤ 20 = length-decimal-le 20 size (omega arith) (omega (arith, small)) small in
-    let one : length (codes "Content-Length: " ++ decimal size) ≡ 16 + length (decimal size) = length-append (codes "Content-Length: ") (decimal size) in
-    let two = length-append (codes "Content-Length: " ++ decimal size) (codes "\r\n") in
-    omega (arith, digits, one, two)
+    let name = codes "Content-Length: " in
+    omega (arith, digits, length-append name (decimal size), length-append (name ++ decimal size) (codes "\r\n"))
 
 short : (a b c d : Text) → length a ≤ 17 → length b ≤ 41 → length c ≤ 38 → length d ≤ 21 → length (a ++ (b ++ (c ++ d))) ≤ 256
 short a b c d al bl cl dl = omega (arith, al, bl, cl, dl, length-append a (b ++ (c ++ d)), length-append b (c ++ d), length-append c d)
@@ -35,14 +34,16 @@ page_head kind end size small k e =
     short (head_line (codes "HTTP/1.1 " ++ (decimal 200 ++ codes " OK"))) kind (head_line (codes "Content-Length: " ++ decimal size))
     (end ++ codes "\r\n") ok_line_fits k (size_line size small) last
 
+kind_fits : (face : Face) → length (type_line (Some face)) ≤ 41
+kind_fits faces.Text = omega arith
+kind_fits faces.Html = omega arith
+
+close_fits : (closes : Bool) → length (close_line closes) ≤ 19
+close_fits true = omega arith
+close_fits false = omega arith
+
 -- the head of a page has at most 256 bytes
 pub page_head_fits : (face : Face) (size : ℕ) (closes : Bool) → size < 2 ^ 64
     → length (reply_head_text 200 None (Some face) size closes) ≤ 256
-page_head_fits faces.Text size true small =
-    page_head (type_line (Some faces.Text)) (close_line true) size small (omega arith) (omega arith)
-page_head_fits faces.Text size false small =
-    page_head (type_line (Some faces.Text)) (close_line false) size small (omega arith) (omega arith)
-page_head_fits faces.Html size true small =
-    page_head (type_line (Some faces.Html)) (close_line true) size small (omega arith) (omega arith)
-page_head_fits faces.Html size false small =
-    page_head (type_line (Some faces.Html)) (close_line false) size small (omega arith) (omega arith)
+page_head_fits face size closes small =
+    page_head (type_line (Some face)) (close_line closes) size small (kind_fits face) (close_fits closes)

@@ -1,25 +1,22 @@
 -- What the parts of a round make of it.
-use Rattle.std.proofs.Common.{◌≡◌, ◌≢◌, ℕ, ◌+◌, ◌-◌, ◌^◌, ◌<◌, ◌≤◌, ◌||◌, ◌==◌, Bool, true, false, List, [], ◌∷◌, ◌++◌, length, drop, Option, Some, None, is_some, refl, ap, sym, subst, ◌∙◌, arith, append_assoc, append-nil}
-use Rattle.outer_io.specs.Causes.{next_count}
+use Rattle.std.proofs.Common.{◌≡◌, ◌≢◌, ℕ, ◌-◌, ◌||◌, ◌==◌, Bool, true, false, List, [], ◌∷◌, ◌++◌, drop, Option, Some, None, is_some, refl, ap, sym, subst, ◌∙◌, arith, append-nil}
 use Rattle.outer_io.specs.Links.{LinkTold}
-use Rattle.outer_io.specs.Sink.{faults_after_text}
 use Rattle.outer_io.specs.declared.sink.Written.{Written}
 use Rattle.outer_io.specs.declared.sink.Written.TheVariants as written
 use Rattle.task_model.specs.Terms.Text.{Text}
 use Rattle.task_model.specs.Running.State.{IsLegal, version_of}
-use Rattle.http_requests.specs.Requests.{RequestTerm, AskedTerm, asks_page, asks_act, refused, IsRequest}
+use Rattle.http_requests.specs.Requests.{RequestTerm, AskedTerm, asks_page, asks_act, refused}
 use Rattle.http_requests.specs.Streams.{BeginsWith, is_last, ends_asked}
-use Rattle.http_replies.specs.Replies.{ReplyTerm, memory_reply, taken_reply, reply_bytes}
+use Rattle.http_replies.specs.Replies.{ReplyTerm, memory_reply, reply_bytes}
 use Rattle.session_gate.specs.DeskAnswers.{IsDeskAnswer, IsReady, as_answered, out_of_memory, note_of, reply_of, memory_note}
-use Rattle.session_gate.specs.Connections.{AllGoOn, AreWritten, Exchange, IsEnding, IsLastOf, read_faults_after, write_faults_after}
+use Rattle.session_gate.specs.Connections.{AreWritten, Exchange, IsEnding, read_faults_after, write_faults_after}
 use Rattle.session_desk.specs.Desks.{DeskTerm}
 use Rattle.session_gate.specs.Notes.{closes_after, is_memory, taken_entry, wants_head}
 use Rattle.session_gate.specs.Plans.{closing_status, asked_ending, ending_after}
 use Rattle.session_gate.specs.Readings.{Reading}
-use Rattle.session_gate.specs.Rounds.{AnswersAtMostOne, EndsAfter, GoesOnAfter, IsRound, IsRoundEnd}
+use Rattle.session_gate.specs.Rounds.{AnswersAtMostOne, IsRound, IsRoundEnd}
 use Rattle.session_gate.specs.Sendings.{Sending}
 use Rattle.session_gate.specs.declared.answer.Answer.{Answer}
-use Rattle.session_gate.specs.declared.answer.Answer.TheVariants as answer
 use Rattle.session_gate.specs.declared.ending.Ending.{Ending}
 use Rattle.session_gate.specs.declared.ending.Ending.TheVariants as ending
 use Rattle.session_gate.specs.declared.note.Note.{Note}
@@ -158,10 +155,6 @@ memory_answers asked old new note reply n a = record {
 or_true : (b : Bool) → (b || true) ≡ true
 or_true true = refl
 or_true false = refl
-
-or_false : (b : Bool) → (b || false) ≡ b
-or_false true = refl
-or_false false = refl
 
 or_swap : (x m l : Bool) → ((x || l) || m) ≡ ((x || m) || l)
 or_swap true m l = refl
@@ -331,58 +324,3 @@ round_cut {bytes = bytes} {note = note} {r = r} begins advanced answer ready sam
     write_faults = sent.write_faults;
   };
 }
-
--- ---- what a reply's bytes are
-pub taken_is : (a : Answer) → (note_of a).kind ≡ kind.Taken → reply_of a ≡ taken_reply (note_of a).version
-taken_is (answer.Page face page) e = absurd cc
-taken_is (answer.Taken version) e = refl
-taken_is (answer.NotOffered version) e = absurd cc
-taken_is (answer.Over version) e = absurd cc
-taken_is (answer.Ahead version) e = absurd cc
-taken_is (answer.Refused status text version) e = absurd cc
-taken_is (answer.Memory version) e = absurd cc
-
-pub memory_is : (a : Answer) → (note_of a).kind ≡ kind.Memory → reply_of a ≡ memory_reply
-memory_is (answer.Page face page) e = absurd cc
-memory_is (answer.Taken version) e = absurd cc
-memory_is (answer.NotOffered version) e = absurd cc
-memory_is (answer.Over version) e = absurd cc
-memory_is (answer.Ahead version) e = absurd cc
-memory_is (answer.Refused status text version) e = absurd cc
-memory_is (answer.Memory version) e = refl
-
-taken_head : (version : ℕ) (head_only closes : Bool) → reply_bytes (taken_reply version) false closes
-    ≡ reply_bytes (taken_reply version) head_only closes
-taken_head version true closes = refl
-taken_head version false closes = refl
-
-not_memory : (k : NoteKind) → k ≢ kind.Memory → is_memory k ≡ false
-not_memory kind.Page n = refl
-not_memory kind.Taken n = refl
-not_memory kind.NotOffered n = refl
-not_memory kind.Over n = refl
-not_memory kind.Ahead n = refl
-not_memory (kind.Refused status) n = refl
-not_memory kind.Memory n = absurd (n refl)
-
-module _ {a : Answer} {head_only closes : Bool} {note : Note} {bytes : Text} (n : note ≡ note_of a) where
-  pub ready_taken : note.kind ≡ kind.Taken → bytes ≡ reply_bytes (taken_reply note.version) false closes
-      → IsReady a head_only closes note bytes
-  ready_taken k e =
-      let is : (note_of a).kind ≡ kind.Taken = ap (λ (z : Note). z.kind) (sym n) ∙ k in
-      as_answered n
-      (e ∙ ap (λ (z : Note). reply_bytes (taken_reply z.version) false closes) n ∙ taken_head (note_of a).version head_only closes
-      ∙ ap (λ (z : ReplyTerm). reply_bytes z head_only closes) (sym (taken_is a is))
-      ∙ ap (reply_bytes (reply_of a) head_only) (sym (or_false closes) ∙ ap (λ (z : NoteKind). closes || is_memory z) (sym k)))
-
-  pub ready_memory : note.kind ≡ kind.Memory → bytes ≡ reply_bytes memory_reply false true → IsReady a head_only closes note bytes
-  ready_memory k e =
-      let is : (note_of a).kind ≡ kind.Memory = ap (λ (z : Note). z.kind) (sym n) ∙ k in
-      as_answered n
-      (e ∙ memory_head head_only true ∙ ap (λ (z : ReplyTerm). reply_bytes z head_only true) (sym (memory_is a is))
-      ∙ ap (reply_bytes (reply_of a) head_only) (sym (or_true closes) ∙ ap (λ (z : NoteKind). closes || is_memory z) (sym k)))
-
-  pub ready_whole : note.kind ≢ kind.Memory → bytes ≡ reply_bytes (reply_of a) head_only closes → IsReady a head_only closes note bytes
-  ready_whole k e =
-      as_answered n
-      (e ∙ ap (reply_bytes (reply_of a) head_only) (sym (or_false closes) ∙ ap (λ (z : Bool). closes || z) (sym (not_memory note.kind k))))

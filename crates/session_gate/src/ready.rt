@@ -25,15 +25,10 @@ impl Ready {
         ensures { IsReady answer head_only closes result.note (ready_bytes result.bytes) }
     {
         let note = answer.note();
-        let bytes = match note.kind {
-            NoteKind::Taken => ReadyBytes::taken(note.version, closes),
-            NoteKind::Memory => ReadyBytes::memory(),
-            _ => match ReadyBytes::of(alloc, answer, head_only, closes) {
-                Ok(bytes) => bytes,
-                Err(_) => return Ready::out_of_memory(note.version),
-            },
-        };
-        Ready { note, bytes }
+        match ReadyBytes::of(alloc, answer, head_only, closes) {
+            Ok(bytes) => Ready { note, bytes },
+            Err(_) => Ready::out_of_memory(note.version),
+        }
     }
 
     /// The reply where memory ran out at this version.

@@ -1,12 +1,14 @@
-ghost use Rattle.std.specs.Prelude.{◌≡◌, ◌≤◌, false, true, IfOk, IsOk, IsTrue};
+ghost use Rattle.std.specs.Prelude.{◌≡◌, ◌≢◌, ◌≤◌, ◌||◌, false, true, IfOk, IsOk, IsTrue, OnErr};
 ghost use Rattle.http_replies.specs.Replies.{reply_bytes, page_reply, taken_reply, memory_reply};
-ghost use Rattle.http_replies.specs.ReplyForms.{HasPhrase, reply_term};
-ghost use Rattle.session_gate.specs.DeskAnswers.{reply_of};
+ghost use Rattle.http_replies.specs.ReplyForms.{HasPhrase};
+ghost use Rattle.session_gate.specs.DeskAnswers.{note_of, reply_of};
+ghost use Rattle.session_gate.specs.Notes.{is_memory};
+ghost use Rattle.session_gate.specs.declared.note_kind.NoteKind.TheVariants.{Taken};
 ghost use Rattle.session_gate.specs.ReadyBytes.{ready_bytes};
 
 use crate::answer::Answer;
 use html_pages::{Headed, Page};
-use http_replies::{HeadRoom, HttpReply, whole_reply, write_head};
+use http_replies::{HeadRoom, whole_reply, write_head};
 use std::alloc::Global;
 use task_model::{Face, OutOfMemory};
 
@@ -19,8 +21,8 @@ pub(crate) enum ReadyBytes {
 }
 
 impl ReadyBytes {
-    /// The reply to an input that led to this version.
-    pub(crate) fn taken(version: u64, closes: bool) -> ReadyBytes
+    // The reply to an input that led to this version.
+    fn taken(version: u64, closes: bool) -> ReadyBytes
         ensures { ready_bytes result ≡ reply_bytes (taken_reply version) false closes }
     {
         let mut head = HeadRoom::new();
@@ -37,7 +39,8 @@ impl ReadyBytes {
         ReadyBytes::Head(head)
     }
 
-    /// The reply of any answer. A page's bytes are copied only where the page has no room for the head.
+    /// The reply of an answer, which tells the end of the connection where that `closes` or memory ran out. A page's bytes are copied only
+    /// where the page has no room for the head. It fails only where memory runs out, and never for an input that was taken.
     pub(crate) fn of(
         alloc: Global,
         answer: Answer,
@@ -45,11 +48,15 @@ impl ReadyBytes {
         closes: bool,
     ) -> Result<ReadyBytes, OutOfMemory>
         requires { HasPhrase (reply_of answer) }
-        ensures { IfOk result (λ bytes. ready_bytes bytes ≡ reply_bytes (reply_of answer) head_only closes) }
+        ensures bytes { IfOk result (λ bytes. ready_bytes bytes
+            ≡ reply_bytes (reply_of answer) head_only (closes || is_memory (note_of answer).kind)) }
+        ensures err { OnErr result ((note_of answer).kind ≢ Taken) }
     {
         match answer {
+            Answer::Taken { version } => Ok(ReadyBytes::taken(version, closes)),
+            Answer::Memory { .. } => Ok(ReadyBytes::memory()),
             Answer::Page { face, page } => ReadyBytes::page(alloc, face, page, head_only, closes),
-            _ => ReadyBytes::whole(alloc, &answer.reply(), head_only, closes),
+            other => ReadyBytes::whole(alloc, &other, head_only, closes),
         }
     }
 
@@ -75,17 +82,18 @@ impl ReadyBytes {
         }
     }
 
-    // Any reply, in memory of its own.
+    // The reply of any answer, in memory of its own.
     fn whole(
         alloc: Global,
-        reply: &HttpReply<'_>,
+        answer: &Answer,
         head_only: bool,
         closes: bool,
     ) -> Result<ReadyBytes, OutOfMemory>
-        requires { HasPhrase (reply_term reply.now) }
-        ensures { IfOk result (λ bytes. ready_bytes bytes ≡ reply_bytes (reply_term reply.now) head_only closes) }
+        requires { HasPhrase (reply_of answer.now) }
+        ensures { IfOk result (λ bytes. ready_bytes bytes ≡ reply_bytes (reply_of answer.now) head_only closes) }
     {
-        Ok(ReadyBytes::Whole(whole_reply(alloc, reply, head_only, closes)?))
+        let bytes = whole_reply(alloc, &answer.reply(), head_only, closes)?;
+        Ok(ReadyBytes::Whole(bytes))
     }
 
     /// The bytes.

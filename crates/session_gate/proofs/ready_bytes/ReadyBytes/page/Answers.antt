@@ -10,5 +10,5 @@ pub returns-in_err-behind-clause-room : goal.returns-in_err-behind-clause-room
 returns-in_err-behind-clause-room c = λ roomy.
     let small : length c.text.result.now < 2 ^ 64 = omega arith in
     let fits : length c.bytes.result.now ≤ 256 = subst (λ (l : Text). length l ≤ 256) (sym (c.bytes.ensures ∙ c.write_head.ensures))
-        (page_head_fits c.args.face (length c.text.result.now) c.args.closes small) in
+    (page_head_fits c.args.face (length c.text.result.now) c.args.closes small) in
     absurd (never (c.in_err-behind.ensures.room (omega (arith, fits, roomy))))
