@@ -138,6 +138,15 @@ report_exists l command file verdict script plain =
     command_reported l command file verdict (λ w told. TellsScript (Tells l.line w 1) l.script script told) plain
     (λ w. script_exists l.line l.script w script)
 
+-- of a command that needs more nothing is reported
+pub nothing_reported : (l : Limits) (command : Option CommandTerm) (file : Option Text) (verdict : Verdict) (script : Text)
+    (report : Report) → NeedsMore command → Reports l command file verdict script report → ⊥
+nothing_reported l None file verdict script report more d = more
+nothing_reported l (Some (run name budget)) file verdict script report more d = more
+nothing_reported l (Some (check name)) file verdict script report more d = more
+nothing_reported l (Some (soak count seed)) file verdict script report more d = more
+nothing_reported l (Some (serve name serving)) file verdict script report more d = d
+
 -- the same of lines
 pub lines_reported : (l : Limits) (command : Option CommandTerm) (file : Option Text) (verdict : Verdict) (lines : List Text)
     (finish : Finish)

@@ -56,8 +56,11 @@ fn is_plain(asked: &Result<Command, WordStop>) -> bool
     ensures { IsTrue result ↔ IfOk asked.now (λ c. NeedsMore (Some (command_term c)) → ⊥) }
 {
     match asked {
+        Ok(Command::Run { .. }) => true,
+        Ok(Command::Check { .. }) => true,
+        Ok(Command::Soak { .. }) => true,
         Ok(Command::Serve { .. }) => false,
-        _ => true,
+        Err(_) => true,
     }
 }
 

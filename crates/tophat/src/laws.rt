@@ -23,14 +23,16 @@ ghost use Rattle.tophat.specs.declared.ending.CommandEnding.TheVariants as endin
 ghost use Rattle.tophat.specs.declared.no_world.NoWorld.TheVariants as reasons;
 ghost use Rattle.tophat.specs.declared.refusal.Refusal.{Refusal};
 
-/// A command that needs no threads and no sockets has exactly one report on a file, a verdict on its source and a script, and there is one on
-/// each first part of a script. Of the other ones nothing is reported.
+/// A plain command has exactly one report on a file, a verdict on its source and a script, and there is one on each first part of a script.
+/// Of a command that needs more nothing is reported.
 pub fn one_report()
     ensures some { (l : Limits) (command : Option CommandTerm) (file : Option Text) (verdict : Verdict) (script : Text) →
         (NeedsMore command → ⊥) → (report : Report) × Reports l command file verdict script report }
     ensures one { (l : Limits) (command : Option CommandTerm) (file : Option Text) (verdict : Verdict) (script : Text) (one other : Report)
         →
         Reports l command file verdict script one → Reports l command file verdict script other → one ≡ other }
+    ensures nothing { (l : Limits) (command : Option CommandTerm) (file : Option Text) (verdict : Verdict) (script : Text) (report : Report)
+        → NeedsMore command → Reports l command file verdict script report → ⊥ }
     ensures lines { (l : Limits) (command : Option CommandTerm) (file : Option Text) (verdict : Verdict) (lines : List Text)
         (finish : Finish) → (NeedsMore command → ⊥) → (report : Report) × ReportsLines l command file verdict lines finish report }
 {}
