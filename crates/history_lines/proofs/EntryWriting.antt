@@ -1,9 +1,11 @@
 -- Where the writing of a history's entries stands.
-use Rattle.std.proofs.Common.{◌≡◌, ◌∙◌, ℕ, List, [], ◌∷◌, ◌++◌, Option, ap, refl, sym, subst, append_assoc, append-nil}
+use Rattle.std.proofs.Common.{◌≡◌, ◌∙◌, ℕ, ◌+◌, ◌<◌, List, [], ◌∷◌, ◌++◌, Option, ap, refl, sym, subst, length, drop, get_or, append_assoc, append-nil}
+use Rattle.std.proofs.lemmas.List.{drop_more}
 use Rattle.std.specs.Io.KnownBytes.{Appends, Keeps}
 use Rattle.std.proofs.KnownBytes.{Appends-nil, Appends-trans}
 use Rattle.task_model.specs.Terms.Text.{Text}
-use Rattle.task_model.specs.Terms.Item.{ItemTerm, opened, took}
+use Rattle.task_model.specs.Terms.Item.{ItemTerm, opened, took, history_term, item_term}
+use Rattle.task_model.specs.declared.item.Item.{Item}
 use Rattle.input_lines.specs.EntryText.{entry_text}
 use Rattle.outer_io.specs.Links.{Beside}
 use Rattle.outer_io.specs.Sink.{IsStart}
@@ -29,9 +31,15 @@ entries_text-append (took e ∷ xs) ys =
 next_of : (done rest : List ItemTerm) (item : ItemTerm) → done ++ (item ∷ rest) ≡ (done ++ (item ∷ [])) ++ rest
 next_of done rest item = sym (append_assoc done (item ∷ []) rest)
 
--- nothing is written yet
-pub begun : (now : Option (List ℕ)) (count : ℕ) (first : Beside) (items : List ItemTerm) → HasWritten now now count count first first items items
-begun now count first items = record { done = []; split = refl; taken = Appends-nil now; same = refl; keeps = refl }
+-- the item at a place is the next one that is left
+pub at_item : (old now : Option (List ℕ)) (before count : ℕ) (first beside : Beside) (items : List Item) (i : ℕ) (item : Item)
+    → i < length items → item ≡ get_or items i item
+    → HasWritten old now before count first beside (history_term items) (history_term (drop i items))
+    → HasWritten old now before count first beside (history_term items) (item_term item ∷ history_term (drop (i + 1) items))
+at_item old now before count first beside items i item lt is w =
+    let front : history_term (drop i items) ≡ item_term item ∷ history_term (drop (i + 1) items) =
+        ap history_term (drop_more items i item lt ∙ ap (λ x. x ∷ drop (i + 1) items) (sym is)) in
+    subst (λ (rest : List ItemTerm). HasWritten old now before count first beside (history_term items) rest) front w
 
 -- the next item was written
 pub written_next : (old mid new : Option (List ℕ)) (before now later : ℕ) (first next last : Beside) (items rest : List ItemTerm)
@@ -45,12 +53,6 @@ written_next old mid new before now later first next last items rest item w t e 
   same = e ∙ w.same;
   keeps = b ∙ w.keeps;
 }
-
--- all were written
-pub written_all : (old now : Option (List ℕ)) (before count : ℕ) (first beside : Beside) (items : List ItemTerm)
-    → HasWritten old now before count first beside items [] → WroteEntries old now items Whole
-written_all old now before count first beside items w =
-    subst (λ (xs : List ItemTerm). Appends old now (entries_text xs)) (sym (w.split ∙ append-nil w.done)) w.taken
 
 -- a write failed at the next item
 pub failed_next : (old mid new : Option (List ℕ)) (before count : ℕ) (first beside : Beside) (items rest : List ItemTerm) (item : ItemTerm)
