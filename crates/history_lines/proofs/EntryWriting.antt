@@ -38,7 +38,7 @@ pub at_item : (old now : Option (List ℕ)) (before count : ℕ) (first beside :
     → HasWritten old now before count first beside (history_term items) (item_term item ∷ history_term (drop (i + 1) items))
 at_item old now before count first beside items i item lt is w =
     let front : history_term (drop i items) ≡ item_term item ∷ history_term (drop (i + 1) items) =
-        ap history_term (drop_more items i item lt ∙ ap (λ x. x ∷ drop (i + 1) items) (sym is)) in
+    ap history_term (drop_more items i item lt ∙ ap (λ x. x ∷ drop (i + 1) items) (sym is)) in
     subst (λ (rest : List ItemTerm). HasWritten old now before count first beside (history_term items) rest) front w
 
 -- the next item was written

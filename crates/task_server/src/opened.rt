@@ -46,17 +46,7 @@ fn serve_marked<M: Mark + Send + Sync, G: Gate, R: Threads + Wait + Copy + Send 
     ensures { IsResult M.start M.seats 0 connections (G.told gate) (G.told result.gate) result.result }
 {
     match open::<M, R>(alloc, opening) {
-        Ok((shared, sessions)) => {
-            serve(
-                rt,
-                alloc,
-                shared,
-                sessions,
-                gate,
-                workers,
-                connections,
-            )
-        }
+        Ok((shared, sessions)) => { serve(rt, alloc, shared, sessions, gate, workers, connections) }
         Err(OutOfMemory) => Serving {
             gate,
             result: Err(ServeStop::Memory),

@@ -55,7 +55,7 @@ served_written state line items first mid new whole entries.Failed is begun went
 served_written state line items first mid new whole entries.Memory is begun went =
     let (e, rest, all) = went.1 in
     part_behind line (entries_text went.0) (entries_text items) first mid new
-        (entries_text (took e ∷ rest), ap entries_text all ∙ entries_append went.0 (took e ∷ rest)) begun went.2
+    (entries_text (took e ∷ rest), ap entries_text all ∙ entries_append went.0 (took e ∷ rest)) begun went.2
 
 -- the count after the entries were written
 pub served_count : (state : GateState) (before : ℕ) (whole : CommandEnding) (written : EntriesWritten) → IsWholeEnd state whole

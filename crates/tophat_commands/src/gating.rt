@@ -104,7 +104,12 @@ fn serve_told<G: Gate, O: Sink, R: Threads + Wait + Copy + Send + Sync>(
 }
 
 // Writes the entries of the closed history. The end is this one where they were written whole.
-fn write_served<O: Sink>(alloc: Global, served: &Served, whole: CommandEnding, out: &mut O) -> CommandEnding
+fn write_served<O: Sink>(
+    alloc: Global,
+    served: &Served,
+    whole: CommandEnding,
+    out: &mut O,
+) -> CommandEnding
     requires whole { (state : GateState) × IsWholeEnd state whole }
     ensures wrote { (state : GateState) (line : Text) (first : Option Text) → IsWholeEnd state whole → Appends first (O.taken out.old) line
         → WritesServed state (line ++ entries_text (history_term served.now.closed.world.history)) first (O.taken out.new) result }

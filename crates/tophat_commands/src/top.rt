@@ -20,7 +20,14 @@ use tophat::perform;
 /// `run FILE` reads the program in FILE, opens it, and runs the script on the input; `check FILE` writes the program's text again;
 /// `soak N SEED` runs inputs of its own; `serve FILE` opens the program in FILE, and serves it over HTTP at a port (docs/FORMATS.md, "Words"
 /// and "Statuses"). A fault of `err` changes no status. A gate that was had comes back in each case.
-pub fn tophat<F: Files, I: Source, O: Sink, E: Sink, P: Ports, R: Threads + Wait + Copy + Send + Sync>(
+pub fn tophat<
+    F: Files,
+    I: Source,
+    O: Sink,
+    E: Sink,
+    P: Ports,
+    R: Threads + Wait + Copy + Send + Sync,
+>(
     rt: &R,
     alloc: Global,
     words: &[TaskText],
@@ -42,7 +49,10 @@ pub fn tophat<F: Files, I: Source, O: Sink, E: Sink, P: Ports, R: Threads + Wait
         Ok(Command::Serve { file, serving }) => {
             let come = serve_file(rt, alloc, &file, &serving, files, out, ports);
             let _ = come.ending.tell(err, file.as_str().as_bytes());
-            Done { status: come.ending.status(), gate: come.gate }
+            Done {
+                status: come.ending.status(),
+                gate: come.gate,
+            }
         }
         asked => Done {
             status: perform(alloc, &asked, files, input, out, err),

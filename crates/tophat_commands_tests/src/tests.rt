@@ -15,7 +15,13 @@ fn an_input_and_its_page_in_pieces_of_any_size(rt: HostRuntime) -> Result<(), Fa
 
 #[test]
 fn served_links(rt: HostRuntime) -> Result<(), Fail> {
-    for case in [&rows::TURNS, &rows::ONE_SEAT, &rows::STATED_NUMBER, &rows::NO_LINK, &rows::NO_HISTORY] {
+    for case in [
+        &rows::TURNS,
+        &rows::ONE_SEAT,
+        &rows::STATED_NUMBER,
+        &rows::NO_LINK,
+        &rows::NO_HISTORY,
+    ] {
         expect(&rt, case, 4096)?;
     }
     Ok(())

@@ -118,7 +118,12 @@ fn told(rt: &HostRuntime, case: &Case<'_>, piece: usize) -> Result<String, Fail>
     text_of(alloc, &done, &out, &err)
 }
 
-fn text_of(alloc: Global, done: &Done<MemGate>, out: &MemSink, err: &MemSink) -> Result<String, Fail> {
+fn text_of(
+    alloc: Global,
+    done: &Done<MemGate>,
+    out: &MemSink,
+    err: &MemSink,
+) -> Result<String, Fail> {
     let mut text = format!(in alloc; "status {}\n", done.status)?;
     push_bytes(alloc, &mut text, out.taken())?;
     push_bytes(alloc, &mut text, err.taken())?;

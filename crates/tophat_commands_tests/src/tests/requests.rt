@@ -8,5 +8,6 @@ pub(super) const NEXT: &str =
 
 pub(super) const AHEAD: &str = "GET /?v=99 HTTP/1.1\r\nHost: a\r\n\r\n";
 
-pub(super) const SET_AND_PAGE: &str = "POST / HTTP/1.1\r\nHost: a\r\nContent-Length: 29\r\n\r\npath=.&act=set&as=int&value=4\
+pub(super) const SET_AND_PAGE: &str =
+    "POST / HTTP/1.1\r\nHost: a\r\nContent-Length: 29\r\n\r\npath=.&act=set&as=int&value=4\
     GET /?v=1&face=text HTTP/1.1\r\nHost: a\r\n\r\n";
