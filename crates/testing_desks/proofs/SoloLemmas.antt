@@ -1,24 +1,19 @@
 -- What a world's answers make of a desk over it.
-use Rattle.std.proofs.Common.{◌≡◌, ℕ, List, [], ◌∷◌, ◌++◌, map, Result, Ok, Err, IfOk, refl, ap, sym, subst, ◌∙◌, arith}
+use Rattle.std.proofs.Common.{◌≡◌, ℕ, List, [], ◌∷◌, ◌++◌, Result, Ok, Err, refl, ap, sym, subst, ◌∙◌, arith}
 use Rattle.std.specs.Prelude.{IsErrAnd}
 use Rattle.task_model.specs.Terms.Input.{InputTerm}
 use Rattle.task_model.specs.Terms.Item.{ItemTerm, history_term, took}
 use Rattle.task_model.specs.Running.Checked.{CheckedTerm}
 use Rattle.task_model.specs.Running.Outcome.{Outcome, IsOutcome, not_offered, over_budget}
-use Rattle.task_model.specs.Running.State.{IsLegal, IsState, entries_of, version_of}
+use Rattle.task_model.specs.Running.State.{IsLegal, IsState, entries_of}
 use Rattle.task_model.specs.Checking.Accepted.{IsAccepted, typed_program}
-use Rattle.task_model.specs.Showing.Widget.{WidgetTerm}
 use Rattle.task_model.specs.declared.stops.ActStop.{ActStop}
 use Rattle.task_model.specs.declared.stops.ActStop.TheVariants.{NotOffered, Over}
-use Rattle.task_model.specs.declared.widget.Face.{Face}
-use Rattle.task_model.specs.declared.widget.Face.TheVariants as faces
-use Rattle.html_pages.specs.Fragments.{FragmentTerm, PageTerm, face_text, fragment_of}
 use Rattle.task_laws.proofs.EntryLemmas.{entries_own}
-use Rattle.world_core.specs.Pages.{AreFragments}
 use Rattle.world_core.specs.World.{IsStanding, Replies, SeenWorld, WorldTerm, world_term}
 use Rattle.world_core.specs.declared.answers.Taken.{Taken}
 use Rattle.world_core.proofs.WorldLemmas.{standing_state}
-use Rattle.session_desk.specs.Desks.{IsTakenBy, ShowsPage, seat_entry}
+use Rattle.session_desk.specs.Desks.{IsTakenBy, seat_entry}
 use Rattle.session_desk.specs.Outcomes.{HasOutcome}
 use Rattle.testing_desks.specs.SoloDesks.{solo_desk}
 
@@ -78,15 +73,3 @@ solo_taken seat w v calls input done r legal =
       ends = (history_term w.history, grew);
       version = r.3;
     }
-
--- ---- pages
--- a page of what is drawn of a history's widgets is the history's
-pub solo_page : {E : Type 0} (face : Face) (h : List ItemTerm) (seat version : ℕ) (fs : List FragmentTerm) (r : Result PageTerm E)
-    → version ≡ version_of h → AreFragments h fs → IfOk r (λ page. page.version ≡ version)
-    → ((ws : List WidgetTerm) → fs ≡ map fragment_of ws → IfOk r (λ page. page.text ≡ face_text face version seat ws))
-    → IfOk r (ShowsPage face h seat)
-solo_page face h seat version fs (Err e) counted drawn told shown = tt
-solo_page faces.Text h seat version fs (Ok page) counted (ws, has, drawn) told shown =
-    (told ∙ counted, (ws, has, shown ws drawn ∙ ap (λ (v : ℕ). face_text faces.Text v seat ws) counted))
-solo_page faces.Html h seat version fs (Ok page) counted (ws, has, drawn) told shown =
-    (told ∙ counted, (ws, has, shown ws drawn ∙ ap (λ (v : ℕ). face_text faces.Html v seat ws) counted))
