@@ -1,3 +1,4 @@
+use Rattle.std.proofs.Common.{◌∙◌, sym, true≢false}
 use Rattle.command_words.specs.Commands.{command_of}
 use Rattle.tophat.proofs.PromiseLemmas.{needs_more, only_memory}
 use Rattle.tophat.proofs.commands.plain.Goals as goal
@@ -9,4 +10,5 @@ returns-then-is_plain-clause-other g c =
 
 pub returns-else-is_plain-clause-other : goal.returns-else-is_plain-clause-other
 returns-else-is_plain-clause-other g c =
-    needs_more c.read_command-asked.result (command_of c.args.words.now) c.read_command-asked.ensures.asked ?
+    needs_more c.read_command-asked.result (command_of c.args.words.now) c.read_command-asked.ensures.asked
+    (λ plain. true≢false (sym (c.is_plain.ensures.1 plain) ∙ c.if-is_plain.false))
