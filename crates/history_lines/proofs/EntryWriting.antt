@@ -1,14 +1,12 @@
 -- Where the writing of a history's entries stands.
-use Rattle.std.proofs.Common.{◌≡◌, ◌∙◌, ℕ, ◌+◌, ◌<◌, List, [], ◌∷◌, ◌++◌, Option, ap, refl, sym, subst, length, drop, get_or, append_assoc, append-nil}
+use Rattle.std.proofs.Common.{◌≡◌, ◌∙◌, ℕ, ◌+◌, ◌<◌, List, [], ◌∷◌, ◌++◌, Option, ap, refl, sym, subst, length, drop, get_or, append_assoc}
 use Rattle.std.proofs.lemmas.List.{drop_more}
-use Rattle.std.specs.Io.KnownBytes.{Appends, Keeps}
-use Rattle.std.proofs.KnownBytes.{Appends-nil, Appends-trans}
-use Rattle.task_model.specs.Terms.Text.{Text}
+use Rattle.std.specs.Io.KnownBytes.{Appends}
+use Rattle.std.proofs.KnownBytes.{Appends-trans}
 use Rattle.task_model.specs.Terms.Item.{ItemTerm, opened, took, history_term, item_term}
 use Rattle.task_model.specs.declared.item.Item.{Item}
 use Rattle.input_lines.specs.EntryText.{entry_text}
 use Rattle.outer_io.specs.Links.{Beside}
-use Rattle.outer_io.specs.Sink.{IsStart}
 use Rattle.history_lines.specs.EntryLines.{WroteEntries, entries_text}
 use Rattle.history_lines.specs.declared.entries_written.EntriesWritten.TheVariants.{Whole, Failed, Memory}
 

@@ -20,8 +20,8 @@ entries_text (took e ∷ items) = entry_text e ++ entries_text items
 abbrev pub AreBeforeEntry : (first items : List ItemTerm) → Type 0
 AreBeforeEntry first items = (e : EntryTerm) × (rest : List ItemTerm) × (items ≡ first ++ (took e ∷ rest))
 
--- all entries were written; or a first part of their lines, where a write failed; or the lines of those in front of an entry for which memory
--- ran out
+-- all entries were written; or a first part of their lines, where a write failed; or the lines of those in front of an entry for which
+-- memory ran out
 abbrev pub WroteEntries : Option (List ℕ) → Option (List ℕ) → List ItemTerm → EntriesWritten → Type 0
 WroteEntries old new items Whole = Appends old new (entries_text items)
 WroteEntries old new items Failed = (part : List ℕ) × IsStart part (entries_text items) × Appends old new part
