@@ -1,0 +1,46 @@
+-- Engines may go to other threads where their definitions may, and worlds where their parts may.
+use denote.Param.Send.{IsSend, sendable, view_send}
+use denote.Param.SendFields.{FieldsHave, declared_send, as_row_send}
+use denote.Struct.Field.{u32-field}
+use denote.Hole.{as_row}
+use Rattle.std.proofs.Crossing.{crosses}
+use Rattle.std.proofs.option.Option.TheSendSync as options
+use Rattle.task_model.proofs.row.Row.TheSendSync as rows
+use Rattle.task_model.specs.contracts.item.Item as item
+use Rattle.task_model.specs.contracts.value.Value as value
+use Rattle.shared_store.specs.contracts.store.Store as store
+use Rattle.live_tree.specs.contracts.tree.LiveTree as live_tree
+use Rattle.world_core.specs.contracts.prepared.Prepared as prepared
+use Rattle.world_core.specs.contracts.world.World as world
+use Rattle.world_core.specs.contracts.world.World.TheInside as within
+use Rattle.host_eval.specs.contracts.definitions.Definitions as definitions
+use Rattle.task_engine.specs.contracts.engine.Engine as engine
+use Rattle.task_engine.specs.contracts.engine.Engine.TheInside as inside
+
+u32_send : IsSend (as_row u32-field)
+u32_send = search sendable
+
+pub engine_send : IsSend definitions.the_row → IsSend engine.the_row
+engine_send d =
+    let parts : FieldsHave IsSend inside.the_type.parts = (
+      search (crosses, as_row_send, sendable) depth 20,
+      (
+        d,
+        (
+          search (crosses, as_row_send, sendable) depth 20,
+          (
+            search (rows.the_send, crosses, as_row_send, sendable) depth 20,
+            (search (rows.the_send, crosses, as_row_send, sendable) depth 20, tt),
+          ),
+        ),
+      ),
+    )
+    in view_send _ _ _ _ _ (declared_send inside.the_type parts)
+
+pub world_send :
+    IsSend engine.the_row → IsSend item.the_row → IsSend live_tree.the_row → IsSend (store.the_row value.the_row) → IsSend world.the_row
+world_send e i l s =
+    let both : FieldsHave IsSend prepared.the_type.parts = (i, (l, tt)) in
+    let parts : FieldsHave IsSend within.the_type.parts =
+    (e, (u32_send, (rows.the_send item.the_row i, (l, (s, (options.the_send prepared.the_row (declared_send prepared.the_type both), tt))))))
+    in view_send _ _ _ _ _ (declared_send within.the_type parts)
