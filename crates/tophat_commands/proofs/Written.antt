@@ -13,7 +13,7 @@ use Rattle.task_server.specs.declared.gate_state.GateState.{GateState}
 use Rattle.tophat.specs.Ended.{output_faults_after}
 use Rattle.tophat.specs.declared.ending.CommandEnding.{CommandEnding}
 use Rattle.tophat.specs.declared.ending.CommandEnding.TheVariants as endings
-use Rattle.tophat_commands.specs.Courses.{IsWholeEnd, TakesPart, WritesServed, end_of_entries}
+use Rattle.tophat_commands.specs.Courses.{IsEndOfAll, TakesPart, WritesServed, end_of_entries}
 
 -- the entries of a first part of a history stand in front of the others
 entries_append : (first more : List ItemTerm) → entries_text (first ++ more) ≡ entries_text first ++ entries_text more
@@ -32,7 +32,7 @@ pub part_behind : (line part text : Text) (first mid new : Option Text) → IsSt
 part_behind line part text first mid new s begun went = (line ++ part, behind_line line part text s, Appends-trans first mid new line part begun went)
 
 -- the end where all was written
-whole_written : (state : GateState) (text : Text) (first new : Option Text) (whole : CommandEnding) → IsWholeEnd state whole → Appends first new text
+whole_written : (state : GateState) (text : Text) (first new : Option Text) (whole : CommandEnding) → IsEndOfAll state whole → Appends first new text
     → WritesServed state text first new whole
 whole_written state text first new endings.Wrote is took = (is, took)
 whole_written state text first new endings.GateFault is took = (is, took)
@@ -46,7 +46,7 @@ whole_written state text first new endings.WriteFault is took = absurd is
 
 -- the entries were written behind a line
 pub served_written : (state : GateState) (line : Text) (items : List ItemTerm) (first mid new : Option Text) (whole : CommandEnding)
-    (written : EntriesWritten) → IsWholeEnd state whole → Appends first mid line → WroteEntries mid new items written
+    (written : EntriesWritten) → IsEndOfAll state whole → Appends first mid line → WroteEntries mid new items written
     → WritesServed state (line ++ entries_text items) first new (end_of_entries whole written)
 served_written state line items first mid new whole entries.Whole is begun went =
     whole_written state (line ++ entries_text items) first new whole is (Appends-trans first mid new line (entries_text items) begun went)
@@ -58,7 +58,7 @@ served_written state line items first mid new whole entries.Memory is begun went
     (entries_text (took e ∷ rest), ap entries_text all ∙ entries_append went.0 (took e ∷ rest)) begun went.2
 
 -- the count after the entries were written
-pub served_count : (state : GateState) (before : ℕ) (whole : CommandEnding) (written : EntriesWritten) → IsWholeEnd state whole
+pub served_count : (state : GateState) (before : ℕ) (whole : CommandEnding) (written : EntriesWritten) → IsEndOfAll state whole
     → faults_after_entries before written ≡ output_faults_after before (end_of_entries whole written)
 served_count state before endings.Wrote entries.Whole is = refl
 served_count state before endings.GateFault entries.Whole is = refl

@@ -37,10 +37,10 @@ WritesServed state text old new (Unopened Memory) = TakesPart text old new
 WritesServed state text old new ending = ⊥
 
 -- The end where all is written, by whether the gate has failed.
-abbrev pub IsWholeEnd : GateState → CommandEnding → Type 0
-IsWholeEnd state Wrote = IsFailed state → ⊥
-IsWholeEnd state GateFault = IsFailed state
-IsWholeEnd state ending = ⊥
+abbrev pub IsEndOfAll : GateState → CommandEnding → Type 0
+IsEndOfAll state Wrote = IsFailed state → ⊥
+IsEndOfAll state GateFault = IsFailed state
+IsEndOfAll state ending = ⊥
 
 -- The end by how the entries were written.
 abbrev pub end_of_entries : CommandEnding → EntriesWritten → CommandEnding

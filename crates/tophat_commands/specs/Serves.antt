@@ -48,9 +48,9 @@ module _ (l : Limits) (name : Text) (asked : ServeTerm) (files : Around (Text â†
 
   -- The file's program was opened, and a gate was asked for at the port.
   pub record IsOpenedAndServed : Type 0 where
-    pub start : List ItemTerm
-    pub from : IsOpenedFrom l.file asked.budget (files.before name) start
-    pub listened : HasListened start asked out ports gate ending
+    pub opening : List ItemTerm
+    pub from : IsOpenedFrom l.file asked.budget (files.before name) opening
+    pub listened : HasListened opening asked out ports gate ending
 
   -- How far the command came.
   abbrev pub HasCome : Type 0

@@ -8,7 +8,7 @@ ghost use Rattle.command_words.specs.Commands.{serve_term};
 ghost use Rattle.history_lines.specs.EntryLines.{entries_text};
 ghost use Rattle.task_server.specs.declared.gate_state.GateState.{GateState};
 ghost use Rattle.tophat.specs.Ended.{output_faults_after};
-ghost use Rattle.tophat_commands.specs.Courses.{GateCourse, IsServedWhole, IsStarved, IsWholeEnd, WritesServed, end_of_entries, port_line};
+ghost use Rattle.tophat_commands.specs.Courses.{GateCourse, IsServedWhole, IsStarved, IsEndOfAll, WritesServed, end_of_entries, port_line};
 
 use command_words::ServeWords;
 use history_lines::{EntriesWritten, write_entries};
@@ -110,8 +110,8 @@ fn write_served<O: Sink>(
     whole: CommandEnding,
     out: &mut O,
 ) -> CommandEnding
-    requires whole { (state : GateState) × IsWholeEnd state whole }
-    ensures wrote { (state : GateState) (line : Text) (first : Option Text) → IsWholeEnd state whole → Appends first (O.taken out.old) line
+    requires whole { (state : GateState) × IsEndOfAll state whole }
+    ensures wrote { (state : GateState) (line : Text) (first : Option Text) → IsEndOfAll state whole → Appends first (O.taken out.old) line
         → WritesServed state (line ++ entries_text (history_term served.now.closed.world.history)) first (O.taken out.new) result }
     ensures count { O.faults out.new ≡ output_faults_after (O.faults out.old) result }
 {
