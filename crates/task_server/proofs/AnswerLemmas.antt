@@ -1,5 +1,5 @@
 -- What is answered at a history is answered at each that goes on from it.
-use Rattle.std.proofs.Common.{◌≡◌, ℕ, List, [], ◌∷◌, ◌++◌, length, map, Option, None, Some, refl, ap, sym, subst, ◌∙◌, ◌+◌, arith, append_assoc, length-append}
+use Rattle.std.proofs.Common.{◌≡◌, ℕ, List, [], ◌∷◌, ◌++◌, length, map, Option, None, Some, refl, ap, sym, subst, ◌∙◌, ◌+◌, ◌-◌, arith, append_assoc, append-nil, length-append}
 use Rattle.std.proofs.lemmas.List.{map-append}
 use mathlib.Core.List.{IsPrefix}
 use Rattle.outer_io.specs.Links.{LinkTold, IsFresh}
@@ -73,4 +73,22 @@ served_link {start} {old} {new} {before} {link} {notes} {end} fresh served seate
       let taken = taken_entries old.seat served.requests notes in
       let all = ap length served.exchange.own ∙ length-append old.own taken in
       omega (arith, all, grew));
+}
+
+pub served_grown : {start : List ItemTerm} {old new : DeskTerm} {before link : LinkTold} {notes : List Note} {end : Ending}
+    → IsFresh before → Served old new before link notes end → IsSeat old.seat → IsPrefix start old.seen
+    → IsLinkServed start old new link (length new.own - length old.own)
+served_grown {start} {old} {new} {before} {link} {notes} {end} fresh served seated opened =
+    let all = ap length served.exchange.own ∙ length-append old.own (taken_entries old.seat served.requests notes) in
+    served_link fresh served seated opened (length new.own - length old.own) (omega (arith, all))
+
+-- a link that was served, and shut, at a history that was seen in the end
+pub link_answered : {start : List ItemTerm} {old new : DeskTerm} {link told : LinkTold} {count grown : ℕ} (history : List ItemTerm)
+    → IsLinkServed start old new link grown → link ≡ told → grown ≡ count → history ≡ new.seen → IsAnswered start history told count
+link_answered {start} {old} {new} {link} {told} {count} {grown} history served is same seen = record {
+  old = old;
+  new = new;
+  connection = subst (λ (l : LinkTold). IsLinkServed start old new l count) is
+      (subst (λ (n : ℕ). IsLinkServed start old new link n) same served);
+  within = ([], append-nil new.seen ∙ sym seen);
 }

@@ -2,7 +2,7 @@
 use Rattle.std.proofs.Common.{◌≡◌, ◌⊎◌, ℕ, suc, ◌+◌, ◌<◌, List, [], ◌∷◌, ◌++◌, length, map, slice_index_or, refl, ap, sym, subst, ◌∙◌, inl, inr, ⊎_elim, arith, append_assoc, append-nil, length-append}
 use Rattle.std.proofs.lemmas.List.{map-append}
 use Rattle.session_desk.specs.Desks.{DeskTerm}
-use Rattle.task_server.specs.Crews.{CrewTerm, KeepSeats, HasWorked, HaveWorked, HaveAll, all_sessions, all_told, desks, owned}
+use Rattle.task_server.specs.Crews.{CrewTerm, KeepSeats, HasWorked, HaveWorked, HaveAll, all_sessions, all_told, crew_term, desks, owned}
 use Rattle.world_lock.specs.Closings.{HasSessionOf, own_total}
 use Rattle.world_lock.specs.Sessions.{SeenSession, session_term}
 
@@ -46,6 +46,20 @@ pub owned_append : (xs ys : List SeenSession) → owned (xs ++ ys) ≡ owned xs 
 owned_append [] ys = omega arith
 owned_append (x ∷ xs) ys = let ih = owned_append xs ys in omega arith
 
+-- the same of the session that has served, step by step
+pub turned : (all sessions rest pushed : List SeenSession) (s t : SeenSession) → KeepSeats all sessions → sessions ≡ s ∷ rest
+    → (session_term t).seat ≡ (session_term s).seat → pushed ≡ rest ++ t ∷ [] → KeepSeats all pushed
+turned all sessions rest pushed s t kept first same push = λ seat h.
+    subst (λ (w : List SeenSession). Has w seat) (sym push)
+    (keep_turn s t rest same seat (subst (λ (w : List SeenSession). Has w seat) first (kept seat h)))
+
+pub turned_own : (sessions rest pushed : List SeenSession) (s t : SeenSession) → sessions ≡ s ∷ rest → pushed ≡ rest ++ t ∷ []
+    → owned pushed + length (session_term s).own ≡ owned sessions + length (session_term t).own
+turned_own sessions rest pushed s t first push =
+    let now = ap owned push ∙ owned_append rest (t ∷ []) in
+    let before = ap owned first in
+    omega (arith, now, before)
+
 -- ---- workers
 pub all_push : (crews : List CrewTerm) (crew : CrewTerm) → all_sessions (crews ++ crew ∷ []) ≡ all_sessions crews ++ crew.sessions
 all_push [] crew = append-nil crew.sessions
@@ -80,6 +94,43 @@ dealt c d crews s rest more =
           (has_split (A ++ B) (s ∷ rest) seat h);
       own = omega (arith, own_before, own_after);
     })
+
+-- the same, step by step
+pub dealt_next : (sessions rest new : List SeenSession) (crews others pushed : List CrewTerm) (c d : CrewTerm) (s : SeenSession)
+    → HaveAll sessions (all_sessions crews ++ rest) → rest ≡ s ∷ new → crews ≡ c ∷ others → d ≡ crew_term (c.sessions ++ s ∷ []) c.told
+    → pushed ≡ others ++ d ∷ [] → HaveAll sessions (all_sessions pushed ++ new)
+dealt_next sessions rest new crews others pushed c d s have first turn is push =
+    have_trans sessions (all_sessions (c ∷ others) ++ s ∷ new) (all_sessions pushed ++ new)
+    (subst (λ (w : List CrewTerm). HaveAll sessions (all_sessions w ++ s ∷ new)) turn
+    (subst (λ (w : List SeenSession). HaveAll sessions (all_sessions crews ++ w)) first have))
+    (subst (λ (w : List CrewTerm). HaveAll (all_sessions (c ∷ others) ++ s ∷ new) (all_sessions w ++ new)) (sym push)
+    (dealt c d others s new (ap (λ (x : CrewTerm). x.sessions) is)))
+
+pub next_total : (crews others pushed : List CrewTerm) (c d : CrewTerm) (s : SeenSession) → crews ≡ c ∷ others
+    → d ≡ crew_term (c.sessions ++ s ∷ []) c.told → pushed ≡ others ++ d ∷ []
+    → owned (all_sessions pushed) ≡ owned (all_sessions crews) + length (session_term s).own
+next_total crews others pushed c d s turn is push =
+    let whole = ap (λ (w : List CrewTerm). owned (all_sessions w)) push ∙ ap owned (all_push others d) ∙ owned_append (all_sessions others) d.sessions in
+    let last = ap (λ (x : CrewTerm). owned x.sessions) is ∙ owned_append c.sessions (s ∷ []) in
+    let before = ap (λ (w : List CrewTerm). owned (all_sessions w)) turn ∙ owned_append c.sessions (all_sessions others) in
+    omega (arith, whole, last, before)
+
+-- a worker gets its first session
+pub dealt_first : (all rest new : List SeenSession) (crews pushed : List CrewTerm) (crew : CrewTerm) (s : SeenSession)
+    → all ≡ all_sessions crews ++ rest → rest ≡ s ∷ new → crew ≡ crew_term (s ∷ []) 0 → pushed ≡ crews ++ crew ∷ []
+    → all ≡ all_sessions pushed ++ new
+dealt_first all rest new crews pushed crew s e first is push =
+    let grown : all_sessions pushed ≡ all_sessions crews ++ s ∷ [] =
+    ap all_sessions push ∙ all_push crews crew ∙ ap (λ (x : CrewTerm). all_sessions crews ++ x.sessions) is in
+    e ∙ ap (λ (w : List SeenSession). all_sessions crews ++ w) first ∙ sym (append_assoc (all_sessions crews) (s ∷ []) new)
+    ∙ ap (λ (w : List SeenSession). w ++ new) (sym grown)
+
+pub first_total : (crews pushed : List CrewTerm) (crew : CrewTerm) (s : SeenSession) → crew ≡ crew_term (s ∷ []) 0
+    → pushed ≡ crews ++ crew ∷ [] → owned (all_sessions pushed) ≡ owned (all_sessions crews) + length (session_term s).own
+first_total crews pushed crew s is push =
+    let whole = ap (λ (w : List CrewTerm). owned (all_sessions w)) push ∙ ap owned (all_push crews crew) ∙ owned_append (all_sessions crews) crew.sessions in
+    let last = ap (λ (x : CrewTerm). owned x.sessions) is in
+    omega (arith, whole, last)
 
 -- ---- all workers have worked
 pub worked_each : (olds news : List CrewTerm) → length news ≡ length olds

@@ -5,3 +5,4 @@ pub mod ServingLemmas
 pub mod ReplyLemmas
 pub mod SendLemmas
 pub mod OpenedLemmas
+pub mod SharingLemmas

@@ -3,7 +3,6 @@
 #![tactic(auto)]
 
 mod crew;
-mod crossing;
 mod gate_state;
 mod gathering;
 mod laws;

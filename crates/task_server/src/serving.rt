@@ -7,7 +7,6 @@ ghost use Rattle.task_server.specs.Results.{IsResult, IsResultOf};
 ghost use Rattle.world_lock.specs.Closings.{HasAllSeats};
 
 use crate::crew::Crew;
-use crate::crossing::crosses;
 use crate::gate_state::GateState;
 use crate::gathering::gather;
 use crate::porch::{Porch, Settled};
@@ -16,13 +15,15 @@ use crate::staffing::staff;
 use crate::watch::Watch;
 use crate::work::work;
 use outer_gates::Gate;
+use page_board::{BoardReader, BoardWriter, Front};
 use std::alloc::Global;
 use std::marker::Brand;
 use std::sync::ledger::{Blank, Ledger};
 use std::sync::{Mutex, Wait};
 use std::thread;
 use std::thread::Threads;
-use task_model::{Entry, OutOfMemory};
+use task_model::OutOfMemory;
+use world_crossing::{crosses, entries_cross, worlds_cross};
 use world_lock::{Closed, Mark, Session, Shared, close_holding};
 
 /// What came of serving a gate: the closed world, and how many links were handed out.
@@ -174,9 +175,14 @@ fn run<
     ensures board { IfOk result (λ r. r.0.front.board ≡ M.board) }
     ensures seats { IfOk result (λ r. KeepSeats (all_sessions crews.items) r.1.items) }
 {
-    // A worker may go to another thread, since its parts may.
-    crosses::<Entry>();
+    // A worker may go to another thread, since its parts may, and what all workers share may be looked at by each.
+    worlds_cross();
+    entries_cross();
+    crosses::<BoardReader>();
     crosses::<Session<M>>();
+    crosses::<Front>();
+    crosses::<BoardWriter<R>>();
+    crosses::<Porch<M, W, T, E, G>>();
     let porch = Mutex::new(porch);
     let lent = &porch;
     let back = thread::map_vec(

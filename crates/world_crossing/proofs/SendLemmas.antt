@@ -75,7 +75,7 @@ program_send =
     (search (def_send, rows.the_send, as_row_send), (search (body_send, rows.the_send, as_row_send), tt))
     in declared_send program.the_type parts
 
-entry_send : IsSend entry.the_row
+pub entry_send : IsSend entry.the_row
 entry_send = search (texts.the_send, texts.the_sync, turns.the_send, crosses, values.crosses_both, sendable) depth 60 fits 20000
 
 pub item_send : IsSend item.the_row

@@ -2,6 +2,7 @@
 #![tactic(auto)]
 
 ghost use denote.Param.Send.{IsSend};
+ghost use Rattle.task_model.specs.contracts.input.Entry as entries;
 ghost use Rattle.task_model.specs.contracts.item.Item as items;
 ghost use Rattle.task_model.specs.contracts.value.Value as values;
 ghost use Rattle.task_model.specs.contracts.checked.Checked as checked_programs;
@@ -19,6 +20,11 @@ use task_model::{Checked, Value};
 /// Values of this type may go to other threads.
 pub fn crosses<X: Send>()
     ensures { IsSend X.row }
+{}
+
+/// Entries of histories may.
+pub fn entries_cross()
+    ensures { IsSend entries.the_row }
 {}
 
 /// Items of histories may.
