@@ -38,8 +38,8 @@ pub(crate) fn serve_gate<G: Gate, O: Sink, R: Threads + Wait + Copy + Send + Syn
     asked: &ServeWords,
     out: &mut O,
 ) -> Gated<G>
-    requires seats { (opening.seats ≡ asked.seats) × IsSeat opening.seats }
-    requires workers { 0 < asked.workers }
+    requires seats { (opening.seats ≡ asked.now.seats) × IsSeat opening.seats }
+    requires workers { 0 < asked.now.workers }
     ensures course { GateCourse (history_term opening.history) (serve_term asked.now) (G.told gate) (G.told result.gate)
         (O.taken out.old) (O.taken out.new) result.ending }
     ensures count { O.faults out.new ≡ output_faults_after (O.faults out.old) result.ending }
@@ -77,10 +77,10 @@ fn serve_told<G: Gate, O: Sink, R: Threads + Wait + Copy + Send + Sync>(
     asked: &ServeWords,
     out: &mut O,
 ) -> Gated<G>
-    requires seats { (opening.seats ≡ asked.seats) × IsSeat opening.seats }
-    requires workers { 0 < asked.workers }
-    ensures course { (first : Option Text) → Appends first (O.taken out.old) (port_line asked.port)
-        → IsStarved asked.port first (O.taken out.new) result.ending
+    requires seats { (opening.seats ≡ asked.now.seats) × IsSeat opening.seats }
+    requires workers { 0 < asked.now.workers }
+    ensures course { (first : Option Text) → Appends first (O.taken out.old) (port_line asked.now.port)
+        → IsStarved asked.now.port first (O.taken out.new) result.ending
         ⊎ IsServedWhole (history_term opening.history) (serve_term asked.now) (G.told gate) (G.told result.gate) first (O.taken out.new)
         result.ending }
     ensures count { O.faults out.new ≡ output_faults_after (O.faults out.old) result.ending }

@@ -38,9 +38,9 @@ pub(crate) fn serve_file<F: Files, O: Sink, P: Ports, R: Threads + Wait + Copy +
     out: &mut O,
     ports: &mut P,
 ) -> Come<P::Gate>
-    requires budget { IsBudget asked.budget }
-    requires seats { IsSeat asked.seats }
-    requires workers { 0 < asked.workers }
+    requires budget { IsBudget asked.now.budget }
+    requires seats { IsSeat asked.now.seats }
+    requires workers { 0 < asked.now.workers }
     ensures come { HasCome limits name.now (serve_term asked.now) (around F.holds F.faults files.old files.new)
         (around O.taken O.faults out.old out.new) (around P.opens P.faults ports.old ports.new) (option_map P.Gate.told result.gate)
         result.ending }
@@ -63,8 +63,8 @@ fn serve_opened<O: Sink, P: Ports, R: Threads + Wait + Copy + Send + Sync>(
     out: &mut O,
     ports: &mut P,
 ) -> Come<P::Gate>
-    requires seats { (opening.seats ≡ asked.seats) × IsSeat opening.seats }
-    requires workers { 0 < asked.workers }
+    requires seats { (opening.seats ≡ asked.now.seats) × IsSeat opening.seats }
+    requires workers { 0 < asked.now.workers }
     ensures listened { HasListened (history_term opening.history) (serve_term asked.now) (around O.taken O.faults out.old out.new)
         (around P.opens P.faults ports.old ports.new) (option_map P.Gate.told result.gate) result.ending }
     ensures no_file { (before : ℕ) → file_faults_after before result.ending ≡ before }
