@@ -1,6 +1,6 @@
 pub mod WithinLemmas
 pub mod SessionLemmas
-pub mod EventLemmas
+pub mod SharedLemmas
 pub mod ListLemmas
 pub mod ClosingLemmas
 pub mod OpeningLemmas

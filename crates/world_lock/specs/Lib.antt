@@ -1,5 +1,4 @@
 pub mod Within
 pub mod Sessions
-pub mod Events
 pub mod Openings
 pub mod Closings

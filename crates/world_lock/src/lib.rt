@@ -3,7 +3,6 @@
 
 mod closed;
 mod closing;
-mod event;
 mod handing_out;
 mod mark;
 mod missing;

@@ -10,7 +10,6 @@ ghost use Rattle.session_desk.specs.Outcomes.{HasOutcome};
 ghost use Rattle.session_desk.specs.declared.page_stop.PageStop.TheVariants.{Ahead};
 ghost use Rattle.world_lock.specs.Sessions.{session_term};
 
-use crate::event::{draw, happen};
 use crate::mark::Mark;
 use crate::session::Session;
 use html_pages::Page;
@@ -22,6 +21,7 @@ use std::sync::Wait;
 use std::sync::ledger::{Blank, Book, Share};
 use task_model::{ActStop, Entry, Face, Input, OutOfMemory, copy_input};
 use world_core::World;
+use world_events::{draw, happen};
 
 /// What lies under the lock. Contracts see the world's history, which is also the published list.
 #[derive(Drop)]

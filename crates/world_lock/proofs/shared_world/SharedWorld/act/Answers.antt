@@ -5,7 +5,7 @@ use Rattle.task_model.specs.Running.State.{IsLegal, version_of}
 use Rattle.session_desk.specs.Desks.{seat_entry}
 use Rattle.page_board.specs.BoardLists.{BoardList}
 use Rattle.world_lock.specs.Sessions.{SeenSession, session_term}
-use Rattle.world_lock.proofs.EventLemmas.{shared_more}
+use Rattle.world_lock.proofs.SharedLemmas.{shared_more}
 use Rattle.world_lock.proofs.SessionLemmas.{attends_own, learnt_all, own_more, takes}
 use Rattle.world_lock.proofs.shared_world.SharedWorld.act.Given.{Over}
 use Rattle.world_lock.proofs.shared_world.SharedWorld.act.Goals as goal

@@ -1,4 +1,4 @@
-//! What is done with the world under the lock, each with a count of steps of its own.
+//! What happens to a world and to what is shown of it, each with a count of steps of its own.
 ghost use Rattle.std.specs.Prelude.{◌≡◌, ◌<◌, None, Err, IfOk, OnErr};
 ghost use Rattle.task_model.specs.Terms.Input.{input_term};
 ghost use Rattle.task_model.specs.Terms.Item.{history_term};
@@ -8,7 +8,7 @@ ghost use Rattle.task_model.specs.declared.stops.ActStop.TheVariants.{NotOffered
 ghost use Rattle.session_desk.specs.Desks.{ShowsPage, seat_entry};
 ghost use Rattle.session_desk.specs.Outcomes.{HasOutcome};
 ghost use Rattle.world_core.specs.World.{world_term};
-ghost use Rattle.world_lock.specs.Events.{IsPrepared, IsPublished};
+ghost use Rattle.world_events.specs.Events.{IsPrepared, IsPublished};
 
 use html_pages::Page;
 use page_board::{BoardWriter, Moment, Told};
@@ -18,8 +18,8 @@ use std::sync::ledger::{Blank, Ledger};
 use task_model::{ActStop, Face, Input, OutOfMemory, Steps};
 use world_core::{Taken, World};
 
-/// Prepares an input, and what is to be shown of the state that it leads to. A refusal leaves the world.
-pub(crate) fn prepare<L: Ledger>(
+// Prepares an input, and what is to be shown of the state that it leads to. A refusal leaves the world.
+fn prepare<L: Ledger>(
     world: &mut World,
     alloc: Global,
     seat: u8,
@@ -53,7 +53,7 @@ pub(crate) fn prepare<L: Ledger>(
 
 /// One event: what the input leads to is shown on the board, and then the input counts. All that can be refused comes before the first
 /// change, and what follows the publishing takes no memory.
-pub(crate) fn happen<L: Ledger, R: Wait + Copy>(
+pub fn happen<L: Ledger, R: Wait + Copy>(
     world: &mut World,
     writer: &mut BoardWriter<R>,
     alloc: Global,
@@ -87,7 +87,7 @@ pub(crate) fn happen<L: Ledger, R: Wait + Copy>(
 }
 
 /// The page of the world for a seat.
-pub(crate) fn draw<L: Ledger>(
+pub fn draw<L: Ledger>(
     world: &mut World,
     alloc: Global,
     face: Face,

@@ -1,8 +1,8 @@
 use Rattle.task_model.specs.Terms.Input.{input_term}
 use Rattle.task_laws.proofs.RanLemmas.{stopped}
 use Rattle.session_desk.specs.Desks.{seat_entry}
-use Rattle.world_lock.proofs.EventLemmas.{not_offered_at, over_at}
-use Rattle.world_lock.proofs.event.prepare.Goals as goal
+use Rattle.world_events.proofs.EventLemmas.{not_offered_at, over_at}
+use Rattle.world_events.proofs.event.prepare.Goals as goal
 
 pub returns-in_err-prepare-clause-not_offered : goal.returns-in_err-prepare-clause-not_offered
 returns-in_err-prepare-clause-not_offered g c = λ e.
