@@ -1,5 +1,5 @@
 -- From what `clap` found to a command.
-use Rattle.std.proofs.Common.{◌≡◌, ◌∙◌, ap, sym, subst, refl, true, List, ◌∷◌, Option, Some, None, true≢false, Result, Err, codes, ◌⊎◌, inl, inr, ⊎_elim, []}
+use Rattle.std.proofs.Common.{◌≡◌, ℕ, ◌∙◌, ap, sym, subst, refl, true, List, ◌∷◌, Option, Some, None, true≢false, Result, Err, codes, ◌⊎◌, inl, inr, ⊎_elim, []}
 use Rattle.std.specs.Prelude.{not}
 use Rattle.std.specs.List.{list_all}
 use Rattle.std.proofs.lemmas.Bool.{and_parts, or_cases}
@@ -10,7 +10,7 @@ use Rattle.clap.specs.declared.parser.matches.ArgMatches.{ArgMatches}
 use Rattle.task_model.specs.Terms.Text.{Text}
 use Rattle.command_words.specs.WordReading.{Use, has, is_distinct, read, value_given}
 use Rattle.command_words.specs.ClapReading.{clap_read}
-use Rattle.command_words.specs.Commands.{CommandTerm, IsAsked, Values, looked_up, run_in, run_options, run_with, usual_budget}
+use Rattle.command_words.specs.Commands.{CommandTerm, IsAsked, ServeTerm, Values, budget_in, connections_in, looked_up, port_in, run_in, run_options, run_with, seats_in, serve_in, serve_options, serve_with, serving_in, serving_with, usual_budget, workers_in}
 use Rattle.command_words.specs.WordNumbers.{number_or}
 use Rattle.command_words.specs.CommandTables.{Finds, HasUses, is_table}
 use Rattle.command_words.specs.declared.command.Command.{Command}
@@ -71,3 +71,72 @@ run_fails uses name h e =
 
     go : value_given (codes "budget") uses ≡ Some dash → run_in (λ n. value_given n uses) ≡ None
     go is = ap (λ o. run_with file (number_or usual_budget 1 1000000 o)) is ∙ run_needs file
+
+-- ---- the same of the numbers of `serve`
+
+serve_needs : (file : Option Text) (serving : Option ServeTerm) → serving ≡ None → serve_with file serving ≡ None
+serve_needs None serving e = refl
+serve_needs (Some file) serving e = ap (serve_with (Some file)) e
+
+needs_seats : (b w p c : Option ℕ) → serving_with b None w p c ≡ None
+needs_seats None w p c = refl
+needs_seats (Some b) w p c = refl
+
+needs_workers : (b s p c : Option ℕ) → serving_with b s None p c ≡ None
+needs_workers None s p c = refl
+needs_workers (Some b) None p c = refl
+needs_workers (Some b) (Some s) p c = refl
+
+needs_port : (b s w c : Option ℕ) → serving_with b s w None c ≡ None
+needs_port None s w c = refl
+needs_port (Some b) None w c = refl
+needs_port (Some b) (Some s) None c = refl
+needs_port (Some b) (Some s) (Some w) c = refl
+
+needs_connections : (b s w p : Option ℕ) → serving_with b s w p None ≡ None
+needs_connections None s w p = refl
+needs_connections (Some b) None w p = refl
+needs_connections (Some b) (Some s) None p = refl
+needs_connections (Some b) (Some s) (Some w) None = refl
+needs_connections (Some b) (Some s) (Some w) (Some p) = refl
+
+module _ (uses : List Use) (name : Text) (e : value_given name uses ≡ Some dash) where
+  abbrev given : Values
+  given n = value_given n uses
+
+  -- the number of this option can't be read
+  unread : (usual low high : ℕ) (a : Text) → a ≡ name → number_or usual low high (Some dash) ≡ None
+      → number_or usual low high (given a) ≡ None
+  unread usual low high a is none = ap (number_or usual low high) (given_dash a name uses is e) ∙ none
+
+  serving_fails : has name serve_options ≡ true → serving_in given ≡ None
+  serving_fails h = ⊎_elim
+      (λ is. ap (λ o. serving_with o (seats_in given) (workers_in given) (port_in given) (connections_in given))
+      (unread usual_budget 1 1000000 (codes "budget") is refl))
+      (λ more. ⊎_elim
+      (λ is. ap (λ o. serving_with (budget_in given) o (workers_in given) (port_in given) (connections_in given))
+      (unread 8 1 64 (codes "seats") is refl)
+      ∙ needs_seats (budget_in given) (workers_in given) (port_in given) (connections_in given))
+      (λ more. ⊎_elim
+      (λ is. ap (λ o. serving_with (budget_in given) (seats_in given) o (port_in given) (connections_in given))
+      (unread 4 1 32 (codes "workers") is refl)
+      ∙ needs_workers (budget_in given) (seats_in given) (port_in given) (connections_in given))
+      (λ more. ⊎_elim
+      (λ is. ap (λ o. serving_with (budget_in given) (seats_in given) (workers_in given) o (connections_in given))
+      (unread 8080 1 65535 (codes "port") is refl)
+      ∙ needs_port (budget_in given) (seats_in given) (workers_in given) (connections_in given))
+      (λ more. ⊎_elim
+      (λ is. ap (λ o. serving_with (budget_in given) (seats_in given) (workers_in given) (port_in given) o)
+      (unread 1000000 1 1000000 (codes "connections") is refl)
+      ∙ needs_connections (budget_in given) (seats_in given) (workers_in given) (port_in given))
+      (λ none. absurd (true≢false (sym none)))
+      (either_name (codes "connections") name [] more))
+      (either_name (codes "port") name (codes "connections" ∷ []) more))
+      (either_name (codes "workers") name (codes "port" ∷ codes "connections" ∷ []) more))
+      (either_name (codes "seats") name (codes "workers" ∷ codes "port" ∷ codes "connections" ∷ []) more))
+      (either_name (codes "budget") name (codes "seats" ∷ codes "workers" ∷ codes "port" ∷ codes "connections" ∷ []) h)
+
+pub serve_fails : (uses : List Use) (name : Text) → has name serve_options ≡ true → value_given name uses ≡ Some dash
+    → serve_in (λ n. value_given n uses) ≡ None
+serve_fails uses name h e =
+    serve_needs (value_given (codes "FILE") uses) (serving_in (λ n. value_given n uses)) (serving_fails uses name e h)

@@ -7,7 +7,7 @@ use Rattle.std.proofs.lemmas.Bool.Decides.{nat_tests}
 use Rattle.task_model.specs.Terms.Text.{Text}
 use Rattle.command_words.specs.WordReading.{Use, read}
 use Rattle.command_words.specs.WordNumbers.{is_number, number_at, number_in, number_or}
-use Rattle.command_words.specs.Commands.{CommandTerm, IsAsked, IsInRange, Values, budget_in, check_in, check_with, command_of, command_term, file_place, looked_up, run_in, run_options, run_with, soak_in, soak_places, soak_with, usual_budget}
+use Rattle.command_words.specs.Commands.{CommandTerm, IsAsked, IsInRange, Values, budget_in, check_in, check_with, command_of, command_term, connections_in, drill_in, drill_places, drill_with, file_place, looked_up, port_in, run_in, run_options, run_with, seats_in, serve_in, serve_options, serve_with, serving_with, soak_in, soak_places, soak_with, usual_budget, workers_in}
 use Rattle.command_words.specs.declared.command.Command.{Command}
 use Rattle.command_words.specs.declared.stop.WordStop.{WordStop}
 
@@ -57,6 +57,28 @@ soak_range None seed h = tt
 soak_range (Some count) None h = tt
 soak_range (Some count) (Some seed) h = h
 
+drill_range : (seats each : Option ℕ) → IsBetween 1 64 seats → IsBetween 1 10000 each → AreInRange (drill_with seats each)
+drill_range None each s e = tt
+drill_range (Some seats) None s e = tt
+drill_range (Some seats) (Some each) s e = (s, e)
+
+serve_range : (file : Option Text) (budget seats workers port connections : Option ℕ) → IsBetween 1 1000000 budget → IsBetween 1 64 seats
+    → IsBetween 1 32 workers → IsBetween 1 65535 port → IsBetween 1 1000000 connections
+    → AreInRange (serve_with file (serving_with budget seats workers port connections))
+serve_range None budget seats workers port connections b s w p c = tt
+serve_range (Some file) None seats workers port connections b s w p c = tt
+serve_range (Some file) (Some budget) None workers port connections b s w p c = tt
+serve_range (Some file) (Some budget) (Some seats) None port connections b s w p c = tt
+serve_range (Some file) (Some budget) (Some seats) (Some workers) None connections b s w p c = tt
+serve_range (Some file) (Some budget) (Some seats) (Some workers) (Some port) None b s w p c = tt
+serve_range (Some file) (Some budget) (Some seats) (Some workers) (Some port) (Some connections) b s w p c = record {
+  budget = b;
+  seats = s;
+  workers = w;
+  port = p;
+  connections = c;
+}
+
 looked : (meaning : Values → Option CommandTerm) (o : Option (List Use)) → ((v : Values) → AreInRange (meaning v))
     → AreInRange (looked_up meaning o)
 looked meaning None h = tt
@@ -73,9 +95,23 @@ soak_found : (o : Option (List Use)) → AreInRange (looked_up soak_in o)
 soak_found o = looked soak_in o (λ v. soak_range (number_at 1 100000 (v (codes "N")))
     (number_at 0 18446744073709551615 (v (codes "SEED"))) (at_between 1 100000 (v (codes "N"))))
 
+drill_found : (o : Option (List Use)) → AreInRange (looked_up drill_in o)
+drill_found o = looked drill_in o (λ v. drill_range (number_at 1 64 (v (codes "SEATS"))) (number_at 1 10000 (v (codes "N")))
+    (at_between 1 64 (v (codes "SEATS"))) (at_between 1 10000 (v (codes "N"))))
+
+serve_found : (o : Option (List Use)) → AreInRange (looked_up serve_in o)
+serve_found o = looked serve_in o (λ v. serve_range (v (codes "FILE"))
+    (budget_in v) (seats_in v) (workers_in v) (port_in v) (connections_in v)
+    (or_between usual_budget 1 1000000 (v (codes "budget")) (omega arith) (omega arith))
+    (or_between 8 1 64 (v (codes "seats")) (omega arith) (omega arith))
+    (or_between 4 1 32 (v (codes "workers")) (omega arith) (omega arith))
+    (or_between 8080 1 65535 (v (codes "port")) (omega arith) (omega arith))
+    (or_between 1000000 1 1000000 (v (codes "connections")) (omega arith) (omega arith)))
+
 in_range : (words : List Text) → AreInRange (command_of words)
 in_range [] = tt
 in_range (name ∷ words) = go (bytes_eq name (codes "run")) (bytes_eq name (codes "check")) (bytes_eq name (codes "soak"))
+    (bytes_eq name (codes "drill")) (bytes_eq name (codes "serve"))
   where
     ran : Option CommandTerm
     ran = looked_up run_in (read words file_place run_options None)
@@ -86,11 +122,19 @@ in_range (name ∷ words) = go (bytes_eq name (codes "run")) (bytes_eq name (cod
     soaked : Option CommandTerm
     soaked = looked_up soak_in (read words soak_places [] None)
 
-    go : (a b c : Bool) → AreInRange (cond a ran (cond b checked (cond c soaked None)))
-    go true b c = run_found (read words file_place run_options None)
-    go false true c = check_found (read words file_place [] None)
-    go false false true = soak_found (read words soak_places [] None)
-    go false false false = tt
+    drilled : Option CommandTerm
+    drilled = looked_up drill_in (read words drill_places [] None)
+
+    served : Option CommandTerm
+    served = looked_up serve_in (read words file_place serve_options None)
+
+    go : (a b c d e : Bool) → AreInRange (cond a ran (cond b checked (cond c soaked (cond d drilled (cond e served None)))))
+    go true b c d e = run_found (read words file_place run_options None)
+    go false true c d e = check_found (read words file_place [] None)
+    go false false true d e = soak_found (read words soak_places [] None)
+    go false false false true e = drill_found (read words drill_places [] None)
+    go false false false false true = serve_found (read words file_place serve_options None)
+    go false false false false false = tt
 
 pub asked_in_range : (words : List Text) (r : Result Command WordStop) → IsAsked (command_of words) r
     → IfOk r (λ command. IsInRange (command_term command))

@@ -1,4 +1,4 @@
--- The words of a run are read as that run.
+-- The words of a run are read as that run, and those of a serving with no options as the usual one.
 use Rattle.std.proofs.Common.{◌≡◌, ◌∙◌, ap, refl, ℕ, List, [], ◌∷◌, Some, true, false, ◌<◌, ◌^◌, arith}
 use Rattle.std.specs.Prelude.{codes, decimal}
 use Rattle.std.specs.Char.{is_ascii_digit}
@@ -9,7 +9,7 @@ use Rattle.std.proofs.lemmas.Bool.Decides.{nat_tests}
 use Rattle.std.proofs.lemmas.Fmt.{decimal_is_IsNumeral, length-decimal-le}
 use Rattle.task_model.specs.Terms.Text.{Text}
 use Rattle.task_model.specs.Running.State.{IsBudget}
-use Rattle.command_words.specs.Commands.{command_of, file_place, looked_up, run, run_in, run_options, run_with}
+use Rattle.command_words.specs.Commands.{command_of, file_place, looked_up, run, run_in, run_options, run_with, serve, serve_in, serve_options}
 use Rattle.command_words.specs.WordNumbers.{number_in}
 use Rattle.command_words.specs.WordReading.{Use, begins_with_dash}
 use Rattle.command_words.specs.WordGrammar.{Follows}
@@ -62,3 +62,11 @@ module _ (n : ℕ) (within : IsBudget n) where
       let follows : Follows file_place run_options words uses = apart refl refl (dashless (decimal n) digits) (stopped refl (one none)) in
       ap (looked_up run_in) ((reading_is_the_grammar file_place run_options words uses refl).1 follows)
       ∙ ap (run_with (Some file)) budget_is
+
+pub served_as_usual : (file : Text) → begins_with_dash file ≡ false
+    → command_of (codes "serve" ∷ file ∷ [])
+    ≡ Some (serve file (record { budget = 10000; seats = 8; workers = 4; port = 8080; connections = 1000000 }))
+served_as_usual file bare =
+    let uses : List Use = (codes "FILE", file) ∷ [] in
+    let follows : Follows file_place serve_options (file ∷ []) uses = placed bare ended in
+    ap (looked_up serve_in) ((reading_is_the_grammar file_place serve_options (file ∷ []) uses refl).1 follows)

@@ -1,3 +1,4 @@
+use crate::serve_words::ServeWords;
 use task_model::TaskText;
 
 /// What the words of a command line ask for.
@@ -9,4 +10,8 @@ pub enum Command {
     Check { file: TaskText },
     /// So many inputs are generated from this seed, and run.
     Soak { count: u32, seed: u64 },
+    /// So many seats act at once, each so often.
+    Drill { seats: u8, each: u32 },
+    /// The program in this file is served with these numbers.
+    Serve { file: TaskText, serving: ServeWords },
 }

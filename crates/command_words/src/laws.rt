@@ -2,7 +2,7 @@ ghost use Rattle.std.specs.Prelude.{◌≡◌, ◌↔◌, ℕ, List, [], ◌∷�
 ghost use Rattle.std.specs.List.{list_all};
 ghost use Rattle.task_model.specs.Terms.Text.{Text};
 ghost use Rattle.task_model.specs.Running.State.{IsBudget};
-ghost use Rattle.command_words.specs.Commands.{command_of, run};
+ghost use Rattle.command_words.specs.Commands.{command_of, run, serve};
 ghost use Rattle.command_words.specs.WordGrammar.{Follows, is_option_name};
 ghost use Rattle.command_words.specs.WordReading.{Use, begins_with_dash, read};
 
@@ -19,4 +19,16 @@ pub fn runs_are_read()
         → command_of (codes "run" ∷ file ∷ codes "--budget" ∷ decimal budget ∷ []) ≡ Some (run file budget) }
     ensures behind_dashes { (file : Text) (budget : ℕ) → IsBudget budget
         → command_of (codes "run" ∷ codes "--budget" ∷ decimal budget ∷ codes "--" ∷ file ∷ []) ≡ Some (run file budget) }
+{}
+
+/// `serve FILE` asks to serve that file with what is usual, where the name doesn't begin with `-`: a budget of 10,000 units, 8 seats, 4 workers,
+/// port 8080 and 1,000,000 connections (docs/FORMATS.md, "Words").
+pub fn usual_serving()
+    ensures { (file : Text) → begins_with_dash file ≡ false → command_of (codes "serve" ∷ file ∷ []) ≡ Some (serve file (record {
+      budget = 10000;
+      seats = 8;
+      workers = 4;
+      port = 8080;
+      connections = 1000000;
+    })) }
 {}

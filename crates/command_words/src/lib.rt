@@ -7,10 +7,12 @@ mod laws;
 mod matches;
 mod numbers;
 mod reading;
+mod serve_words;
 mod stop;
 mod top;
 
 pub use command::Command;
-pub use laws::{runs_are_read, words_follow_the_grammar};
+pub use laws::{runs_are_read, usual_serving, words_follow_the_grammar};
+pub use serve_words::ServeWords;
 pub use stop::WordStop;
 pub use top::read_command;

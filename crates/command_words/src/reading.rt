@@ -3,7 +3,7 @@ ghost use Rattle.std.specs.List.{All};
 ghost use Rattle.std.specs.Str.{IsUtf8};
 ghost use Rattle.clap.specs.Matches.{first_value, found_of};
 ghost use Rattle.clap.specs.Walk.{texts};
-ghost use Rattle.command_words.specs.Commands.{IsAsked, check_in, file_place, looked_up, run_in, run_options, soak_in, soak_places};
+ghost use Rattle.command_words.specs.Commands.{AreAsked, IsAsked, budget_in, check_in, drill_in, drill_places, file_place, looked_up, run_in, run_options, serve_in, serve_options, serving_in, soak_in, soak_places};
 ghost use Rattle.command_words.specs.WordNumbers.{number_at, number_or};
 ghost use Rattle.command_words.specs.WordReading.{read};
 ghost use Rattle.command_words.specs.CommandTables.{IsReadAs};
@@ -11,10 +11,11 @@ ghost use Rattle.command_words.specs.CommandTables.{IsReadAs};
 use crate::command::Command;
 use crate::matches::matches;
 use crate::numbers::number;
+use crate::serve_words::ServeWords;
 use crate::stop::WordStop;
 use clap::ArgMatches;
 use std::alloc::Global;
-use task_model::{BUDGET_LIMIT, DEFAULT_BUDGET, TaskText};
+use task_model::{BUDGET_LIMIT, DEFAULT_BUDGET, SEAT_LIMIT, TaskText};
 
 /// `run FILE [--budget N]`.
 pub(crate) fn run(alloc: Global, words: &[&str]) -> Result<Command, WordStop>
@@ -49,24 +50,54 @@ pub(crate) fn soak(alloc: Global, words: &[&str]) -> Result<Command, WordStop>
     }
 }
 
+/// `drill SEATS N`.
+pub(crate) fn drill(alloc: Global, words: &[&str]) -> Result<Command, WordStop>
+    requires { All (λ w. IsUtf8 w.now) words.now }
+    ensures { IsAsked (looked_up drill_in (read (texts words.now) drill_places [] None)) result }
+{
+    match matches(alloc, &["SEATS", "N"], &[], words) {
+        Ok(found) => drill_found(&found),
+        Err(stop) => Err(stop),
+    }
+}
+
+/// `serve FILE [--budget N] [--seats N] [--workers N] [--port N] [--connections N]`.
+pub(crate) fn serve(alloc: Global, words: &[&str]) -> Result<Command, WordStop>
+    requires { All (λ w. IsUtf8 w.now) words.now }
+    ensures { IsAsked (looked_up serve_in (read (texts words.now) file_place serve_options None)) result }
+{
+    let options = ["budget", "seats", "workers", "port", "connections"];
+    match matches(alloc, &["FILE"], &options, words) {
+        Ok(found) => serve_found(alloc, &found),
+        Err(stop) => Err(stop),
+    }
+}
+
 // The most inputs of a soak.
 const INPUT_LIMIT: u64 = 100_000;
+
+// The most acts of each seat of a drill.
+const ACT_LIMIT: u64 = 10_000;
+
+// What is usual at the options of `serve`, and the most that they take.
+const USUAL_SEATS: u64 = 8;
+
+const USUAL_WORKERS: u64 = 4;
+
+const WORKER_LIMIT: u64 = 32;
+
+const USUAL_PORT: u64 = 8_080;
+
+const PORT_LIMIT: u64 = 65_535;
+
+const CONNECTION_LIMIT: u64 = 1_000_000;
 
 fn run_found(alloc: Global, found: &ArgMatches<'_>) -> Result<Command, WordStop>
     ensures { IsAsked (run_in (first_value (found_of found.now))) result }
 {
     let file = text_found(alloc, found, "FILE")?;
-    let budget = option_found(
-        found,
-        "budget",
-        DEFAULT_BUDGET as u64,
-        1,
-        BUDGET_LIMIT as u64,
-    )?;
-    Ok(Command::Run {
-        file,
-        budget: budget as u32,
-    })
+    let budget = budget_found(found)?;
+    Ok(Command::Run { file, budget })
 }
 
 fn check_found(alloc: Global, found: &ArgMatches<'_>) -> Result<Command, WordStop>
@@ -85,6 +116,57 @@ fn soak_found(found: &ArgMatches<'_>) -> Result<Command, WordStop>
         count: count as u32,
         seed,
     })
+}
+
+fn drill_found(found: &ArgMatches<'_>) -> Result<Command, WordStop>
+    ensures { IsAsked (drill_in (first_value (found_of found.now))) result }
+{
+    let seats = number_found(found, "SEATS", 1, SEAT_LIMIT as u64)?;
+    let each = number_found(found, "N", 1, ACT_LIMIT)?;
+    Ok(Command::Drill {
+        seats: seats as u8,
+        each: each as u32,
+    })
+}
+
+fn serve_found(alloc: Global, found: &ArgMatches<'_>) -> Result<Command, WordStop>
+    ensures { IsAsked (serve_in (first_value (found_of found.now))) result }
+{
+    let file = text_found(alloc, found, "FILE")?;
+    let serving = serving_found(found)?;
+    Ok(Command::Serve { file, serving })
+}
+
+// The numbers of `serve`.
+fn serving_found(found: &ArgMatches<'_>) -> Result<ServeWords, WordStop>
+    ensures { AreAsked (serving_in (first_value (found_of found.now))) result }
+{
+    let budget = budget_found(found)?;
+    let seats = option_found(found, "seats", USUAL_SEATS, 1, SEAT_LIMIT as u64)?;
+    let workers = option_found(found, "workers", USUAL_WORKERS, 1, WORKER_LIMIT)?;
+    let port = option_found(found, "port", USUAL_PORT, 1, PORT_LIMIT)?;
+    let connections = option_found(found, "connections", CONNECTION_LIMIT, 1, CONNECTION_LIMIT)?;
+    Ok(ServeWords {
+        budget,
+        seats: seats as u8,
+        workers: workers as u8,
+        port: port as u16,
+        connections,
+    })
+}
+
+// The budget, in units.
+fn budget_found(found: &ArgMatches<'_>) -> Result<u32, WordStop>
+    ensures { IsReadAs (budget_in (first_value (found_of found.now))) result }
+{
+    let budget = option_found(
+        found,
+        "budget",
+        DEFAULT_BUDGET as u64,
+        1,
+        BUDGET_LIMIT as u64,
+    )?;
+    Ok(budget as u32)
 }
 
 // The text at a place.

@@ -5,7 +5,7 @@ ghost use Rattle.clap.specs.Walk.{texts};
 ghost use Rattle.command_words.specs.Commands.{IsAsked, IsInRange, command_of, command_term};
 
 use crate::command::Command;
-use crate::reading::{check, run, soak};
+use crate::reading::{check, drill, run, serve, soak};
 use crate::stop::WordStop;
 use std::alloc::Global;
 use task_model::TaskText;
@@ -40,6 +40,8 @@ fn by_name(alloc: Global, name: &str, words: &[&str]) -> Result<Command, WordSto
         "run" => run(alloc, words),
         "check" => check(alloc, words),
         "soak" => soak(alloc, words),
+        "drill" => drill(alloc, words),
+        "serve" => serve(alloc, words),
         _ => Err(WordStop::Outside),
     }
 }

@@ -7,7 +7,7 @@ use outer_io::{
 use std::alloc::Global;
 use std::process::ExitCode;
 use task_model::{OutOfMemory, Row, TaskText};
-use tophat::tophat;
+use tophat::plain;
 
 /// The examples: NAME.th, with its script NAME.script and what it writes, NAME.out.
 const EXAMPLES: &[&str] = &[
@@ -86,7 +86,7 @@ fn try_example<F: Files>(alloc: Global, files: &mut F, name: &str) -> Result<Out
     let mut input = PlainSource::new(script, 4_096);
     let mut out = MemSink::new(alloc, 4_096, Row::new(alloc));
     let mut err = MemSink::new(alloc, 4_096, Row::new(alloc));
-    let status = tophat(
+    let status = plain(
         alloc,
         words.as_slice(),
         files,
@@ -94,7 +94,7 @@ fn try_example<F: Files>(alloc: Global, files: &mut F, name: &str) -> Result<Out
         &mut out,
         &mut err,
     );
-    if status == 0 && out.taken() == answers.as_slice() {
+    if status == Some(0) && out.taken() == answers.as_slice() {
         Ok(Outcome::AsExpected)
     } else {
         Ok(Outcome::Differs)

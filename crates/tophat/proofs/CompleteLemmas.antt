@@ -10,12 +10,12 @@ use Rattle.line_frame.specs.Script.{TellsScript, cut_of, all_lines, lines_in, en
 use Rattle.line_frame.proofs.ScriptLemmas.{is_within, end_all}
 use Rattle.line_frame.specs.declared.finish.Finish.{Finish}
 use Rattle.line_frame.specs.declared.finish.Finish.TheVariants.{Done}
-use Rattle.command_words.specs.Commands.{CommandTerm, run, check, soak}
-use Rattle.tophat.specs.declared.ending.Ending.TheVariants.{Ran}
+use Rattle.command_words.specs.Commands.{CommandTerm, run, check, soak, drill, serve}
+use Rattle.tophat.specs.declared.ending.CommandEnding.TheVariants.{Ran}
 use Rattle.tophat.specs.Ending.{status_of}
 use Rattle.tophat.specs.Verdict.{accepted}
 use Rattle.tophat.specs.Session.{Tells}
-use Rattle.tophat.specs.Top.{Report, limits, world, none, world_at, Opened, OpensVerdict, ReportsOpened, ReportsTold, Reports}
+use Rattle.tophat.specs.Top.{NeedsMore, Report, limits, world, none, world_at, Opened, OpensVerdict, ReportsOpened, ReportsTold, Reports}
 use Rattle.tophat.specs.Promise.{Promised, WritesReport}
 use Rattle.tophat.specs.Complete.{lines_of, AreLinesWithin, IsRunnable, AnswersAll, ReportsAll, AnsweredAll, Completes}
 use Rattle.tophat.proofs.LineLemmas.{line_apart}
@@ -85,16 +85,18 @@ answered_all w lines report before now failed status fine five six all (inr (inr
 answered_all w lines report before now failed status fine five six all (inr (inr (inr e), part)) = inr e
 
 pub completes : (command : Option CommandTerm) (holds : Option (Option Text)) (left taken now : Option Text) (failed : Type 0) (status : ℕ)
-    → Promised limits command holds left taken now status → (status ≡ 5 → failed) → (status ≡ 6 → failed)
+    → ((NeedsMore command → ⊥) → Promised limits command holds left taken now status) → (status ≡ 5 → failed) → (status ≡ 6 → failed)
     → Completes limits command holds left taken now failed status
 completes None holds left taken now failed status p five six = tt
 completes (Some (check name)) holds left taken now failed status p five six = tt
 completes (Some (soak count seed)) holds left taken now failed status p five six = tt
+completes (Some (drill seats each)) holds left taken now failed status p five six = tt
+completes (Some (serve name serving)) holds left taken now failed status p five six = tt
 completes (Some (run name budget)) None left taken now failed status p five six = tt
 completes (Some (run name budget)) (Some None) left taken now failed status p five six = tt
 completes (Some (run name budget)) (Some (Some bytes)) None taken now failed status p five six = tt
 completes (Some (run name budget)) (Some (Some bytes)) (Some script) None now failed status p five six = tt
 completes (Some (run name budget)) (Some (Some bytes)) (Some script) (Some before) now failed status p five six = λ c s h fine.
-    let r = p.1 (accepted c) h.program in
+    let r = (p (λ more. more)).1 (accepted c) h.program in
     answered_all (world_at c budget s) (lines_of script) r.0 before now failed status fine five six
     (complete_report name budget bytes script c s r.0 h r.1) r.2

@@ -12,5 +12,5 @@ mod FulfilLemmas
 mod StatusLemmas
 mod EntryLines
 mod SmallTypes
-mod SmallTrees
-mod ReplayLemmas
+pub mod SmallTrees
+pub mod ReplayLemmas

@@ -7,13 +7,13 @@ use Rattle.world_core.specs.World.{WorldTerm}
 use Rattle.line_frame.specs.Told.{Told}
 use Rattle.line_frame.specs.Script.{TellsScript}
 use Rattle.line_frame.specs.declared.finish.Finish.{Finish}
-use Rattle.command_words.specs.Commands.{CommandTerm, run, check, soak}
-use Rattle.tophat.specs.declared.ending.Ending.TheVariants.{Usage, Absent, FileTooLong, Unopened}
+use Rattle.command_words.specs.Commands.{CommandTerm, run, check, soak, drill, serve}
+use Rattle.tophat.specs.declared.ending.CommandEnding.TheVariants.{Usage, Absent, FileTooLong, Unopened}
 use Rattle.tophat.specs.declared.no_world.NoWorld.TheVariants.{Refused, OverBudget}
 use Rattle.tophat.specs.Verdict.{Verdict, accepted, refused}
 use Rattle.tophat.specs.Session.{Tells}
 use Rattle.tophat.specs.SoakReport.{TallyTerm, no_inputs, summary_text, IsSummary}
-use Rattle.tophat.specs.Top.{Limits, Report, ends, writes, reported, Opened, world, none, world_at, checks, soak_budget, OpensVerdict, ReportsFile, ReportsOpened, ReportsVerdict, ReportsTold, ReportsSoak, ReportsCommand, Reports, ReportsLines}
+use Rattle.tophat.specs.Top.{Limits, NeedsMore, Report, ends, writes, reported, Opened, world, none, world_at, checks, soak_budget, OpensVerdict, ReportsFile, ReportsOpened, ReportsVerdict, ReportsTold, ReportsSoak, ReportsCommand, Reports, ReportsLines}
 use Rattle.tophat.proofs.SessionLemmas.{script_exists, script_once, told_exists}
 use Rattle.tophat.proofs.SoakLemmas.{soaks_exist, soaks_once}
 
@@ -112,17 +112,21 @@ command_once l (Some (run name budget)) file verdict TellsAt one r s d e =
 command_once l (Some (check name)) file verdict TellsAt one r s d e =
     file_once l.file file (λ z. z ≡ checks verdict) (λ a b p q. p ∙ sym q) r s d e
 command_once l (Some (soak count seed)) file verdict TellsAt one r s d e = soak_verdict_once count seed verdict r s d e
+command_once l (Some (drill seats each)) file verdict TellsAt one r s d e = absurd d
+command_once l (Some (serve name serving)) file verdict TellsAt one r s d e = absurd d
 
 command_reported : (l : Limits) (command : Option CommandTerm) (file : Option Text) (verdict : Verdict)
-    (TellsAt : WorldTerm → Told → Type 0)
+    (TellsAt : WorldTerm → Told → Type 0) → (NeedsMore command → ⊥)
     → ((w : WorldTerm) → (t : Told) × TellsAt w t) → There (ReportsCommand l command file verdict TellsAt)
-command_reported l None file verdict TellsAt some = (ends Usage, refl)
-command_reported l (Some (run name budget)) file verdict TellsAt some =
+command_reported l None file verdict TellsAt plain some = (ends Usage, refl)
+command_reported l (Some (run name budget)) file verdict TellsAt plain some =
     file_exists l.file file (ReportsVerdict budget verdict (ReportsTold TellsAt))
     (verdict_exists budget verdict (ReportsTold TellsAt) (told_reported TellsAt some))
-command_reported l (Some (check name)) file verdict TellsAt some = file_exists l.file file (λ z. z ≡ checks verdict) (checks verdict, refl)
-command_reported l (Some (soak count seed)) file verdict TellsAt some =
+command_reported l (Some (check name)) file verdict TellsAt plain some = file_exists l.file file (λ z. z ≡ checks verdict) (checks verdict, refl)
+command_reported l (Some (soak count seed)) file verdict TellsAt plain some =
     verdict_exists soak_budget verdict (ReportsSoak count seed) (soak_exists count seed)
+command_reported l (Some (drill seats each)) file verdict TellsAt plain some = absurd (plain tt)
+command_reported l (Some (serve name serving)) file verdict TellsAt plain some = absurd (plain tt)
 
 pub report_once : (l : Limits) (command : Option CommandTerm) (file : Option Text) (verdict : Verdict) (script : Text) (r s : Report)
     → Reports l command file verdict script r → Reports l command file verdict script s → r ≡ s
@@ -131,14 +135,24 @@ report_once l command file verdict script r s d e =
     (λ w t u p q. script_once l.line l.script w script t u p q) r s d e
 
 pub report_exists : (l : Limits) (command : Option CommandTerm) (file : Option Text) (verdict : Verdict) (script : Text)
-    → (r : Report) × Reports l command file verdict script r
-report_exists l command file verdict script =
-    command_reported l command file verdict (λ w told. TellsScript (Tells l.line w 1) l.script script told)
+    → (NeedsMore command → ⊥) → (r : Report) × Reports l command file verdict script r
+report_exists l command file verdict script plain =
+    command_reported l command file verdict (λ w told. TellsScript (Tells l.line w 1) l.script script told) plain
     (λ w. script_exists l.line l.script w script)
+
+-- of a command that needs more nothing is reported
+pub nothing_reported : (l : Limits) (command : Option CommandTerm) (file : Option Text) (verdict : Verdict) (script : Text)
+    (report : Report) → NeedsMore command → Reports l command file verdict script report → ⊥
+nothing_reported l None file verdict script report more d = more
+nothing_reported l (Some (run name budget)) file verdict script report more d = more
+nothing_reported l (Some (check name)) file verdict script report more d = more
+nothing_reported l (Some (soak count seed)) file verdict script report more d = more
+nothing_reported l (Some (drill seats each)) file verdict script report more d = d
+nothing_reported l (Some (serve name serving)) file verdict script report more d = d
 
 -- the same of lines
 pub lines_reported : (l : Limits) (command : Option CommandTerm) (file : Option Text) (verdict : Verdict) (lines : List Text)
     (finish : Finish)
-    → (r : Report) × ReportsLines l command file verdict lines finish r
-lines_reported l command file verdict lines finish =
-    command_reported l command file verdict (λ w told. Tells l.line w 1 lines finish told) (λ w. told_exists l.line w 1 lines finish)
+    → (NeedsMore command → ⊥) → (r : Report) × ReportsLines l command file verdict lines finish r
+lines_reported l command file verdict lines finish plain =
+    command_reported l command file verdict (λ w told. Tells l.line w 1 lines finish told) plain (λ w. told_exists l.line w 1 lines finish)

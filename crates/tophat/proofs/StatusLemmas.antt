@@ -5,9 +5,9 @@ use Rattle.world_core.specs.World.{WorldTerm}
 use Rattle.line_frame.specs.Told.{Told}
 use Rattle.line_frame.specs.Script.{TellsScript}
 use Rattle.line_frame.specs.declared.finish.Finish.TheVariants as finishes
-use Rattle.command_words.specs.Commands.{CommandTerm, run, check, soak}
-use Rattle.tophat.specs.declared.ending.Ending.{Ending}
-use Rattle.tophat.specs.declared.ending.Ending.TheVariants.{Usage, Absent, FileTooLong, Unopened, Ran, Wrote, WriteFault}
+use Rattle.command_words.specs.Commands.{CommandTerm, run, check, soak, drill, serve}
+use Rattle.tophat.specs.declared.ending.CommandEnding.{CommandEnding}
+use Rattle.tophat.specs.declared.ending.CommandEnding.TheVariants.{Usage, Absent, FileTooLong, Unopened, Ran, Wrote, WriteFault, GateFault}
 use Rattle.tophat.specs.declared.no_world.NoWorld.TheVariants.{Refused, OverBudget, Memory}
 use Rattle.tophat.specs.declared.refusal.Refusal.{Refusal}
 use Rattle.tophat.specs.Ending.{status_of}
@@ -34,7 +34,7 @@ all_written l command file script before now status told fine verdict v report r
     written_whole report before now status fine (subst (λ (z : Report). WritesReport z before now status) same r.2)
 
 -- ---- the ends of each status
-pub ends_0 : (ending : Ending) → status_of ending ≡ 0 → (ending ≡ Ran finishes.Done) ⊎ (ending ≡ Wrote)
+pub ends_0 : (ending : CommandEnding) → status_of ending ≡ 0 → (ending ≡ Ran finishes.Done) ⊎ (ending ≡ Wrote)
 ends_0 (Ran finishes.Done) e = inl refl
 ends_0 Wrote e = inr refl
 ends_0 (Unopened (Refused place refusal)) e = absurd (omega arith)
@@ -42,28 +42,28 @@ ends_0 (Unopened OverBudget) e = absurd (omega arith)
 ends_0 (Unopened Memory) e = absurd (omega arith)
 ends_0 ending e = absurd (omega arith)
 
-pub ends_1 : (ending : Ending) → status_of ending ≡ 1 → (place : ℕ) × (refusal : Refusal) × (ending ≡ Unopened (Refused place refusal))
+pub ends_1 : (ending : CommandEnding) → status_of ending ≡ 1 → (place : ℕ) × (refusal : Refusal) × (ending ≡ Unopened (Refused place refusal))
 ends_1 (Unopened (Refused place refusal)) e = (place, refusal, refl)
 ends_1 (Unopened OverBudget) e = absurd (omega arith)
 ends_1 (Unopened Memory) e = absurd (omega arith)
 ends_1 (Ran finishes.Done) e = absurd (omega arith)
 ends_1 ending e = absurd (omega arith)
 
-pub ends_3 : (ending : Ending) → status_of ending ≡ 3 → (line : ℕ) × (column : ℕ) × (ending ≡ Ran (finishes.Bad line column))
+pub ends_3 : (ending : CommandEnding) → status_of ending ≡ 3 → (line : ℕ) × (column : ℕ) × (ending ≡ Ran (finishes.Bad line column))
 ends_3 (Ran (finishes.Bad line column)) e = (line, column, refl)
 ends_3 (Unopened (Refused place refusal)) e = absurd (omega arith)
 ends_3 (Unopened OverBudget) e = absurd (omega arith)
 ends_3 (Unopened Memory) e = absurd (omega arith)
 ends_3 ending e = absurd (omega arith)
 
-pub ends_4 : (ending : Ending) → status_of ending ≡ 4 → ending ≡ Unopened OverBudget
+pub ends_4 : (ending : CommandEnding) → status_of ending ≡ 4 → ending ≡ Unopened OverBudget
 ends_4 (Unopened OverBudget) e = refl
 ends_4 (Unopened (Refused place refusal)) e = absurd (omega arith)
 ends_4 (Unopened Memory) e = absurd (omega arith)
 ends_4 (Ran finishes.Done) e = absurd (omega arith)
 ends_4 ending e = absurd (omega arith)
 
-pub ends_7 : (ending : Ending) → status_of ending ≡ 7 → (ending ≡ Absent) ⊎ ((ending ≡ FileTooLong) ⊎ (ending ≡ Ran finishes.InputTooLong))
+pub ends_7 : (ending : CommandEnding) → status_of ending ≡ 7 → (ending ≡ Absent) ⊎ ((ending ≡ FileTooLong) ⊎ (ending ≡ Ran finishes.InputTooLong))
 ends_7 Absent e = inl refl
 ends_7 FileTooLong e = inr (inl refl)
 ends_7 (Ran finishes.InputTooLong) e = inr (inr refl)
@@ -72,24 +72,32 @@ ends_7 (Unopened OverBudget) e = absurd (omega arith)
 ends_7 (Unopened Memory) e = absurd (omega arith)
 ends_7 ending e = absurd (omega arith)
 
-pub ends_8 : (ending : Ending) → status_of ending ≡ 8 → (ending ≡ Unopened Memory) ⊎ (ending ≡ Ran finishes.Memory)
+pub ends_8 : (ending : CommandEnding) → status_of ending ≡ 8 → (ending ≡ Unopened Memory) ⊎ (ending ≡ Ran finishes.Memory)
 ends_8 (Unopened Memory) e = inl refl
 ends_8 (Ran finishes.Memory) e = inr refl
 ends_8 (Unopened (Refused place refusal)) e = absurd (omega arith)
 ends_8 (Unopened OverBudget) e = absurd (omega arith)
 ends_8 ending e = absurd (omega arith)
 
+pub ends_9 : (ending : CommandEnding) → status_of ending ≡ 9 → ending ≡ GateFault
+ends_9 GateFault e = refl
+ends_9 (Unopened (Refused place refusal)) e = absurd (omega arith)
+ends_9 (Unopened OverBudget) e = absurd (omega arith)
+ends_9 (Unopened Memory) e = absurd (omega arith)
+ends_9 (Ran finishes.Done) e = absurd (omega arith)
+ends_9 ending e = absurd (omega arith)
+
 -- ---- ends at which no output is reported
 abbrev IsSilent : Report → Type 0
 IsSilent report = IfSilent report.ending (report.output ≡ [])
 
-none_written : (ending : Ending) → IsSilent (ends ending)
+none_written : (ending : CommandEnding) → IsSilent (ends ending)
 none_written (Ran finish) = tt
 none_written Wrote = tt
 none_written WriteFault = tt
 none_written ending = refl
 
-at_end : (report : Report) (ending : Ending) → report ≡ ends ending → IsSilent report
+at_end : (report : Report) (ending : CommandEnding) → report ≡ ends ending → IsSilent report
 at_end report ending e = subst IsSilent (sym e) (none_written ending)
 
 at_text : (report : Report) (text : Text) → report ≡ writes text → IsSilent report
@@ -126,3 +134,5 @@ silent_ends l (Some (check name)) file verdict script report e =
     at_file l.file file (λ r. r ≡ checks verdict) report (at_checks verdict report) e
 silent_ends l (Some (soak count seed)) file verdict script report e =
     at_opened (ReportsSoak count seed) report (λ w t. at_text report t.0 t.2) e.0 e.2
+silent_ends l (Some (drill seats each)) file verdict script report e = absurd e
+silent_ends l (Some (serve name serving)) file verdict script report e = absurd e

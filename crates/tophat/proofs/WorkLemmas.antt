@@ -21,8 +21,8 @@ use Rattle.line_frame.specs.Drove.{Drove, IsTold}
 use Rattle.line_frame.specs.Script.{TellsScript}
 use Rattle.line_frame.specs.declared.finish.Finish.{Finish}
 use Rattle.line_frame.specs.declared.finish.Finish.TheVariants as finishes
-use Rattle.tophat.specs.declared.ending.Ending.{Ending}
-use Rattle.tophat.specs.declared.ending.Ending.TheVariants.{Usage, Absent, FileTooLong, FileFault, Unopened, Ran, Wrote, WriteFault}
+use Rattle.tophat.specs.declared.ending.CommandEnding.{CommandEnding}
+use Rattle.tophat.specs.declared.ending.CommandEnding.TheVariants.{Usage, Absent, FileTooLong, FileFault, Unopened, Ran, Wrote, WriteFault, GateFault}
 use Rattle.tophat.specs.declared.no_world.NoWorld.{NoWorld}
 use Rattle.tophat.specs.declared.no_world.NoWorld.TheVariants.{Refused, OverBudget, Memory}
 use Rattle.tophat.specs.declared.refusal.Refusal.TheVariants.{Read}
@@ -44,7 +44,7 @@ use Rattle.tophat.specs.SoakReport.{IsSummary}
 use Rattle.tophat.proofs.ReportLemmas.{opens_once, soak_verdict_once}
 
 -- ---- what was written of a report
-pub writes_nothing : (report : Report) (ending : Ending) → report ≡ ends ending → Writes report [] ending
+pub writes_nothing : (report : Report) (ending : CommandEnding) → report ≡ ends ending → Writes report [] ending
 writes_nothing report FileFault e = (report.output, refl)
 writes_nothing report (Unopened Memory) e = (report.output, refl)
 writes_nothing report (Ran finishes.ReadFault) e = (report.output, refl)
@@ -98,7 +98,7 @@ over_readable bytes lt = (refused 1048576 (Read reads.TooLong), (lt, refl))
 -- ---- commands
 -- nothing of the input was read, and this was written
 worked_still : (l : Limits) (command : Option CommandTerm) (holds : Option (Option Text)) (left old new : Option Text) (written : Text)
-    (ending : Ending) (file : Option Text)
+    (ending : CommandEnding) (file : Option Text)
     → IsFile holds file → Appends old new written → HasVerdictAt ending (source_of command file)
     → ((fact : Finish → Type 0) → IfRan ending fact)
     → ((verdict : Verdict) → IsVerdictOf (source_of command file) verdict → (script : Text) (report : Report)
@@ -108,7 +108,7 @@ worked_still : (l : Limits) (command : Option CommandTerm) (holds : Option (Opti
 worked_still l command holds left old new written ending file is took verdict_is not_run comes =
     let s = known_script left in
     let other : (finish : Finish) → ending ≡ Ran finish → ⊥ =
-    λ finish e. subst (λ (z : Ending). IfRan z (λ f. ⊥)) e (not_run (λ f. ⊥)) in
+    λ finish e. subst (λ (z : CommandEnding). IfRan z (λ f. ⊥)) e (not_run (λ f. ⊥)) in
     record {
       file = file;
       script = s.0;
@@ -187,7 +187,7 @@ bytes_reported limit bytes Says report le (inr d) = let lt = d.0 in absurd (omeg
 
 -- the file couldn't be had, or isn't there, or is too long
 pub worked_file : (l : Limits) (command : Option CommandTerm) → AsksFile l command → (holds : Option (Option Text)) (left out : Option Text)
-    (ending : Ending) → 1048576 ≤ l.file → FindsFile l.file holds (Err ending) → Worked l command holds left left out out ending
+    (ending : CommandEnding) → 1048576 ≤ l.file → FindsFile l.file holds (Err ending) → Worked l command holds left left out out ending
 worked_file l command asks holds left out Absent le f =
     worked_still l command holds left out out [] Absent None f (Appends-nil out)
     (subst HasVerdict (sym (asks.source None)) (refused 0 (Read reads.TooLong), tt)) (λ fact. tt)
@@ -208,6 +208,7 @@ worked_file l command asks holds left out Usage le f = absurd f
 worked_file l command asks holds left out (Ran finish) le f = absurd f
 worked_file l command asks holds left out Wrote le f = absurd f
 worked_file l command asks holds left out WriteFault le f = absurd f
+worked_file l command asks holds left out GateFault le f = absurd f
 
 -- ---- a command that writes one text
 -- the reason for which nothing was written
@@ -229,7 +230,7 @@ module _ (l : Limits) (command : Option CommandTerm) (holds : Option (Option Tex
     (says : (verdict : Verdict) → IsVerdict bytes verdict → (script : Text) (report : Report) → Reports l command file verdict script report
     → Says report) where
   -- it was written, or a first part of it
-  pub worked_text : (left old new : Option Text) (text : Text) (ending : Ending) → TellsText Says (Ok text)
+  pub worked_text : (left old new : Option Text) (text : Text) (ending : CommandEnding) → TellsText Says (Ok text)
       → HasVerdictAfter {A = Text} (Ok text) bytes → WritesText old new text ending → Worked l command holds left left old new ending
   worked_text left old new text Wrote t h w =
       worked_still l command holds left old new text Wrote file is w (subst HasVerdict (sym source) h) (λ fact. tt)
@@ -244,6 +245,7 @@ module _ (l : Limits) (command : Option CommandTerm) (holds : Option (Option Tex
   worked_text left old new text Absent t h w = absurd w
   worked_text left old new text FileTooLong t h w = absurd w
   worked_text left old new text FileFault t h w = absurd w
+  worked_text left old new text GateFault t h w = absurd w
   worked_text left old new text (Ran finish) t h w = absurd w
 
   -- there is none
@@ -353,7 +355,7 @@ refused_tells bytes Memory one = tt
 
 -- the text of a program was written, or a first part of it
 pub check_written : (name : Text) (holds : Option (Option Text)) (bytes : Rowed ℕ) (slice : Text) (left old new : Option Text) (text : Text)
-    (ending : Ending) → slice ≡ bytes.list → FindsFile limits.file holds (Ok bytes) → TellsText (ReportsCheck slice) (Ok text)
+    (ending : CommandEnding) → slice ≡ bytes.list → FindsFile limits.file holds (Ok bytes) → TellsText (ReportsCheck slice) (Ok text)
     → HasVerdictAfter {A = Text} (Ok text) slice → WritesText old new text ending
     → Worked limits (Some (check name)) holds left left old new ending
 check_written name holds bytes slice left old new text ending same found t h w =
@@ -373,7 +375,7 @@ check_refused name holds bytes slice left out why same found t h =
     (subst (λ (z : Text). HasVerdictAfter {A = Text} (Err why) z) same h)
 
 -- ---- soaks
-pub soak_written : (count seed : ℕ) (holds : Option (Option Text)) (left old new : Option Text) (text : Text) (ending : Ending)
+pub soak_written : (count seed : ℕ) (holds : Option (Option Text)) (left old new : Option Text) (text : Text) (ending : CommandEnding)
     → TellsText (ReportsInputs count seed) (Ok text) → HasVerdictAfter {A = Text} (Ok text) soak_text → WritesText old new text ending
     → Worked limits (Some (soak count seed)) holds left left old new ending
 soak_written count seed holds left old new text ending t h w =
@@ -410,7 +412,7 @@ pub heard : (sink : Around (Option Text)) (text : Text) (written : Written) → 
 heard sink text Whole w f = record { part = text; start = ([], sym (append-nil text)); took = w; whole = inl refl }
 heard sink text Failed w f = record { part = w.0; start = w.1; took = w.2; whole = inr (f refl) }
 
-pub is_read_fault : (ending : Ending) → status_of ending ≡ 5 → (ending ≡ FileFault) ⊎ (ending ≡ Ran finishes.ReadFault)
+pub is_read_fault : (ending : CommandEnding) → status_of ending ≡ 5 → (ending ≡ FileFault) ⊎ (ending ≡ Ran finishes.ReadFault)
 is_read_fault FileFault e = inl refl
 is_read_fault (Ran finishes.ReadFault) e = inr refl
 is_read_fault (Unopened (Refused place refusal)) e = absurd (omega arith)
@@ -418,7 +420,7 @@ is_read_fault (Unopened OverBudget) e = absurd (omega arith)
 is_read_fault (Unopened Memory) e = absurd (omega arith)
 is_read_fault ending e = absurd (omega arith)
 
-pub is_write_fault : (ending : Ending) → status_of ending ≡ 6 → (ending ≡ Ran finishes.WriteFault) ⊎ (ending ≡ WriteFault)
+pub is_write_fault : (ending : CommandEnding) → status_of ending ≡ 6 → (ending ≡ Ran finishes.WriteFault) ⊎ (ending ≡ WriteFault)
 is_write_fault (Ran finishes.WriteFault) e = inl refl
 is_write_fault WriteFault e = inr refl
 is_write_fault (Unopened (Refused place refusal)) e = absurd (omega arith)
@@ -426,7 +428,7 @@ is_write_fault (Unopened OverBudget) e = absurd (omega arith)
 is_write_fault (Unopened Memory) e = absurd (omega arith)
 is_write_fault ending e = absurd (omega arith)
 
-pub is_usage : (ending : Ending) → status_of ending ≡ 2 → ending ≡ Usage
+pub is_usage : (ending : CommandEnding) → status_of ending ≡ 2 → ending ≡ Usage
 is_usage Usage e = refl
 is_usage (Ran finishes.Done) e = absurd (omega arith)
 is_usage (Unopened (Refused place refusal)) e = absurd (omega arith)
@@ -439,15 +441,15 @@ risen : (count : Counted) → count.now ≡ next_count count.before → HasRisen
 risen count e = subst (λ (z : ℕ). z ≤ count.now) e (omega arith)
 
 -- at an end by a fault the count of that object has risen
-pub files_risen : (ending : Ending) (count : Counted) → count.now ≡ file_faults_after count.before ending → ending ≡ FileFault
+pub files_risen : (ending : CommandEnding) (count : Counted) → count.now ≡ file_faults_after count.before ending → ending ≡ FileFault
     → HasRisen count
 files_risen ending count c e = risen count (c ∙ ap (file_faults_after count.before) e)
 
-pub input_risen : (ending : Ending) (count : Counted) → count.now ≡ input_faults_after count.before ending → ending ≡ Ran finishes.ReadFault
+pub input_risen : (ending : CommandEnding) (count : Counted) → count.now ≡ input_faults_after count.before ending → ending ≡ Ran finishes.ReadFault
     → HasRisen count
 input_risen ending count c e = risen count (c ∙ ap (input_faults_after count.before) e)
 
-pub output_risen : (ending : Ending) (count : Counted) → count.now ≡ output_faults_after count.before ending
+pub output_risen : (ending : CommandEnding) (count : Counted) → count.now ≡ output_faults_after count.before ending
     → (ending ≡ Ran finishes.WriteFault) ⊎ (ending ≡ WriteFault) → HasRisen count
 output_risen ending count c (inl e) = risen count (c ∙ ap (output_faults_after count.before) e)
 output_risen ending count c (inr e) = risen count (c ∙ ap (output_faults_after count.before) e)
@@ -462,7 +464,7 @@ none_failed code status files input out s no_5 no_6 f i o = record {
 }
 
 -- the counts by the end are the counts by its status
-pub failed_by : (ending : Ending) (status : ℕ) (files input out : Counted) → status ≡ status_of ending
+pub failed_by : (ending : CommandEnding) (status : ℕ) (files input out : Counted) → status ≡ status_of ending
     → files.now ≡ file_faults_after files.before ending → input.now ≡ input_faults_after input.before ending
     → out.now ≡ output_faults_after out.before ending → FailedBy status files input out
 failed_by FileFault status files input out s f i o = record {
@@ -487,6 +489,8 @@ failed_by WriteFault status files input out s f i o = record {
 }
 failed_by Wrote status files input out s f i o =
     none_failed 0 status files input out s (λ e. omega (arith, e)) (λ e. omega (arith, e)) f i o
+failed_by GateFault status files input out s f i o =
+    none_failed 9 status files input out s (λ e. omega (arith, e)) (λ e. omega (arith, e)) f i o
 failed_by Usage status files input out s f i o =
     none_failed 2 status files input out s (λ e. omega (arith, e)) (λ e. omega (arith, e)) f i o
 failed_by Absent status files input out s f i o =

@@ -10,7 +10,7 @@ use Rattle.line_frame.specs.declared.finish.Finish.TheVariants.{Done}
 use Rattle.command_words.specs.Commands.{CommandTerm, run}
 use Rattle.input_lines.specs.ScriptLines.{LineTerm, IsScriptLine}
 use Rattle.input_lines.specs.LinePlaces.{IsLineWithin}
-use Rattle.tophat.specs.declared.ending.Ending.TheVariants.{Ran}
+use Rattle.tophat.specs.declared.ending.CommandEnding.TheVariants.{Ran}
 use Rattle.tophat.specs.Verdict.{accepted, IsVerdict}
 use Rattle.tophat.specs.Session.{Answers}
 use Rattle.tophat.specs.Top.{Limits, Report, world_at}

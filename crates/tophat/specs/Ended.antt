@@ -5,8 +5,8 @@ use Rattle.outer_io.specs.Causes.{Rose, next_count}
 use Rattle.outer_io.specs.Sink.{IsStart}
 use Rattle.task_model.specs.Terms.Text.{Text}
 use Rattle.line_frame.specs.RunFaults.{read_faults_after_run, write_faults_after_run}
-use Rattle.tophat.specs.declared.ending.Ending.{Ending}
-use Rattle.tophat.specs.declared.ending.Ending.TheVariants.{FileFault, Ran, WriteFault}
+use Rattle.tophat.specs.declared.ending.CommandEnding.{CommandEnding}
+use Rattle.tophat.specs.declared.ending.CommandEnding.TheVariants.{FileFault, Ran, WriteFault}
 use Rattle.command_words.specs.Commands.{CommandTerm}
 use Rattle.tophat.specs.Ending.{status_of, text_of}
 use Rattle.tophat.specs.Objects.{Counted, Around, Objects}
@@ -21,17 +21,17 @@ pub record Heard (sink : Around (Option Text)) (text : Text) : Type 0 where
   pub whole : (part ≡ text) ⊎ Rose sink.faults.before sink.faults.now
 
 -- the count of the files' faults after a command: one more exactly where a request that failed is its end
-abbrev pub file_faults_after : ℕ → Ending → ℕ
+abbrev pub file_faults_after : ℕ → CommandEnding → ℕ
 file_faults_after before FileFault = next_count before
 file_faults_after before ending = before
 
 -- the count of the input's faults after a command: one more exactly where a read that failed is its end
-abbrev pub input_faults_after : ℕ → Ending → ℕ
+abbrev pub input_faults_after : ℕ → CommandEnding → ℕ
 input_faults_after before (Ran finish) = read_faults_after_run before finish
 input_faults_after before ending = before
 
 -- the count of the output's faults after a command: one more exactly where a write that failed is its end
-abbrev pub output_faults_after : ℕ → Ending → ℕ
+abbrev pub output_faults_after : ℕ → CommandEnding → ℕ
 output_faults_after before (Ran finish) = write_faults_after_run before finish
 output_faults_after before WriteFault = next_count before
 output_faults_after before ending = before
@@ -39,7 +39,7 @@ output_faults_after before ending = before
 -- `out` took what is reported, `err` the text of the end, and the status is that of the end. A count rises, by one, exactly where the end
 -- is that fault. Where no line was run `input` is untouched, and `out` where nothing was to be written.
 pub record Ended (l : Limits) (command : Option CommandTerm) (o : Objects) (status : ℕ) : Type 0 where
-  pub ending : Ending
+  pub ending : CommandEnding
   pub status_is : status ≡ status_of ending
   pub worked : Worked l command (o.files.before (named command)) o.input.before o.input.now o.out.before o.out.now ending
   pub heard : Heard o.err (text_of (named command) ending)

@@ -3,8 +3,8 @@ use Rattle.std.specs.Prelude.{ℕ, [], ◌++◌, codes, decimal}
 use Rattle.task_model.specs.Terms.Text.{Text}
 use Rattle.line_frame.specs.declared.finish.Finish.{Finish}
 use Rattle.line_frame.specs.declared.finish.Finish.TheVariants as finishes
-use Rattle.tophat.specs.declared.ending.Ending.{Ending}
-use Rattle.tophat.specs.declared.ending.Ending.TheVariants.{Usage, Absent, FileTooLong, FileFault, Unopened, Ran, Wrote, WriteFault}
+use Rattle.tophat.specs.declared.ending.CommandEnding.{CommandEnding}
+use Rattle.tophat.specs.declared.ending.CommandEnding.TheVariants.{Usage, Absent, FileTooLong, FileFault, Unopened, Ran, Wrote, WriteFault, GateFault}
 use Rattle.tophat.specs.declared.no_world.NoWorld.{NoWorld}
 use Rattle.tophat.specs.declared.no_world.NoWorld.TheVariants.{Refused, OverBudget, Memory}
 use Rattle.tophat.specs.declared.refusal.Refusal.{Refusal}
@@ -28,7 +28,7 @@ script_status finishes.ReadFault = 5
 script_status finishes.WriteFault = 6
 script_status finishes.Memory = 8
 
-abbrev pub status_of : Ending → ℕ
+abbrev pub status_of : CommandEnding → ℕ
 status_of Usage = 2
 status_of Absent = 7
 status_of FileTooLong = 7
@@ -37,6 +37,7 @@ status_of (Unopened why) = opening_status why
 status_of (Ran finish) = script_status finish
 status_of Wrote = 0
 status_of WriteFault = 6
+status_of GateFault = 9
 
 -- ---- texts
 abbrev pub usage : Text
@@ -81,7 +82,7 @@ script_text finishes.ReadFault = codes "tophat: read fault\n"
 script_text finishes.WriteFault = codes "tophat: write fault\n"
 script_text finishes.Memory = codes "tophat: out of memory\n"
 
-abbrev pub text_of : Text → Ending → Text
+abbrev pub text_of : Text → CommandEnding → Text
 text_of name Usage = usage
 text_of name Absent = about_file name (codes ": no such file")
 text_of name FileTooLong = about_file name (codes ": too long")
@@ -90,3 +91,4 @@ text_of name (Unopened why) = opening_text name why
 text_of name (Ran finish) = script_text finish
 text_of name Wrote = []
 text_of name WriteFault = codes "tophat: write fault\n"
+text_of name GateFault = codes "tophat: gate fault\n"

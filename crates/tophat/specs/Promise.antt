@@ -1,4 +1,4 @@
--- The promise of the top call where the objects tell their bytes.
+-- The promise of `plain` where the objects tell their bytes.
 use Rattle.std.specs.Prelude.{ℕ, ◌≡◌, ◌⊎◌, ◌++◌, Option, Some, ⊤}
 use Rattle.outer_io.specs.Sink.{IsStart}
 use Rattle.task_model.specs.Terms.Text.{Text}

@@ -9,7 +9,7 @@ use Rattle.line_frame.specs.declared.finish.Finish.TheVariants.{Done}
 use Rattle.input_lines.specs.ScriptLines.{IsScriptLine, gives}
 use Rattle.input_lines.specs.EntryText.{entry_line}
 use Rattle.history_lines.specs.EntryLines.{entries_text}
-use Rattle.tophat.specs.declared.ending.Ending.TheVariants.{Ran}
+use Rattle.tophat.specs.declared.ending.CommandEnding.TheVariants.{Ran}
 use Rattle.tophat.specs.Top.{Limits, Report}
 
 -- the line that asks for the page of a seat

@@ -5,8 +5,8 @@ use Rattle.outer_io.specs.Sink.{IsStart}
 use Rattle.task_model.specs.Terms.Text.{Text}
 use Rattle.task_model.specs.Terms.Rowed.{Rowed}
 use Rattle.input_lines.specs.Soak.{soak_text}
-use Rattle.tophat.specs.declared.ending.Ending.{Ending}
-use Rattle.tophat.specs.declared.ending.Ending.TheVariants.{Absent, FileTooLong, FileFault, Unopened, Wrote, WriteFault}
+use Rattle.tophat.specs.declared.ending.CommandEnding.{CommandEnding}
+use Rattle.tophat.specs.declared.ending.CommandEnding.TheVariants.{Absent, FileTooLong, FileFault, Unopened, Wrote, WriteFault}
 use Rattle.tophat.specs.declared.no_world.NoWorld.{NoWorld}
 use Rattle.tophat.specs.declared.no_world.NoWorld.TheVariants.{Memory}
 use Rattle.tophat.specs.Verdict.{Verdict, IsVerdict}
@@ -14,7 +14,7 @@ use Rattle.tophat.specs.Top.{Report, ends, writes, checks, soak_budget, ReportsV
 use Rattle.tophat.specs.Worked.{IsFile}
 
 -- a file of at most so many bytes, or how a command ends that asked for it
-abbrev pub FindsFile : ℕ → Option (Option Text) → Result (Rowed ℕ) Ending → Type 0
+abbrev pub FindsFile : ℕ → Option (Option Text) → Result (Rowed ℕ) CommandEnding → Type 0
 FindsFile limit holds (Ok bytes) = IsFile holds (Some bytes.list) × (length bytes.list ≤ limit)
 FindsFile limit holds (Err Absent) = IsFile holds None
 FindsFile limit holds (Err FileTooLong) = (bytes : Text) × (limit < length bytes) × IsFile holds (Some bytes)
@@ -23,7 +23,7 @@ FindsFile limit holds (Err (Unopened Memory)) = ⊤
 FindsFile limit holds (Err ending) = ⊥
 
 -- a text was written, or the first part of it where a write failed
-abbrev pub WritesText : Option Text → Option Text → Text → Ending → Type 0
+abbrev pub WritesText : Option Text → Option Text → Text → CommandEnding → Type 0
 WritesText old new text Wrote = Appends old new text
 WritesText old new text WriteFault = (part : Text) × IsStart part text × Appends old new part
 WritesText old new text ending = ⊥

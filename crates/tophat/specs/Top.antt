@@ -1,5 +1,5 @@
 -- What a command reports: what it writes and how it ends, by its file, the verdict on what it reads, and the script.
-use Rattle.std.specs.Prelude.{ℕ, ◌≡◌, ◌<◌, ◌≤◌, ◌⊎◌, List, [], ◌∷◌, length, Option, None, Some}
+use Rattle.std.specs.Prelude.{ℕ, ◌≡◌, ◌<◌, ◌≤◌, ◌⊎◌, List, [], ◌∷◌, length, Option, None, Some, ⊤}
 use Rattle.task_model.specs.Terms.Text.{Text}
 use Rattle.task_model.specs.Terms.Tree.{State}
 use Rattle.task_model.specs.Terms.Item.{opened}
@@ -11,10 +11,10 @@ use Rattle.line_frame.specs.Told.{Told}
 use Rattle.line_frame.specs.Script.{TellsScript, cut_of}
 use Rattle.line_frame.specs.declared.finish.Finish.{Finish}
 use Rattle.line_frame.specs.declared.finish.Finish.TheVariants.{ReadFault}
-use Rattle.command_words.specs.Commands.{CommandTerm, run, check, soak}
+use Rattle.command_words.specs.Commands.{CommandTerm, run, check, soak, drill, serve}
 use Rattle.input_lines.specs.Soak.{soak_text}
-use Rattle.tophat.specs.declared.ending.Ending.{Ending}
-use Rattle.tophat.specs.declared.ending.Ending.TheVariants.{Usage, Absent, FileTooLong, Unopened, Ran, Wrote}
+use Rattle.tophat.specs.declared.ending.CommandEnding.{CommandEnding}
+use Rattle.tophat.specs.declared.ending.CommandEnding.TheVariants.{Usage, Absent, FileTooLong, Unopened, Ran, Wrote}
 use Rattle.tophat.specs.declared.no_world.NoWorld.TheVariants.{Refused, OverBudget}
 use Rattle.tophat.specs.Verdict.{Verdict, accepted, refused}
 use Rattle.tophat.specs.Session.{Tells}
@@ -33,10 +33,10 @@ limits = record { file = 1048576; line = 1048576; script = 67108864 }
 -- what a command writes, and how it ends
 pub record Report : Type 0 where
   pub output : Text
-  pub ending : Ending
+  pub ending : CommandEnding
 
 -- nothing is written
-abbrev pub ends : Ending → Report
+abbrev pub ends : CommandEnding → Report
 ends ending = record { output = []; ending = ending }
 
 -- a text is written
@@ -54,13 +54,17 @@ named None = []
 named (Some (run name budget)) = name
 named (Some (check name)) = name
 named (Some (soak count seed)) = []
+named (Some (drill seats each)) = []
+named (Some (serve name serving)) = name
 
--- the words ask for a command that starts threads or opens sockets: none of today's does
+-- the words ask for a command that starts threads: it isn't a plain one
 abbrev pub NeedsMore : Option CommandTerm → Type 0
 NeedsMore None = ⊥
 NeedsMore (Some (run name budget)) = ⊥
 NeedsMore (Some (check name)) = ⊥
 NeedsMore (Some (soak count seed)) = ⊥
+NeedsMore (Some (drill seats each)) = ⊤
+NeedsMore (Some (serve name serving)) = ⊤
 
 -- the source of a command's program, where it asks for this file: the file, and of `soak` the text of its own
 abbrev pub source_of : Option CommandTerm → Option Text → Option Text
@@ -75,7 +79,7 @@ world_at c budget s = record { checked = c; budget = budget; history = opened c.
 -- what a source comes to: a world, or an end
 pub data Opened : Type 0 where
   world : WorldTerm → Opened
-  none : Ending → Opened
+  none : CommandEnding → Opened
 
 -- what is read comes to the world at the opening's state, if there is one
 abbrev pub OpensVerdict : ℕ → Verdict → Opened → Type 0
@@ -117,13 +121,15 @@ checks (refused place refusal) = ends (Unopened (Refused place refusal))
 abbrev pub soak_budget : ℕ
 soak_budget = 10000
 
--- this is reported of a command, by what is told at the world of its file
+-- this is reported of a plain command, by what is told at the world of its file; of another one nothing is
 abbrev pub ReportsCommand : Limits → Option CommandTerm → Option Text → Verdict → (WorldTerm → Told → Type 0) → Report → Type 0
 ReportsCommand l None file verdict TellsAt report = report ≡ ends Usage
 ReportsCommand l (Some (run name budget)) file verdict TellsAt report =
     ReportsFile l.file file (ReportsVerdict budget verdict (ReportsTold TellsAt)) report
 ReportsCommand l (Some (check name)) file verdict TellsAt report = ReportsFile l.file file (λ r. r ≡ checks verdict) report
 ReportsCommand l (Some (soak count seed)) file verdict TellsAt report = ReportsVerdict soak_budget verdict (ReportsSoak count seed) report
+ReportsCommand l (Some (drill seats each)) file verdict TellsAt report = ⊥
+ReportsCommand l (Some (serve name serving)) file verdict TellsAt report = ⊥
 
 -- this is reported of the whole script
 abbrev pub Reports : Limits → Option CommandTerm → Option Text → Verdict → Text → Report → Type 0

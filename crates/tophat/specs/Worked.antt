@@ -1,4 +1,4 @@
--- What a command did.
+-- What a plain command did.
 use Rattle.std.specs.Prelude.{ℕ, ◌≡◌, List, Option, None, Some, Result, Ok, Err, ⊤}
 use Rattle.std.specs.Io.KnownBytes.{Appends, Consumes}
 use Rattle.outer_io.specs.Sink.{IsStart}
@@ -8,8 +8,8 @@ use Rattle.line_frame.specs.RanOut.{RanOut}
 use Rattle.line_frame.specs.Drove.{Drove, IsRead, IsTold}
 use Rattle.line_frame.specs.declared.finish.Finish.{Finish}
 use Rattle.line_frame.specs.declared.finish.Finish.TheVariants as finishes
-use Rattle.tophat.specs.declared.ending.Ending.{Ending}
-use Rattle.tophat.specs.declared.ending.Ending.TheVariants.{Usage, FileFault, Unopened, Ran, Wrote, WriteFault}
+use Rattle.tophat.specs.declared.ending.CommandEnding.{CommandEnding}
+use Rattle.tophat.specs.declared.ending.CommandEnding.TheVariants.{Usage, FileFault, Unopened, Ran, Wrote, WriteFault, GateFault}
 use Rattle.tophat.specs.declared.no_world.NoWorld.{NoWorld}
 use Rattle.tophat.specs.declared.no_world.NoWorld.TheVariants.{Memory}
 use Rattle.command_words.specs.Commands.{CommandTerm}
@@ -26,7 +26,7 @@ IsFile (Some known) file = known ≡ file
 
 -- what was written of what is reported: all of it, and the end is the reported one; or the first part, where a fault or want of memory
 -- ends the command
-abbrev pub Writes : Report → Text → Ending → Type 0
+abbrev pub Writes : Report → Text → CommandEnding → Type 0
 Writes report written FileFault = IsStart written report.output
 Writes report written (Unopened Memory) = IsStart written report.output
 Writes report written (Ran finishes.ReadFault) = IsStart written report.output
@@ -35,15 +35,17 @@ Writes report written (Ran finishes.Memory) = IsStart written report.output
 Writes report written WriteFault = IsStart written report.output
 Writes report written ending = report ≡ record { output = written; ending = ending }
 
--- at this end there is a verdict on the source, unless the words are outside the grammar, its bytes could not be had, or memory ran out
-abbrev pub HasVerdictAt : Ending → Option Text → Type 0
+-- at this end there is a verdict on the source, unless the words are outside the grammar, its bytes could not be had, or memory ran out; and no
+-- plain command ends by a fault of the listening side
+abbrev pub HasVerdictAt : CommandEnding → Option Text → Type 0
 HasVerdictAt Usage file = ⊤
 HasVerdictAt FileFault file = ⊤
 HasVerdictAt (Unopened Memory) file = ⊤
+HasVerdictAt GateFault file = ⊥
 HasVerdictAt ending file = HasVerdict file
 
 -- a fact of how the script ended, where its lines were run
-abbrev pub IfRan : Ending → (Finish → Type 0) → Type 0
+abbrev pub IfRan : CommandEnding → (Finish → Type 0) → Type 0
 IfRan (Ran finish) fact = fact finish
 IfRan ending fact = ⊤
 
@@ -60,7 +62,7 @@ AreReported l command file written lines =
 -- read. Where lines were run, none of those that had ended before the last read is bad, and all that is reported of them was written.
 -- Memory ran out at no line that is beyond the limit.
 pub record Worked (l : Limits) (command : Option CommandTerm) (holds : Option (Option Text))
-    (left_old left_new taken_old taken_new : Option Text) (ending : Ending) : Type 0 where
+    (left_old left_new taken_old taken_new : Option Text) (ending : CommandEnding) : Type 0 where
   pub file : Option Text
   pub script : Text
   pub read : Text
@@ -85,30 +87,30 @@ pub record Worked (l : Limits) (command : Option CommandTerm) (holds : Option (O
   pub ran_out : ending ≡ Ran finishes.Memory → RanOut (AreReported l command file written) l.script read
 
 -- a fact where no line of a script was run
-abbrev pub IfNotRun : Ending → Type 0 → Type 0
+abbrev pub IfNotRun : CommandEnding → Type 0 → Type 0
 IfNotRun (Ran finish) fact = ⊤
 IfNotRun ending fact = fact
 
 -- a fact where nothing was written
-abbrev pub IfSilent : Ending → Type 0 → Type 0
+abbrev pub IfSilent : CommandEnding → Type 0 → Type 0
 IfSilent (Ran finish) fact = ⊤
 IfSilent Wrote fact = ⊤
 IfSilent WriteFault fact = ⊤
 IfSilent ending fact = fact
 
 -- how it ends where the words ask for no command
-abbrev pub word_ending : WordStop → Ending
+abbrev pub word_ending : WordStop → CommandEnding
 word_ending words.Outside = Usage
 word_ending words.Memory = Unopened Memory
 
 -- a script was run, or the words are outside the grammar
-abbrev pub IsRunEnd : Ending → Type 0
+abbrev pub IsRunEnd : CommandEnding → Type 0
 IsRunEnd (Ran finish) = ⊤
 IsRunEnd Usage = ⊤
 IsRunEnd ending = ⊥
 
 -- a text was to be written
-abbrev pub IsTextEnd : Ending → Type 0
+abbrev pub IsTextEnd : CommandEnding → Type 0
 IsTextEnd Wrote = ⊤
 IsTextEnd WriteFault = ⊤
 IsTextEnd ending = ⊥

@@ -13,7 +13,7 @@ const USAGE: &[u8] =
 
 /// How a command ends, by its cause.
 #[derive(Drop)]
-pub(crate) enum Ending {
+pub enum CommandEnding {
     /// The words of the command line are outside their grammar.
     Usage,
     /// There is no such file.
@@ -30,40 +30,44 @@ pub(crate) enum Ending {
     Wrote,
     /// A write of it failed.
     WriteFault,
+    /// The listening side of what was served failed. No plain command ends so.
+    GateFault,
 }
 
-impl Ending {
+impl CommandEnding {
     /// The status of an end (docs/FORMATS.md, "Statuses").
-    pub(crate) fn status(&self) -> u8
+    pub fn status(&self) -> u8
         ensures { result ≡ status_of self.now }
     {
         match self {
-            Ending::Usage => 2,
-            Ending::Absent => 7,
-            Ending::FileTooLong => 7,
-            Ending::FileFault => 5,
-            Ending::Unopened(why) => why.status(),
-            Ending::Ran(finish) => status_of_script(finish),
-            Ending::Wrote => 0,
-            Ending::WriteFault => 6,
+            CommandEnding::Usage => 2,
+            CommandEnding::Absent => 7,
+            CommandEnding::FileTooLong => 7,
+            CommandEnding::FileFault => 5,
+            CommandEnding::Unopened(why) => why.status(),
+            CommandEnding::Ran(finish) => status_of_script(finish),
+            CommandEnding::Wrote => 0,
+            CommandEnding::WriteFault => 6,
+            CommandEnding::GateFault => 9,
         }
     }
 
     /// Writes the text of an end of a command that asks for the file of this name. It takes no memory.
-    pub(crate) fn tell<E: Sink>(&self, err: &mut E, name: &[u8]) -> Written
+    pub fn tell<E: Sink>(&self, err: &mut E, name: &[u8]) -> Written
         ensures text { Wrote (E.taken err.old) (E.taken err.new) (text_of name.now self.now) result }
         ensures count { E.faults err.old ≤ E.faults err.new }
         ensures failed { result ≡ Written.Failed → Rose (E.faults err.old) (E.faults err.new) }
     {
         match self {
-            Ending::Usage => write_all(err, USAGE),
-            Ending::Absent => write_four(err, b"tophat: ", name, b": no such file", b"\n"),
-            Ending::FileTooLong => write_four(err, b"tophat: ", name, b": too long", b"\n"),
-            Ending::FileFault => write_all(err, b"tophat: read fault\n"),
-            Ending::Unopened(why) => why.tell(err, name),
-            Ending::Ran(finish) => tell_script(err, finish),
-            Ending::Wrote => Written::Whole,
-            Ending::WriteFault => write_all(err, b"tophat: write fault\n"),
+            CommandEnding::Usage => write_all(err, USAGE),
+            CommandEnding::Absent => write_four(err, b"tophat: ", name, b": no such file", b"\n"),
+            CommandEnding::FileTooLong => write_four(err, b"tophat: ", name, b": too long", b"\n"),
+            CommandEnding::FileFault => write_all(err, b"tophat: read fault\n"),
+            CommandEnding::Unopened(why) => why.tell(err, name),
+            CommandEnding::Ran(finish) => tell_script(err, finish),
+            CommandEnding::Wrote => Written::Whole,
+            CommandEnding::WriteFault => write_all(err, b"tophat: write fault\n"),
+            CommandEnding::GateFault => write_all(err, b"tophat: gate fault\n"),
         }
     }
 }

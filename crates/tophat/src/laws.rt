@@ -11,28 +11,30 @@ ghost use Rattle.task_model.specs.declared.widget.Face.TheVariants as faces;
 ghost use Rattle.command_words.specs.Commands.{CommandTerm, run};
 ghost use Rattle.tophat.specs.Ending.{status_of};
 ghost use Rattle.tophat.specs.Verdict.{Verdict, IsVerdict, IsVerdictOf, accepted};
-ghost use Rattle.tophat.specs.Top.{Limits, Report, Reports, ReportsLines, limits, source_of, world_at};
+ghost use Rattle.tophat.specs.Top.{Limits, NeedsMore, Report, Reports, ReportsLines, limits, source_of, world_at};
 ghost use Rattle.tophat.specs.Worked.{IfSilent};
 ghost use Rattle.tophat.specs.Promise.{IsCutShort, Promised};
 ghost use Rattle.tophat.specs.Complete.{IsRunnable, ReportsAll, lines_of};
 ghost use Rattle.tophat.specs.Replay.{AskAgain, IsReplayable, replay_script, replayed};
 ghost use Rattle.line_frame.specs.declared.finish.Finish.{Finish};
 ghost use Rattle.line_frame.specs.declared.finish.Finish.TheVariants as finishes;
-ghost use Rattle.tophat.specs.declared.ending.Ending.{Ending};
-ghost use Rattle.tophat.specs.declared.ending.Ending.TheVariants as endings;
+ghost use Rattle.tophat.specs.declared.ending.CommandEnding.{CommandEnding};
+ghost use Rattle.tophat.specs.declared.ending.CommandEnding.TheVariants as endings;
 ghost use Rattle.tophat.specs.declared.no_world.NoWorld.TheVariants as reasons;
 ghost use Rattle.tophat.specs.declared.refusal.Refusal.{Refusal};
 
-/// A command has exactly one report on a file, a verdict on its source and a script, and there is one on each first part of a script.
+/// A plain command has exactly one report on a file, a verdict on its source and a script, and there is one on each first part of a script.
+/// Of a command that needs more nothing is reported.
 pub fn one_report()
     ensures some { (l : Limits) (command : Option CommandTerm) (file : Option Text) (verdict : Verdict) (script : Text) →
-        (report : Report) × Reports l command file verdict script report }
+        (NeedsMore command → ⊥) → (report : Report) × Reports l command file verdict script report }
     ensures one { (l : Limits) (command : Option CommandTerm) (file : Option Text) (verdict : Verdict) (script : Text) (one other : Report)
         →
         Reports l command file verdict script one → Reports l command file verdict script other → one ≡ other }
+    ensures nothing { (l : Limits) (command : Option CommandTerm) (file : Option Text) (verdict : Verdict) (script : Text) (report : Report)
+        → NeedsMore command → Reports l command file verdict script report → ⊥ }
     ensures lines { (l : Limits) (command : Option CommandTerm) (file : Option Text) (verdict : Verdict) (lines : List Text)
-        (finish : Finish) →
-        (report : Report) × ReportsLines l command file verdict lines finish report }
+        (finish : Finish) → (NeedsMore command → ⊥) → (report : Report) × ReportsLines l command file verdict lines finish report }
 {}
 
 /// Where a file has an accepted program whose opening has a state, and the script and each of its lines are within their limits and in the
@@ -67,19 +69,20 @@ pub fn all_was_written()
 /// The ends of each status (docs/FORMATS.md, "Statuses"), and where no output is reported: at all ends but those of scripts and of written
 /// texts.
 pub fn statuses_tell_ends()
-    ensures zero { (ending : Ending) → status_of ending ≡ 0 → (ending ≡ endings.Ran finishes.Done) ⊎ (ending ≡ endings.Wrote) }
-    ensures one { (ending : Ending) → status_of ending ≡ 1 → (place : ℕ) × (refusal : Refusal)
+    ensures zero { (ending : CommandEnding) → status_of ending ≡ 0 → (ending ≡ endings.Ran finishes.Done) ⊎ (ending ≡ endings.Wrote) }
+    ensures one { (ending : CommandEnding) → status_of ending ≡ 1 → (place : ℕ) × (refusal : Refusal)
         × (ending ≡ endings.Unopened (reasons.Refused place refusal)) }
-    ensures two { (ending : Ending) → status_of ending ≡ 2 → ending ≡ endings.Usage }
-    ensures three { (ending : Ending) → status_of ending ≡ 3 → (line : ℕ) × (column : ℕ)
+    ensures two { (ending : CommandEnding) → status_of ending ≡ 2 → ending ≡ endings.Usage }
+    ensures three { (ending : CommandEnding) → status_of ending ≡ 3 → (line : ℕ) × (column : ℕ)
         × (ending ≡ endings.Ran (finishes.Bad line column)) }
-    ensures four { (ending : Ending) → status_of ending ≡ 4 → ending ≡ endings.Unopened reasons.OverBudget }
-    ensures five { (ending : Ending) → status_of ending ≡ 5 → (ending ≡ endings.FileFault) ⊎ (ending ≡ endings.Ran finishes.ReadFault) }
-    ensures six { (ending : Ending) → status_of ending ≡ 6 → (ending ≡ endings.Ran finishes.WriteFault) ⊎ (ending ≡ endings.WriteFault) }
-    ensures seven { (ending : Ending) → status_of ending ≡ 7 → (ending ≡ endings.Absent) ⊎ ((ending ≡ endings.FileTooLong)
+    ensures four { (ending : CommandEnding) → status_of ending ≡ 4 → ending ≡ endings.Unopened reasons.OverBudget }
+    ensures five { (ending : CommandEnding) → status_of ending ≡ 5 → (ending ≡ endings.FileFault) ⊎ (ending ≡ endings.Ran finishes.ReadFault) }
+    ensures six { (ending : CommandEnding) → status_of ending ≡ 6 → (ending ≡ endings.Ran finishes.WriteFault) ⊎ (ending ≡ endings.WriteFault) }
+    ensures seven { (ending : CommandEnding) → status_of ending ≡ 7 → (ending ≡ endings.Absent) ⊎ ((ending ≡ endings.FileTooLong)
         ⊎ (ending ≡ endings.Ran finishes.InputTooLong)) }
-    ensures eight { (ending : Ending) → status_of ending ≡ 8 → (ending ≡ endings.Unopened reasons.Memory)
+    ensures eight { (ending : CommandEnding) → status_of ending ≡ 8 → (ending ≡ endings.Unopened reasons.Memory)
         ⊎ (ending ≡ endings.Ran finishes.Memory) }
+    ensures nine { (ending : CommandEnding) → status_of ending ≡ 9 → ending ≡ endings.GateFault }
     ensures silent { (l : Limits) (command : Option CommandTerm) (file : Option Text) (verdict : Verdict) (script : Text) (report : Report)
         → Reports l command file verdict script report → IfSilent report.ending (report.output ≡ []) }
 {}

@@ -30,7 +30,8 @@ impl From<OutOfMemory> for NoWorld {
 }
 
 impl NoWorld {
-    pub(crate) fn status(&self) -> u8
+    /// The status of a command whose program has no world (docs/FORMATS.md, "Statuses").
+    pub fn status(&self) -> u8
         ensures { result ≡ opening_status self.now }
     {
         match self {
@@ -41,7 +42,7 @@ impl NoWorld {
     }
 
     /// Writes why the program in the file of this name has no world. It takes no memory.
-    pub(crate) fn tell<E: Sink>(&self, err: &mut E, name: &[u8]) -> Written
+    pub fn tell<E: Sink>(&self, err: &mut E, name: &[u8]) -> Written
         ensures text { Wrote (E.taken err.old) (E.taken err.new) (opening_text name.now self.now) result }
         ensures count { E.faults err.old ≤ E.faults err.new }
         ensures failed { result ≡ Written.Failed → Rose (E.faults err.old) (E.faults err.new) }

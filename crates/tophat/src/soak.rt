@@ -1,4 +1,4 @@
-ghost use Rattle.std.specs.Prelude.{◌≡◌, ◌<◌, ◌^◌, ◌-◌, ◌++◌, IfOk, OnOk, None, decimal, string_bytes};
+ghost use Rattle.std.specs.Prelude.{◌≡◌, ◌<◌, ◌^◌, ◌-◌, ◌++◌, IfOk, OnOk, None, string_bytes};
 ghost use Rattle.task_model.specs.Syntax.Literal.{value_text};
 ghost use Rattle.task_model.specs.Showing.Widget.{stored};
 ghost use Rattle.world_core.specs.World.{world_term};
@@ -11,8 +11,8 @@ ghost use Rattle.tophat.specs.Worked.{HasVerdictAfter};
 
 use crate::no_world::NoWorld;
 use crate::opening::open_bytes;
+use crate::texts::push_count;
 use input_lines::{soak_entry, soak_program};
-use itoa::Buffer;
 use literal_text::print_value;
 use std::alloc::Global;
 use task_model::{ActStop, DEFAULT_BUDGET, Entry, OutOfMemory, TaskText};
@@ -109,15 +109,6 @@ fn summary(alloc: Global, count: u32, tally: Tally, world: &World) -> Result<Tas
     push_place(alloc, &mut text, " b ", world, 1)?;
     text.push_str("\n")?;
     TaskText::of_string(text)
-}
-
-fn push_count(text: &mut String, word: &str, count: u64) -> Result<(), OutOfMemory>
-    ensures { OnOk result (string_bytes text.new ≡ string_bytes text.old ++ (word.now ++ decimal count)) }
-{
-    let mut number = Buffer::new();
-    text.push_str(word)?;
-    text.push_str(number.format(count))?;
-    Ok(())
 }
 
 fn push_place(

@@ -1,31 +1,33 @@
-ghost use Rattle.std.specs.Prelude.{◌≡◌, ◌<◌, Some, Option, IfErr, IfOk, MatchResult};
+ghost use Rattle.std.specs.Prelude.{◌≡◌, ◌<◌, Some, Option, IfErr, IfOk};
 ghost use Rattle.task_model.specs.Running.State.{IsBudget};
 ghost use Rattle.command_words.specs.Commands.{CommandTerm, command_term, run, check, soak, IsAsked, IsInRange};
-ghost use Rattle.tophat.specs.Top.{limits, named};
+ghost use Rattle.tophat.specs.Top.{limits, named, NeedsMore};
 ghost use Rattle.tophat.specs.Worked.{Worked, IfNotRun, IfSilent, RunsBytes, HasVerdictAfter, IsTextEnd, IsRunEnd, word_ending};
-ghost use Rattle.tophat.specs.Sources.{FindsFile, WritesText, TellsText, ReportsCheck};
+ghost use Rattle.tophat.specs.Sources.{TellsText, ReportsCheck};
 ghost use Rattle.task_model.specs.Terms.Text.{Text};
 ghost use Rattle.tophat.specs.Objects.{around};
 ghost use Rattle.tophat.specs.Asks.{AsksFor, AsksOnce};
 ghost use Rattle.tophat.specs.Ended.{file_faults_after, input_faults_after, output_faults_after};
 ghost use Rattle.line_frame.specs.RunFaults.{read_faults_after_run, write_faults_after_run};
-ghost use Rattle.tophat.specs.declared.ending.Ending.TheVariants as endings;
+ghost use Rattle.tophat.specs.declared.ending.CommandEnding.TheVariants as endings;
 
-use crate::ending::Ending;
+use crate::ending::CommandEnding;
 use crate::no_world::NoWorld;
 use crate::opening::open_bytes;
+use crate::program_file::read_file;
 use crate::runner::Runner;
 use crate::soak::soaked_text;
+use crate::texts::write_text;
 use crate::verdict::verdict_on;
 use command_words::{Command, WordStop};
 use line_frame::{Finish, drive};
-use outer_io::{FileAnswer, Files, Sink, Source, Written, write_all};
+use outer_io::{Files, Sink, Source};
 use std::alloc::Global;
 use std::sync::ledger::{Blank, Ledger};
-use task_model::{PROGRAM_BYTE_LIMIT, Row, SCRIPT_BYTE_LIMIT, Steps, TaskText};
+use task_model::{SCRIPT_BYTE_LIMIT, Steps, TaskText};
 use task_reader::print_program;
 
-/// Does what a command asks for, but for the text on the error sink.
+/// Does what a plain command asks for, but for the text on the error sink.
 pub(crate) fn work<F: Files, I: Source, O: Sink, L: Ledger>(
     alloc: Global,
     asked: &Result<Command, WordStop>,
@@ -33,8 +35,9 @@ pub(crate) fn work<F: Files, I: Source, O: Sink, L: Ledger>(
     input: &mut I,
     out: &mut O,
     blank: Blank,
-) -> Ending
+) -> CommandEnding
     requires budget { IfOk asked.now (λ c. IsInRange (command_term c)) }
+    requires plain { IfOk asked.now (λ c. NeedsMore (Some (command_term c)) → ⊥) }
     requires name { blank.name ≡ L.name }
     requires parts { blank.parts ≡ L.parts }
     requires some { 0 < blank.parts }
@@ -65,17 +68,19 @@ pub(crate) fn work<F: Files, I: Source, O: Sink, L: Ledger>(
         }
         Ok(Command::Check { file }) => check_file(alloc, file, files, out),
         Ok(Command::Soak { count, seed }) => soak(alloc, *count, *seed, out),
+        Ok(Command::Drill { .. }) => unreachable!(),
+        Ok(Command::Serve { .. }) => unreachable!(),
         Err(stop) => unasked(*stop),
     }
 }
 
 // How it ends where the words ask for no command.
-fn unasked(stop: WordStop) -> Ending
+fn unasked(stop: WordStop) -> CommandEnding
     ensures { result ≡ word_ending stop }
 {
     match stop {
-        WordStop::Outside => Ending::Usage,
-        WordStop::Memory => Ending::Unopened(NoWorld::Memory),
+        WordStop::Outside => CommandEnding::Usage,
+        WordStop::Memory => CommandEnding::Unopened(NoWorld::Memory),
     }
 }
 
@@ -87,23 +92,9 @@ pub(crate) fn named_file(asked: &Result<Command, WordStop>) -> &[u8]
         Ok(Command::Run { file, .. }) => file.as_str().as_bytes(),
         Ok(Command::Check { file }) => file.as_str().as_bytes(),
         Ok(Command::Soak { .. }) => b"",
+        Ok(Command::Drill { .. }) => b"",
+        Ok(Command::Serve { file, .. }) => file.as_str().as_bytes(),
         Err(_) => b"",
-    }
-}
-
-// The bytes of the file of this name, or how the command ends.
-fn read_file<F: Files>(alloc: Global, name: &TaskText, files: &mut F) -> Result<Row<u8>, Ending>
-    ensures file { FindsFile limits.file (F.holds files.old name.now) result }
-    ensures asked { AsksOnce limits.file name.now (around F.holds F.faults files.old files.new) }
-    ensures count { MatchResult result (λ _. F.faults files.new ≡ F.faults files.old)
-        (λ ending. F.faults files.new ≡ file_faults_after (F.faults files.old) ending) }
-{
-    match files.read_whole(alloc, name, PROGRAM_BYTE_LIMIT as u64) {
-        FileAnswer::Bytes(bytes) => Ok(bytes),
-        FileAnswer::Absent => Err(Ending::Absent),
-        FileAnswer::TooLong => Err(Ending::FileTooLong),
-        FileAnswer::Failed => Err(Ending::FileFault),
-        FileAnswer::Memory => Err(Ending::Unopened(NoWorld::Memory)),
     }
 }
 
@@ -116,7 +107,7 @@ fn run_file<F: Files, I: Source, O: Sink, L: Ledger>(
     input: &mut I,
     out: &mut O,
     steps: Steps<L>,
-) -> Ending
+) -> CommandEnding
     requires { IsBudget budget }
     ensures worked { Worked limits (Some (run name.now budget)) (F.holds files.old name.now)
         (I.left input.old) (I.left input.new) (O.taken out.old) (O.taken out.new) result }
@@ -130,8 +121,8 @@ fn run_file<F: Files, I: Source, O: Sink, L: Ledger>(
 {
     match read_file(alloc, name, files) {
         Ok(bytes) => match run_bytes(alloc, bytes.as_slice(), budget, input, out, steps) {
-            Ok(finish) => Ending::Ran(finish),
-            Err(why) => Ending::Unopened(why),
+            Ok(finish) => CommandEnding::Ran(finish),
+            Err(why) => CommandEnding::Unopened(why),
         },
         Err(ending) => ending,
     }
@@ -168,7 +159,7 @@ fn check_file<F: Files, O: Sink>(
     name: &TaskText,
     files: &mut F,
     out: &mut O,
-) -> Ending
+) -> CommandEnding
     ensures worked { (left : Option Text) → Worked limits (Some (check name.now)) (F.holds files.old name.now)
         left left (O.taken out.old) (O.taken out.new) result }
     ensures ends { IsRunEnd result → ⊥ }
@@ -180,7 +171,7 @@ fn check_file<F: Files, O: Sink>(
     match read_file(alloc, name, files) {
         Ok(bytes) => match checked_text(alloc, bytes.as_slice()) {
             Ok(text) => write_text(out, &text),
-            Err(why) => Ending::Unopened(why),
+            Err(why) => CommandEnding::Unopened(why),
         },
         Err(ending) => ending,
     }
@@ -198,7 +189,7 @@ fn checked_text(alloc: Global, bytes: &[u8]) -> Result<TaskText, NoWorld>
 }
 
 // Runs so many inputs of the generator on its program, and writes what became of them.
-fn soak<O: Sink>(alloc: Global, count: u32, seed: u64, out: &mut O) -> Ending
+fn soak<O: Sink>(alloc: Global, count: u32, seed: u64, out: &mut O) -> CommandEnding
     ensures worked { (holds : Option (Option Text)) (left : Option Text) → Worked limits (Some (soak count seed)) holds
         left left (O.taken out.old) (O.taken out.new) result }
     ensures ends { IsRunEnd result → ⊥ }
@@ -208,16 +199,6 @@ fn soak<O: Sink>(alloc: Global, count: u32, seed: u64, out: &mut O) -> Ending
 {
     match soaked_text(alloc, count, seed) {
         Ok(text) => write_text(out, &text),
-        Err(why) => Ending::Unopened(why),
-    }
-}
-
-fn write_text<O: Sink>(out: &mut O, text: &TaskText) -> Ending
-    ensures wrote { WritesText (O.taken out.old) (O.taken out.new) text.now result }
-    ensures output_count { O.faults out.new ≡ output_faults_after (O.faults out.old) result }
-{
-    match write_all(out, text.as_str().as_bytes()) {
-        Written::Whole => Ending::Wrote,
-        Written::Failed => Ending::WriteFault,
+        Err(why) => CommandEnding::Unopened(why),
     }
 }

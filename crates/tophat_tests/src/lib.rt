@@ -1,4 +1,4 @@
-//! The top call on files, scripts and sinks in memory: tests alone.
+//! The plain commands on files, scripts and sinks in memory: tests alone.
 #![tactic(auto)]
 
 #[cfg(test)]

@@ -9,12 +9,13 @@ mod tutorial;
 mod worked_rows;
 
 use block::assert_blocks;
-use case::{Case, PAIR, RUN, bytes, expect, files, one, words};
+use case::{Case, PAIR, RUN, bytes, expect, files, one, run, words};
+use command_words::{Command, ServeWords, read_command};
 use outer_io::{Got, MemSink, MemSource, Source};
 use std::alloc::Global;
 use std::test::Fail;
 use task_model::{OutOfMemory, Row};
-use tophat::tophat;
+use tophat::plain;
 
 #[test]
 fn worked_commands(rt: HostRuntime) -> Result<(), Fail> {
@@ -80,6 +81,39 @@ fn wrong_words(rt: HostRuntime) -> Result<(), Fail> {
         expect(&rt, &Case { words, ..RUN }, 5, (2, b"", USAGE))?;
     }
     Ok(expect(&rt, &Case { words: "", ..RUN }, 5, (2, b"", USAGE))?)
+}
+
+// What a command that isn't a plain one is told: the file and the numbers, each behind a space but the first; or none where the words ask for
+// none.
+fn told_of(alloc: Global, text: &str) -> Result<String, OutOfMemory> {
+    let words = words(alloc, text)?;
+    let asked = read_command(alloc, words.as_slice());
+    match &asked {
+        Ok(Command::Drill { seats, each }) => Ok(format!(in alloc; "{seats} {each}")?),
+        Ok(Command::Serve { file, serving }) => serving_text(alloc, file.as_str(), *serving),
+        _ => Ok(String::new(alloc)),
+    }
+}
+
+fn serving_text(alloc: Global, file: &str, of: ServeWords) -> Result<String, OutOfMemory> {
+    let seats = format!(in alloc; "{file} {} {} {}", of.budget, of.seats, of.workers)?;
+    Ok(format!(in alloc; "{seats} {} {}", of.port, of.connections)?)
+}
+
+// The words of `drill` and `serve` are read, and nothing of them is a plain command.
+#[test]
+fn other_words(rt: HostRuntime) -> Result<(), Fail> {
+    for rows in [worked_rows::DRILL_WORDS, worked_rows::SERVED_WORDS] {
+        for row in rows.split('\n') {
+            let (words, want) = row.split_once(" = ").unwrap_or((row, ""));
+            assert_eq!(rt; told_of(rt.alloc(), words)?.as_str(), want, "{row}");
+            let (status, out, err) = run(rt.alloc(), &Case { words, ..RUN }, 5)?;
+            assert_eq!(rt; status, None, "{row}");
+            assert!(rt; out.taken().is_empty(), "{row}");
+            assert!(rt; err.taken().is_empty(), "{row}");
+        }
+    }
+    Ok(())
 }
 
 #[test]
@@ -319,7 +353,7 @@ fn left<I: Source>(input: &mut I) -> u64 {
 }
 
 // Three pages are asked for, in pieces of this size; the write of this number fails. The status, and how many bytes are then left.
-fn stopped_at(alloc: Global, piece: usize, write: u64) -> Result<(u8, u64), OutOfMemory>
+fn stopped_at(alloc: Global, piece: usize, write: u64) -> Result<(Option<u8>, u64), OutOfMemory>
     requires { 0 < piece }
 {
     let words = words(alloc, RUN.words)?;
@@ -328,7 +362,7 @@ fn stopped_at(alloc: Global, piece: usize, write: u64) -> Result<(u8, u64), OutO
     let mut input = MemSource::new(script, piece, Row::new(alloc));
     let mut out = MemSink::new(alloc, 4_096, one(alloc, write)?);
     let mut err = MemSink::new(alloc, 4_096, Row::new(alloc));
-    let status = tophat(
+    let status = plain(
         alloc,
         words.as_slice(),
         &mut files,
@@ -352,7 +386,7 @@ fn nothing_is_read_before_what_came_is_answered(rt: HostRuntime) -> Result<(), F
         (14, 1, 7),
         (14, 2, 0),
     ] {
-        assert_eq!(rt; stopped_at(rt.alloc(), piece, write)?, (6, want));
+        assert_eq!(rt; stopped_at(rt.alloc(), piece, write)?, (Some(6), want));
     }
     Ok(())
 }

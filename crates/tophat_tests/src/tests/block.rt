@@ -81,7 +81,7 @@ fn assert_block(
         ..RUN
     };
     let (status, out, err) = run(rt.alloc(), &case, 4_096)?;
-    assert_eq!(rt; status, block.status, "{text}");
+    assert_eq!(rt; status, Some(block.status), "{text}");
     assert_eq!(rt; out.taken(), output.as_str().as_bytes(), "{text}");
     assert_eq!(rt; err.taken(), error.as_str().as_bytes(), "{text}");
     Ok(())

@@ -5,7 +5,7 @@ use outer_io::{MemFiles, MemSink, MemSource};
 use std::alloc::Global;
 use std::process::Abort;
 use task_model::{OutOfMemory, Row, TaskText};
-use tophat::tophat;
+use tophat::plain;
 
 pub(crate) const PAIR: &[u8] = b"task main() : (int, int) = edit 1 <&> enter int\n";
 
@@ -54,12 +54,12 @@ pub(crate) fn files(alloc: Global, program: &[u8], fails: u64) -> Result<MemFile
     Ok(MemFiles::new(names, contents, one(alloc, fails)?))
 }
 
-// Runs a case in pieces of this size: the status, and what both sinks took.
+// Runs a case in pieces of this size: the status, if the words ask for a plain command, and what both sinks took.
 pub(crate) fn run(
     alloc: Global,
     case: &Case<'_>,
     piece: usize,
-) -> Result<(u8, MemSink, MemSink), OutOfMemory>
+) -> Result<(Option<u8>, MemSink, MemSink), OutOfMemory>
     requires { 0 < piece }
 {
     let words = words(alloc, case.words)?;
@@ -68,7 +68,7 @@ pub(crate) fn run(
     let mut input = MemSource::new(script, piece, one(alloc, case.fails[1])?);
     let mut out = MemSink::new(alloc, piece, one(alloc, case.fails[2])?);
     let mut err = MemSink::new(alloc, piece, one(alloc, case.fails[3])?);
-    let status = tophat(
+    let status = plain(
         alloc,
         words.as_slice(),
         &mut files,
@@ -88,7 +88,7 @@ pub(crate) fn expect(
     requires { 0 < piece }
 {
     let (status, out, err) = run(rt.alloc(), case, piece)?;
-    assert_eq!(rt; status, want.0);
+    assert_eq!(rt; status, Some(want.0));
     assert_eq!(rt; out.taken(), want.1);
     assert_eq!(rt; err.taken(), want.2);
     Ok(())

@@ -310,8 +310,64 @@ soak 1 3 4
 soak one 3
 soak 1 -3
 soak +1 3
-drill 2 100
-serve p.th";
+drill
+drill 2
+drill 0 3
+drill 65 3
+drill 2 0
+drill 2 10001
+drill 2 100 7
+drill two 100
+drill 2 100 --budget 4
+serve
+serve -p
+serve p.th q
+serve --budget 4
+serve p.th --budget 0
+serve p.th --budget 1000001
+serve p.th --seats 0
+serve p.th --seats 65
+serve p.th --workers 0
+serve p.th --workers 33
+serve p.th --port 0
+serve p.th --port 65536
+serve p.th --connections 0
+serve p.th --connections 1000001
+serve p.th --budget 4 --budget 4
+serve p.th --seats 4 --seats=4
+serve p.th --workers=4 --workers 4
+serve p.th --port=4 --port=4
+serve p.th --connections 4 --seats 4 --connections 4
+serve p.th --port
+serve p.th --port=
+serve p.th --port -
+serve p.th --port +80
+serve p.th --port eighty
+serve p.th --places 4
+serve -- p.th --seats=4
+serve --help";
+
+/// Words that ask for a drill, a row a line, and behind ` = ` the number of seats and that of the acts of each.
+pub(crate) const DRILL_WORDS: &str = "drill 1 1 = 1 1
+drill 64 10000 = 64 10000
+drill 0002 100 = 2 100
+drill -- 2 100 = 2 100";
+
+/// Words that ask to serve, a row a line, and behind ` = ` the file and the numbers: the budget, the seats, the workers, the port and the
+/// connections.
+pub(crate) const SERVED_WORDS: &str = "serve p.th = p.th 10000 8 4 8080 1000000
+serve -- -p = -p 10000 8 4 8080 1000000
+serve p.th --budget 1 = p.th 1 8 4 8080 1000000
+serve p.th --budget=1000000 = p.th 1000000 8 4 8080 1000000
+serve --seats 1 p.th = p.th 10000 1 4 8080 1000000
+serve p.th --seats=64 = p.th 10000 64 4 8080 1000000
+serve p.th --workers 1 = p.th 10000 8 1 8080 1000000
+serve p.th --workers=32 = p.th 10000 8 32 8080 1000000
+serve p.th --port 1 = p.th 10000 8 4 1 1000000
+serve p.th --port=65535 = p.th 10000 8 4 65535 1000000
+serve p.th --connections 1 = p.th 10000 8 4 8080 1
+serve p.th --connections=1000000 = p.th 10000 8 4 8080 1000000
+serve --connections 5 --port=0004 --workers 3 --seats=2 --budget 1 -- p.th = p.th 1 2 3 4 5";
 
 /// Walks over lists of 1,000 elements, and exactly the units that they take (docs/LANGUAGE.md, "Lists"): one that looks for what isn't
 /// there, and one that finds the last element and takes it out.

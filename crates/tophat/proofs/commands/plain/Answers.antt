@@ -1,36 +1,18 @@
-use Rattle.std.proofs.Common.{subst}
-use Rattle.outer_io.specs.Sink.{Wrote}
+use Rattle.std.proofs.Common.{◌∙◌, sym, true≢false}
 use Rattle.command_words.specs.Commands.{command_of}
-use Rattle.tophat.specs.Top.{limits}
-use Rattle.tophat.proofs.PromiseLemmas.{usage_is, asks_is, named_text, needs_no_more}
-use Rattle.tophat.proofs.FulfilLemmas.{fulfils}
-use Rattle.tophat.proofs.WorkLemmas.{heard}
+use Rattle.tophat.proofs.PromiseLemmas.{needs_more, only_memory}
 use Rattle.tophat.proofs.commands.plain.Goals as goal
 
-pub returns-clause-answered : goal.returns-clause-answered
-returns-clause-answered g c =
-    let command = command_of c.args.words.now in
-    let asked = c.read_command-asked.result in
-    let gives = c.read_command-asked.ensures.asked in
-    let ending = c.work-ending.result in
-    let worked = c.work-ending.ensures in
-    fulfils command _ c.status.result (record {
-      ending = ending;
-      status_is = c.status.ensures;
-      worked = worked.worked command gives;
-      heard = heard _ _ c.tell.result
-          (subst (λ text. Wrote (g.E.Sink.taken c.args.err.now) (g.E.Sink.taken c.tell.new.err) text c.tell.result)
-          (named_text asked command ending c.named_file.result.now gives c.named_file.ensures worked.no_command) c.tell.ensures.text)
-          c.tell.ensures.failed;
-      file_count = worked.file_count;
-      input_count = worked.input_count;
-      output_count = worked.output_count;
-      not_run = worked.not_run;
-      silent = worked.silent;
-    })
-    (usage_is asked command ending c.status.result gives c.status.ensures worked.usage worked.no_command)
-    (asks_is limits asked command ending _ c.status.result gives c.status.ensures worked.asks worked.no_command worked.no_request
-    worked.not_run worked.silent)
+pub returns-then-is_plain-clause-other : goal.returns-then-is_plain-clause-other
+returns-then-is_plain-clause-other g c =
+    only_memory c.read_command-asked.result (command_of c.args.words.now) c.perform.result _ _ _ c.read_command-asked.ensures.asked
+    (c.is_plain.ensures.0 c.if-is_plain.true) c.perform.ensures.unasked
+
+pub returns-then-is_plain-clause-answered : goal.returns-then-is_plain-clause-answered
+returns-then-is_plain-clause-answered g c =
+    c.perform.ensures.fulfils (command_of c.args.words.now) c.read_command-asked.ensures.asked
 
 pub returns-clause-other : goal.returns-clause-other
-returns-clause-other g c = needs_no_more (command_of c.args.words.now)
+returns-clause-other g c =
+    needs_more c.read_command-asked.result (command_of c.args.words.now) c.read_command-asked.ensures.asked
+    (λ plain. true≢false (sym (c.is_plain.ensures.1 plain) ∙ c.if-is_plain.false))

@@ -1,5 +1,5 @@
 use Rattle.tophat.proofs.WorkLemmas.{is_usage, is_read_fault, is_write_fault}
-use Rattle.tophat.proofs.StatusLemmas.{ends_0, ends_1, ends_3, ends_4, ends_7, ends_8, silent_ends}
+use Rattle.tophat.proofs.StatusLemmas.{ends_0, ends_1, ends_3, ends_4, ends_7, ends_8, ends_9, silent_ends}
 use Rattle.tophat.proofs.laws.statuses_tell_ends.Goals as goal
 
 pub returns-clause-zero : goal.returns-clause-zero
@@ -28,6 +28,9 @@ returns-clause-seven k = λ ending. ends_7 ending
 
 pub returns-clause-eight : goal.returns-clause-eight
 returns-clause-eight k = λ ending. ends_8 ending
+
+pub returns-clause-nine : goal.returns-clause-nine
+returns-clause-nine k = λ ending. ends_9 ending
 
 pub returns-clause-silent : goal.returns-clause-silent
 returns-clause-silent k = λ l command file verdict script report. silent_ends l command file verdict script report

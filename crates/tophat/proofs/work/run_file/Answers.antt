@@ -2,7 +2,7 @@ use Rattle.std.proofs.Common.{Some, Ok, Err, sym, subst, arith}
 use Rattle.task_model.specs.Terms.Text.{Text}
 use Rattle.line_frame.specs.declared.finish.Finish.{Finish}
 use Rattle.command_words.specs.Commands.{run}
-use Rattle.tophat.specs.declared.ending.Ending.TheVariants.{Unopened}
+use Rattle.tophat.specs.declared.ending.CommandEnding.TheVariants.{Unopened}
 use Rattle.tophat.specs.Verdict.{HasVerdict}
 use Rattle.tophat.specs.Top.{limits}
 use Rattle.tophat.specs.Worked.{Worked, OpensBytes, RunsBytes, HasVerdictAfter}

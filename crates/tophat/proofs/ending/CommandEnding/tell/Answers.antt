@@ -1,4 +1,4 @@
-use Rattle.tophat.proofs.ending.Ending.tell.Goals as goal
+use Rattle.tophat.proofs.ending.CommandEnding.tell.Goals as goal
 
 pub returns-in-Absent-clause-text : goal.returns-in-Absent-clause-text
 returns-in-Absent-clause-text g c = rw c.in-Absent.is c.write_four.ensures.bytes

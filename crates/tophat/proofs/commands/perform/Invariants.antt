@@ -1,4 +1,4 @@
-use Rattle.tophat.proofs.commands.plain.Given as goal
+use Rattle.tophat.proofs.commands.perform.Given as goal
 
 abbrev pub ghosts-work : goal.ghosts-work
 ghosts-work g a = record { name = a.blank.name; parts = a.blank.parts }
