@@ -1,0 +1,3 @@
+pub mod DrilledLemmas
+pub mod TakenLemmas
+pub mod SharingLemmas
