@@ -1,0 +1,5 @@
+pub mod Written
+pub mod OpeningLemmas
+pub mod AgainLemmas
+pub mod CompleteLemmas
+pub mod TopLemmas

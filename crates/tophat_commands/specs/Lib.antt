@@ -1,0 +1,7 @@
+pub mod ServedFiles
+pub mod Courses
+pub mod Servable
+pub mod Serves
+pub mod Drills
+pub mod FulfilsCommand
+pub mod Again
