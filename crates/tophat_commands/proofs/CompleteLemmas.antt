@@ -124,18 +124,18 @@ listened_whole : (start : List ItemTerm) (asked : ServeTerm) (out : Around (Opti
     (gate : Option GateTold) (ending : CommandEnding) → HasListened start asked out ports gate ending
     → out.faults.now ≡ output_faults_after out.faults.before ending
     → (HasRisen out.faults ⊎ (HasRisen ports.faults ⊎ HasGateRisen (ports.before asked.port) gate) → ⊥) → IsWholeOrMemory ending
-listened_whole start asked out ports None endings.GateFault (same, failed) count fine =
+listened_whole start asked out ports None endings.GateFault (same, kept, failed) count fine =
     absurd (fine (inr (inl (risen ports.faults.before ports.faults.now failed))))
-listened_whole start asked out ports None (endings.Unopened reasons.Memory) (same, failed) count fine = inr refl
-listened_whole start asked out ports None (endings.Unopened (reasons.Refused place refusal)) (same, failed) count fine = absurd failed
-listened_whole start asked out ports None (endings.Unopened reasons.OverBudget) (same, failed) count fine = absurd failed
-listened_whole start asked out ports None endings.Usage (same, failed) count fine = absurd failed
-listened_whole start asked out ports None endings.Absent (same, failed) count fine = absurd failed
-listened_whole start asked out ports None endings.FileTooLong (same, failed) count fine = absurd failed
-listened_whole start asked out ports None endings.FileFault (same, failed) count fine = absurd failed
-listened_whole start asked out ports None (endings.Ran finish) (same, failed) count fine = absurd failed
-listened_whole start asked out ports None endings.Wrote (same, failed) count fine = absurd failed
-listened_whole start asked out ports None endings.WriteFault (same, failed) count fine = absurd failed
+listened_whole start asked out ports None (endings.Unopened reasons.Memory) (same, kept, failed) count fine = inr refl
+listened_whole start asked out ports None (endings.Unopened (reasons.Refused place refusal)) (same, kept, failed) count fine = absurd failed
+listened_whole start asked out ports None (endings.Unopened reasons.OverBudget) (same, kept, failed) count fine = absurd failed
+listened_whole start asked out ports None endings.Usage (same, kept, failed) count fine = absurd failed
+listened_whole start asked out ports None endings.Absent (same, kept, failed) count fine = absurd failed
+listened_whole start asked out ports None endings.FileTooLong (same, kept, failed) count fine = absurd failed
+listened_whole start asked out ports None endings.FileFault (same, kept, failed) count fine = absurd failed
+listened_whole start asked out ports None (endings.Ran finish) (same, kept, failed) count fine = absurd failed
+listened_whole start asked out ports None endings.Wrote (same, kept, failed) count fine = absurd failed
+listened_whole start asked out ports None endings.WriteFault (same, kept, failed) count fine = absurd failed
 listened_whole start asked out ports (Some now) ending gated count fine =
     gated_whole start asked gated.entry now out.before out.now ending out.faults gated.course count (λ failed. still failed)
   where

@@ -34,10 +34,11 @@ pub record IsGated (start : List ItemTerm) (asked : ServeTerm) (out : Around (Op
   pub faults : NoneFailed ports.faults
   pub course : GateCourse start asked entry now out.before out.now ending
 
--- What came of listening at the port, by whether a gate was had. Where none was, nothing was written.
+-- What came of listening at the port, by whether a gate was had. Where none was, nothing was written, and the ports tell what they told before.
 abbrev pub HasListened : List ItemTerm → ServeTerm → Around (Option Text) → Around (ℕ → Option GateTold) → Option GateTold → CommandEnding
     → Type 0
-HasListened start asked out ports None ending = out.Untouched × IsGateless ports.faults ending
+HasListened start asked out ports None ending =
+    out.Untouched × ((port : ℕ) → ports.now port ≡ ports.before port) × IsGateless ports.faults ending
 HasListened start asked out ports (Some now) ending = IsGated start asked out ports now ending
 
 module _ (l : Limits) (name : Text) (asked : ServeTerm) (files : Around (Text → Option (Option Text))) (out : Around (Option Text))
