@@ -11,6 +11,7 @@ use crate::no_entry::NoEntry;
 use crate::places::{FaceReader, Sees};
 use crate::told::Told;
 use std::marker::Model;
+use std::sync::Arc;
 
 /// One who looks at a board. Contracts see which board it is, the list that was seen, and how often the board refused an entry.
 #[derive(Drop)]
@@ -78,7 +79,8 @@ impl BoardReader {
     }
 
     /// Shows the newest moment to `look`. It stands for the list that is then seen, which goes on from the one before. It takes no lock
-    /// and waits for nobody. Where the board refuses the entry the list stays, `look` isn't called, and the count of refusals rises.
+    /// and waits for nobody, and while `look` runs it stands in no copy that the writer would wait for. Where the board refuses the entry the
+    /// list stays, `look` isn't called, and the count of refusals rises.
     pub fn read<A, F: FnOnce(&Moment) -> A>(&mut self, look: F) -> Result<A, NoEntry>
         requires { F.IsAlwaysCallable look }
         ensures shown { IfOk result (λ a. (x : Moment) × StandsForItems x self.new.list × FnOnceReturnsAt F.FnOnce look x a) }
@@ -94,10 +96,19 @@ impl BoardReader {
         match place.enter_as::<Sees>() {
             Ok(reading) => {
                 let face = reading.get();
-                let answer = look(&face.moment);
                 self.front = face.front.again();
-                self.place = Some(reading.leave());
-                Ok(answer)
+                match Arc::try_clone(&face.moment) {
+                    Ok(moment) => {
+                        self.place = Some(reading.leave());
+                        Ok(look(&moment))
+                    }
+                    // No owner more can be counted.
+                    Err(_) => {
+                        let answer = look(&face.moment);
+                        self.place = Some(reading.leave());
+                        Ok(answer)
+                    }
+                }
             }
             Err(place) => {
                 self.place = Some(place);
