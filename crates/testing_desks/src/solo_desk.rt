@@ -3,7 +3,7 @@ ghost use Rattle.task_model.specs.Terms.Item.{history_term};
 ghost use Rattle.task_model.specs.Running.State.{IsLegal, IsSeat};
 ghost use Rattle.world_core.specs.World.{IsStanding, world_term};
 
-use html_pages::{Page, frame_behind_room};
+use html_pages::{Page, frame};
 use session_desk::{Desk, PageStop, ViewStop};
 use std::alloc::Global;
 use std::sync::Wait;
@@ -63,12 +63,12 @@ impl<L: Ledger> Desk for SoloDesk<L> {
         self.world.version()
     }
 
-    // Behind room for the head of a reply, which the pages of `page_at` don't have.
+    // With no room for the head of a reply, which the pages of `page_at` have.
     fn page(&mut self, alloc: Global, face: Face) -> Result<Page, ViewStop> {
         self.shows_legal();
         let fragments = self.world.fragments(alloc, &mut self.steps)?;
         let version = self.world.version();
-        Ok(frame_behind_room(alloc, face, version, self.seat, &fragments)?)
+        Ok(frame(alloc, face, version, self.seat, &fragments)?)
     }
 
     fn page_at<R: Wait>(

@@ -9,7 +9,7 @@ ghost use Rattle.kept_nodes.specs.Kept.{IsRedrawn};
 ghost use Rattle.live_tree.specs.Live.{IsLive, most_steps};
 ghost use Rattle.world_core.specs.Pages.{AreStateFragments, IsStatePage};
 
-use html_pages::{Fragments, Page, frame};
+use html_pages::{Fragments, Page, frame_behind_room};
 use live_tree::LiveTree;
 use shared_store::Store;
 use std::alloc::Global;
@@ -79,7 +79,8 @@ pub(crate) fn next_drawn_fragments<L: Ledger>(
     live.fragments().copy(alloc)
 }
 
-/// The page of a tree over a store: it frames what is drawn of it, and its table is made, unless it was. The store and the tree stay.
+/// The page of a tree over a store, behind room for the head of a reply: it frames what is drawn of it, and its table is made, unless it
+/// was. The store and the tree stay.
 pub(crate) fn drawn_page<L: Ledger>(
     alloc: Global,
     engine: &Engine,
@@ -97,6 +98,7 @@ pub(crate) fn drawn_page<L: Ledger>(
     ensures version { IfOk result (λ page. page.version ≡ framing.version) }
     ensures page { IfOk result (λ page. IsStatePage (checked_term engine.now) budget
         (at (tree_term live.old.tree) (map value_term store.old.list)) framing.face framing.version framing.seat page.text) }
+    ensures room { IfOk result (λ page. page.room ≡ 256) }
     ensures drawn { OnOk result (IsSome live.new.rows) }
     ensures steps { OnOk result (steps.new ≤ steps.old + most_steps (is_some live.old.rows) (tree_term live.old.tree)) }
 {
@@ -106,5 +108,5 @@ pub(crate) fn drawn_page<L: Ledger>(
         version,
         seat,
     } = framing;
-    frame(alloc, face, version, seat, live.fragments())
+    frame_behind_room(alloc, face, version, seat, live.fragments())
 }

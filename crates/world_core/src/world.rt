@@ -301,6 +301,7 @@ impl World {
         ensures version { IfOk result (λ page. page.version ≡ version_of (history_term self.old.history)) }
         ensures page { IfOk result (λ page. IsWorldPage face (world_term self.old) seat page.text) }
         ensures legal { IfOk result (λ page. IsPage face (history_term self.old.history) seat page.text) }
+        ensures room { IfOk result (λ page. page.room ≡ 256) }
         ensures steps { OnOk result (steps.new ≤ steps.old + most_steps self.old.drawn (tree_term self.old.tree)) }
     {
         // The history is legal.

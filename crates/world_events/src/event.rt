@@ -86,7 +86,7 @@ pub fn happen<L: Ledger, R: Wait + Copy>(
     }
 }
 
-/// The page of the world for a seat.
+/// The page of the world for a seat, behind room for the head of a reply.
 pub fn draw<L: Ledger>(
     world: &mut World,
     alloc: Global,
@@ -99,6 +99,7 @@ pub fn draw<L: Ledger>(
     requires ledger { (blank.name ≡ L.name) × (blank.parts ≡ L.parts) × (0 < blank.parts) }
     ensures world { (world.new.history ≡ world.old.history) × (world.new.next ≡ None) }
     ensures page { IfOk result (ShowsPage face (history_term world.old.history) seat) }
+    ensures room { IfOk result (λ page. page.room ≡ 256) }
 {
     let mut steps = Steps::<L>::new(blank);
     world.page(alloc, face, seat, &mut steps)

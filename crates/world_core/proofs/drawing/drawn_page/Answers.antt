@@ -12,8 +12,8 @@ pub returns-clause-page : goal.returns-clause-page
 returns-clause-page g c =
     let shown = tree_shown (checked_term c.args.engine.now) c.args.budget (map value_term c.args.store.now.list) c.args.live.now c.draw.new.self
     c.fragments.result.now c.in_ok-draw.ensures.tree c.fragments.ensures c.in_ok-draw.ensures.live in
-    IfOk-weaker c.frame.result (λ page. page.text ≡ face_text c.args.framing.face c.args.framing.version c.args.framing.seat shown.0)
+    IfOk-weaker c.frame_behind_room.result (λ page. page.text ≡ face_text c.args.framing.face c.args.framing.version c.args.framing.seat shown.0)
     (λ page. IsStatePage (checked_term c.args.engine.now) c.args.budget
     (at (tree_term c.args.live.now.tree) (map value_term c.args.store.now.list)) c.args.framing.face c.args.framing.version c.args.framing.seat
     page.text)
-    (λ page q. (shown.0, shown.1, q)) (c.frame.ensures.text shown.0 shown.2)
+    (λ page q. (shown.0, shown.1, q)) (c.frame_behind_room.ensures.text shown.0 shown.2)
