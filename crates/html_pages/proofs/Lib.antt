@@ -1,3 +1,4 @@
+pub mod Chunks
 pub mod Escapes
 pub mod Inert
 pub mod Framed

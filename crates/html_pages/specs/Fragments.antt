@@ -53,6 +53,11 @@ abbrev pub fragments_text : Face → List FragmentTerm → Text
 fragments_text face [] = []
 fragments_text face (f ∷ fs) = fragment_text face f ++ fragments_text face fs
 
+-- the list that stands in these chunks
+abbrev pub chunks_list : {A : Type 0} → List (List A) → List A
+chunks_list [] = []
+chunks_list (xs ∷ xss) = xs ++ chunks_list xss
+
 -- what stands in front of a page's fragments
 abbrev pub page_start : Face → ℕ → ℕ → Text
 page_start faces.Text version seat = head_text version seat

@@ -1,23 +1,36 @@
 ghost use Rattle.std.specs.Prelude.{◌≡◌, ◌+◌, ◌≤◌, [], ◌∷◌, ◌++◌, drop, length, take, IfOk, OnErr, OnOk};
+ghost use Rattle.html_pages.specs.Fragments.{chunks_list};
 
+use crate::chunk::Chunk;
 use crate::fragment::Fragment;
 use std::alloc::Global;
 use std::marker::Model;
-use task_model::{OutOfMemory, Row};
+use task_model::OutOfMemory;
 
-/// Fragments in order. Contracts see their list.
+// A chunk has at most so many fragments.
+const CHUNK: usize = 64;
+
+/// Fragments in order, in chunks that copies and later lists share. Contracts see their list.
 #[derive(Drop)]
 pub struct Fragments {
-    row: Row<Fragment>,
+    alloc: Global,
+    // The shared chunks. Two neighbours have more than `CHUNK` fragments together.
+    chunks: Vec<Chunk>,
+    // The fragments behind them, at most `CHUNK`, which no other list shares as a chunk.
+    last: Vec<Fragment>,
+    // How many fragments there are in all.
+    count: usize,
 }
 
 impl Model for Fragments {
-    ghost use Rattle.std.specs.Prelude.{List};
-    ghost use Rattle.html_pages.specs.Fragments.{FragmentTerm};
+    ghost use Rattle.std.specs.Prelude.{◌≡◌, ◌++◌, List, length};
+    ghost use Rattle.html_pages.specs.Fragments.{FragmentTerm, chunks_list};
 
     ghost Value = { List FragmentTerm };
 
-    ghost view = { λ f. f.row.list };
+    ghost view = { λ f. chunks_list f.chunks.items ++ f.last.items };
+
+    ghost invariant = { λ f. f.count ≡ length (chunks_list f.chunks.items ++ f.last.items) };
 }
 
 impl Fragments {
@@ -26,7 +39,10 @@ impl Fragments {
         ensures { result ≡ [] }
     {
         Fragments {
-            row: Row::new(alloc),
+            alloc,
+            chunks: Vec::new(alloc),
+            last: Vec::new(alloc),
+            count: 0,
         }
     }
 
@@ -35,7 +51,15 @@ impl Fragments {
         ensures ok { OnOk result (self.new ≡ self.old ++ fragment ∷ []) }
         ensures err { OnErr result (self.new ≡ self.old) }
     {
-        self.row.push(fragment)
+        let Some(count) = self.count.checked_add(1) else {
+            return Err(OutOfMemory);
+        };
+        if self.last.len() >= CHUNK {
+            seal(self.alloc, &mut self.chunks, &mut self.last)?;
+        }
+        self.last.push(fragment)?;
+        self.count = count;
+        Ok(())
     }
 
     /// The same fragments, in the same memory besides that of the list.
@@ -57,23 +81,99 @@ impl Fragments {
         requires { from + count ≤ length others.now }
         ensures { OnOk result (self.new ≡ self.old ++ take count (drop from others.now)) }
     {
-        self.row.reserve(count)?;
-        for fragment in &others.as_slice()[from..from + count] {
-            self.row.push(fragment.copy()?)?;
+        let (chunks, last) = others.parts();
+        let mut skip = from;
+        let mut left = count;
+        for chunk in chunks {
+            if left == 0 {
+                return Ok(());
+            }
+            let at = skip.min(chunk.len());
+            let many = left.min(chunk.len() - at);
+            self.take_part(chunk, at, many)?;
+            skip -= at;
+            left -= many;
         }
-        Ok(())
+        self.push_copies(&last[skip..skip + left])
     }
 
     /// How many there are.
     pub fn len(&self) -> usize
         ensures { result ≡ length self.now }
     {
-        self.row.as_slice().len()
+        self.count
     }
 
-    pub(crate) fn as_slice(&self) -> &[Fragment]
-        ensures { result.now ≡ self.now }
+    // The chunks, and the fragments behind them.
+    pub(crate) fn parts(&self) -> (&[Chunk], &[Fragment])
+        ensures { chunks_list result.0.now ++ result.1.now ≡ self.now }
     {
-        self.row.as_slice()
+        (self.chunks.as_slice(), self.last.as_slice())
     }
+
+    // Puts so many fragments of a chunk, from a number on, behind the others. A whole chunk is shared.
+    fn take_part(&mut self, chunk: &Chunk, from: usize, count: usize) -> Result<(), OutOfMemory>
+        requires { from + count ≤ length chunk.now }
+        ensures { OnOk result (self.new ≡ self.old ++ take count (drop from chunk.now)) }
+    {
+        if count < chunk.len() {
+            return self.push_copies(&chunk.as_slice()[from..from + count]);
+        }
+        self.share_chunk(chunk)
+    }
+
+    // Puts the fragments of a chunk behind the others, as a chunk that is shared.
+    fn share_chunk(&mut self, chunk: &Chunk) -> Result<(), OutOfMemory>
+        ensures { OnOk result (self.new ≡ self.old ++ chunk.now) }
+    {
+        let Some(count) = self.count.checked_add(chunk.len()) else {
+            return Err(OutOfMemory);
+        };
+        seal(self.alloc, &mut self.chunks, &mut self.last)?;
+        put(self.alloc, &mut self.chunks, chunk.copy()?)?;
+        self.count = count;
+        Ok(())
+    }
+
+    // Puts fragments behind the others, each in the memory that it has.
+    fn push_copies(&mut self, fragments: &[Fragment]) -> Result<(), OutOfMemory>
+        ensures { OnOk result (self.new ≡ self.old ++ fragments.now) }
+    {
+        for fragment in fragments {
+            self.push(fragment.copy()?)?;
+        }
+        Ok(())
+    }
+}
+
+// Makes a chunk of the last fragments. It fails only where memory runs out, and changes nothing then.
+fn seal(alloc: Global, chunks: &mut Vec<Chunk>, last: &mut Vec<Fragment>) -> Result<(), OutOfMemory>
+    ensures chunks { OnOk result (chunks_list chunks.new.items ≡ chunks_list chunks.old.items ++ last.old.items) }
+    ensures last { OnOk result (last.new.items ≡ []) }
+    ensures err_chunks { OnErr result (chunks.new.items ≡ chunks.old.items) }
+    ensures err_last { OnErr result (last.new.items ≡ last.old.items) }
+{
+    if last.is_empty() {
+        return Ok(());
+    }
+    let chunk = Chunk::of(alloc, last.as_slice(), &[])?;
+    put(alloc, chunks, chunk)?;
+    last.truncate(0);
+    Ok(())
+}
+
+// Puts a chunk behind the others; it and the one before become one where a chunk can hold both. It fails only where memory runs out, and
+// changes nothing then.
+fn put(alloc: Global, chunks: &mut Vec<Chunk>, chunk: Chunk) -> Result<(), OutOfMemory>
+    ensures ok { OnOk result (chunks_list chunks.new.items ≡ chunks_list chunks.old.items ++ chunk) }
+    ensures err { OnErr result (chunks.new.items ≡ chunks.old.items) }
+{
+    let count = chunks.len();
+    if count > 0 && chunks[count - 1].len().saturating_add(chunk.len()) <= CHUNK {
+        let both = Chunk::of(alloc, chunks[count - 1].as_slice(), chunk.as_slice())?;
+        chunks[count - 1] = both;
+        return Ok(());
+    }
+    chunks.push(chunk)?;
+    Ok(())
 }

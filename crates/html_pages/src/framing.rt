@@ -67,12 +67,11 @@ fn framed(
         (λ page. page.text ≡ face_text face version seat ws) }
     ensures room { IfOk result (λ page. page.room ≡ length room.now) }
 {
-    let fragments = list.as_slice();
-    let size = page_size(face, fragments).saturating_add(room.len());
+    let size = page_size(face, list).saturating_add(room.len());
     let mut padded = String::with_capacity(alloc, size)?;
     push(&mut padded, room)?;
     push_start(&mut padded, face, version, seat)?;
-    push_fragments(&mut padded, face, fragments)?;
+    push_fragments(&mut padded, face, list)?;
     push(&mut padded, end(face))?;
     Ok(Page {
         version,
@@ -82,9 +81,18 @@ fn framed(
 }
 
 // As many bytes as a page of these fragments has, or more.
-fn page_size(face: Face, list: &[Fragment]) -> usize {
-    let mut size = FRAME_BYTES;
-    for fragment in list {
+fn page_size(face: Face, list: &Fragments) -> usize {
+    let (chunks, last) = list.parts();
+    let mut size = FRAME_BYTES.saturating_add(texts_size(face, last));
+    for chunk in chunks {
+        size = size.saturating_add(texts_size(face, chunk.as_slice()));
+    }
+    size
+}
+
+fn texts_size(face: Face, fragments: &[Fragment]) -> usize {
+    let mut size: usize = 0;
+    for fragment in fragments {
         size = size.saturating_add(fragment.text(face).len());
     }
     size
@@ -129,10 +137,20 @@ fn push_numbers(text: &mut String, version: u64, seat: u8) -> Result<(), OutOfMe
     push(text, number.format(seat))
 }
 
-fn push_fragments(text: &mut String, face: Face, list: &[Fragment]) -> Result<(), OutOfMemory>
+fn push_fragments(text: &mut String, face: Face, list: &Fragments) -> Result<(), OutOfMemory>
     ensures { OnOk result (string_bytes text.new ≡ string_bytes text.old ++ fragments_text face list.now) }
 {
-    for fragment in list {
+    let (chunks, last) = list.parts();
+    for chunk in chunks {
+        push_texts(text, face, chunk.as_slice())?;
+    }
+    push_texts(text, face, last)
+}
+
+fn push_texts(text: &mut String, face: Face, fragments: &[Fragment]) -> Result<(), OutOfMemory>
+    ensures { OnOk result (string_bytes text.new ≡ string_bytes text.old ++ fragments_text face fragments.now) }
+{
+    for fragment in fragments {
         push(text, fragment.text(face))?;
     }
     Ok(())

@@ -2,6 +2,7 @@
 //! them.
 #![tactic(auto)]
 
+mod chunk;
 mod escaping;
 mod forms;
 mod fragment;

@@ -13,7 +13,7 @@ use task_model::{
 };
 use terminal_view::{draw_line, draw_terminal};
 
-fn path(alloc: Global, letters: &str) -> Result<Path, OutOfMemory> {
+pub(crate) fn path(alloc: Global, letters: &str) -> Result<Path, OutOfMemory> {
     let mut turns = Turns::new(alloc);
     for letter in letters.as_bytes() {
         turns.push(if *letter == b'F' {
@@ -48,7 +48,7 @@ fn drawn<L: Ledger>(alloc: Global, blank: Blank, w: &Widget) -> Result<Fragment,
     draw_node(alloc, w, &mut steps)
 }
 
-fn fragment(alloc: Global, w: &Widget) -> Result<Fragment, OutOfMemory> {
+pub(crate) fn fragment(alloc: Global, w: &Widget) -> Result<Fragment, OutOfMemory> {
     drawn::<Brand>(alloc, Blank::new(1), w)
 }
 
@@ -180,7 +180,12 @@ fn assert_editor(
     )
 }
 
-fn editor(alloc: Global, word: &str, name: &str, literal: &str) -> Result<Shape, OutOfMemory> {
+pub(crate) fn editor(
+    alloc: Global,
+    word: &str,
+    name: &str,
+    literal: &str,
+) -> Result<Shape, OutOfMemory> {
     let b = basic(alloc, name)?;
     match word {
         "edit" => Ok(Shape::Edit(b, value(alloc, literal)?)),

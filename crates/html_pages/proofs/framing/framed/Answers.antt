@@ -1,8 +1,8 @@
 use Rattle.std.specs.Prelude.{string_bytes}
-use Rattle.std.proofs.Common.{◌≡◌, List, ◌++◌, drop, length, ap, ap₂, ◌∙◌}
+use Rattle.std.proofs.Common.{◌≡◌, ◌++◌, drop, length, ap, ap₂, ◌∙◌}
 use Rattle.std.proofs.lemmas.Str.{IsUtf8-string_bytes}
 use Rattle.task_model.specs.Terms.Text.{Text}
-use Rattle.html_pages.specs.Fragments.{FragmentTerm, fragments_text, page_end, page_start}
+use Rattle.html_pages.specs.Fragments.{fragments_text, page_end, page_start}
 use Rattle.html_pages.proofs.Framed.{framed_text}
 use Rattle.html_pages.proofs.Behind.{text_behind, text_begins}
 use Rattle.html_pages.proofs.framing.framed.Goals as goal
@@ -17,7 +17,7 @@ written c =
     let front = c.in_ok-push.ensures ∙ ap (λ (l : Text). l ++ c.args.room.now) c.in_ok-padded.ensures.bytes in
     let started = c.in_ok-push_start.ensures ∙ ap (λ (l : Text). l ++ start) front in
     let drawn = c.in_ok-push_fragments.ensures
-    ∙ ap₂ (λ (l : Text) (fs : List FragmentTerm). l ++ fragments_text face fs) started c.as_slice-fragments.ensures in
+    ∙ ap (λ (l : Text). l ++ fragments_text face c.args.list.now) started in
     c.in_ok-push-2.ensures ∙ ap₂ (λ (l m : Text). l ++ m) drawn c.end.ensures
 
 pub invariant_of-result : goal.invariant_of-result
