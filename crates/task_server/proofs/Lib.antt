@@ -5,4 +5,3 @@ pub mod ServingLemmas
 pub mod ReplyLemmas
 pub mod SendLemmas
 pub mod OpenedLemmas
-pub mod SharingLemmas

@@ -1,3 +1,2 @@
 pub mod DrilledLemmas
 pub mod TakenLemmas
-pub mod SharingLemmas

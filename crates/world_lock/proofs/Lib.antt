@@ -4,3 +4,4 @@ pub mod SharedLemmas
 pub mod ListLemmas
 pub mod ClosingLemmas
 pub mod OpeningLemmas
+pub mod SharingLemmas

@@ -47,6 +47,10 @@ pub record IsClosed (start : List ItemTerm) (seats : ℕ) (ss : List DeskTerm) (
 abbrev pub CountsOwn : List DeskTerm → ℕ → ℕ → Type 0
 CountsOwn ss seat count = (s : DeskTerm) × Among s ss × (s.seat ≡ seat) × (count ≡ length s.own)
 
+-- the numbers of own entries of the sessions of the seats from 1 on
+abbrev pub HasCounts : List DeskTerm → ℕ → List ℕ → Type 0
+HasCounts ss seats counts = (length counts ≡ seats) × ((k : ℕ) → k < seats → CountsOwn ss (k + 1) (slice_index counts k))
+
 -- the history goes on from what the session has seen, and its own entries stand there
 abbrev pub Holds : List ItemTerm → DeskTerm → Type 0
 Holds h s = StandsWithin s.own (entries_of h s.seat) × IsPrefix s.seen h

@@ -28,6 +28,10 @@ pub record IsOpened (world : SeenWorld) (writer : BoardList) (readers : List See
   pub some : IsSeat seats
   pub empty : (taken ≡ []) × (seats ≤ room)
 
+-- the reader is of the board, has seen just this history, and was never refused
+abbrev pub IsAtStart : Book → List ItemTerm → SeenReader → Type 0
+IsAtStart board start v = (v.board ≡ board) × (history_term v.list ≡ start) × (v.refusals ≡ 0)
+
 -- the session of a seat, which has seen the opening alone
 abbrev pub newcomer : List ItemTerm → ℕ → DeskTerm
 newcomer start seat = record { seat = seat; seen = start; own = []; refusals = 0; page_at_calls = 0 }

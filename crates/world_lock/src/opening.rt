@@ -1,8 +1,9 @@
-ghost use Rattle.std.specs.Prelude.{◌≡◌, ◌<◌, [], ◌∷◌, None, IfErr, IfOk};
+ghost use Rattle.std.specs.Prelude.{◌≡◌, ◌<◌, [], ◌∷◌, All, None, IfErr, IfOk, length};
 ghost use Rattle.task_model.specs.Terms.Tree.{State};
-ghost use Rattle.task_model.specs.Terms.Item.{opened, history_term};
+ghost use Rattle.task_model.specs.Terms.Item.{ItemTerm, opened, history_term};
 ghost use Rattle.task_model.specs.Running.Checked.{checked_term};
 ghost use Rattle.task_model.specs.Running.State.{IsBudget, IsOpening, IsSeat};
+ghost use Rattle.page_board.specs.BoardLists.{IsNewOn};
 ghost use Rattle.page_board.specs.Moments.{StandsFor};
 
 use page_board::{BoardReader, BoardWriter, Moment, board};
@@ -54,14 +55,32 @@ fn open_world<L: Ledger>(
     ensures over { IfErr result (λ stop. stop ≡ OpenStop.Over → (s : State) → IsOpening (checked_term c) budget s → ⊥) }
 {
     let mut world = World::open(alloc, c, budget)?;
+    match first_moment::<L>(&mut world, alloc, blank) {
+        Ok(first) => Ok((world, first)),
+        Err(OutOfMemory) => {
+            drop(world);
+            Err(OpenStop::Memory)
+        }
+    }
+}
+
+// What pages of a world at rest are made from.
+fn first_moment<L: Ledger>(
+    world: &mut World,
+    alloc: Global,
+    blank: Blank,
+) -> Result<Moment, OutOfMemory>
+    requires rest { world.old.next ≡ None }
+    requires ledger { (blank.name ≡ L.name) × (blank.parts ≡ L.parts) × (0 < blank.parts) }
+    ensures world { (world.new.history ≡ world.old.history) × (world.new.next ≡ None) }
+    ensures stands { IfOk result (λ m. StandsFor m (history_term world.old.history)) }
+{
     // The history is legal.
     let _legal = world.history();
     let version = world.version();
     let mut steps = Steps::<L>::new(blank);
-    match world.fragments(alloc, &mut steps) {
-        Ok(fragments) => Ok((world, Moment { version, fragments })),
-        Err(OutOfMemory) => Err(OpenStop::Memory),
-    }
+    let fragments = world.fragments(alloc, &mut steps)?;
+    Ok(Moment { version, fragments })
 }
 
 /// Opens a program within a budget, 1 to 1,000,000 units, with so many seats, 1 to 64. The history is that one item.
@@ -78,23 +97,44 @@ pub fn make_opening<R: Wait + Copy>(
     ensures seats { IfOk result (λ o. o.seats ≡ seats) }
     ensures over { IfErr result (λ stop. stop ≡ OpenStop.Over → (s : State) → IsOpening (checked_term c) budget s → ⊥) }
 {
-    let (world, first) = open_world::<Brand>(alloc, c, budget, Blank::new(1))?;
     let mut taken = Vec::new(alloc);
     if taken.reserve(usize::from(seats)).is_err() {
+        drop(c);
         return Err(OpenStop::Memory);
     }
+    let (world, first) = open_world::<Brand>(alloc, c, budget, Blank::new(1))?;
+    match first_board(rt, alloc, &world, first, seats) {
+        Ok((writer, readers)) => Ok(Opening {
+            world,
+            writer,
+            readers,
+            blank: Blank::new(u64::from(seats)),
+            taken,
+            seats,
+        }),
+        Err(OutOfMemory) => {
+            drop(world);
+            Err(OpenStop::Memory)
+        }
+    }
+}
+
+// The board that shows an opened world, and its readers.
+fn first_board<R: Wait + Copy>(
+    rt: &R,
+    alloc: Global,
+    world: &World,
+    first: Moment,
+    seats: u8,
+) -> Result<(BoardWriter<R>, Vec<BoardReader>), OutOfMemory>
+    requires seats { IsSeat seats }
+    requires stands { StandsFor first (history_term world.now.history) }
+    requires one { (i : ItemTerm) × (history_term world.now.history ≡ i ∷ []) }
+    ensures writer { IfOk result (λ b. b.0.list ≡ world.now.history) }
+    ensures readers { IfOk result (λ b. (length b.1.items ≡ seats) × All (IsNewOn b.0) b.1.items) }
+{
     let Some(item) = world.history().first() else {
         unreachable!()
     };
-    let Ok((writer, readers)) = board(rt, alloc, first, item, seats) else {
-        return Err(OpenStop::Memory);
-    };
-    Ok(Opening {
-        world,
-        writer,
-        readers,
-        blank: Blank::new(u64::from(seats)),
-        taken,
-        seats,
-    })
+    board(rt, alloc, first, item, seats)
 }

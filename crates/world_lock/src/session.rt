@@ -58,6 +58,7 @@ impl<M: Mark> Model for Session<M> {
 fn view(alloc: Global, face: Face, seat: u8, moment: &Moment) -> (u64, Result<Page, OutOfMemory>)
     ensures version { result.0 ≡ moment.now.version }
     ensures page { (h : _) → StandsFor moment.now h → IfOk result.1 (ShowsPage face h seat) }
+    ensures room { IfOk result.1 (λ page. page.room ≡ 256) }
 {
     (
         moment.version,
@@ -139,10 +140,12 @@ impl<M: Mark> Session<M> {
         shared.world.lock(rt).act(alloc, self, input)
     }
 
-    /// The newest page that the board shows. It takes no lock and waits for nobody. Where the board refuses the entry, what was seen stays.
+    /// The newest page that the board shows, behind room for the head of a reply. It takes no lock and waits for nobody, and it is framed
+    /// once the board is left. Where the board refuses the entry, what was seen stays.
     pub fn page(&mut self, alloc: Global, face: Face) -> Result<Page, ViewStop>
         ensures asked { KeepsEntries (session_term self.old) (session_term self.new) (session_term self.old).page_at_calls }
         ensures ok { IfOk result (λ page. ShowsPage face (session_term self.new).seen (session_term self.new).seat page) }
+        ensures room { IfOk result (λ page. page.room ≡ 256) }
         ensures no_entry { result ≡ Err NoEntry → ((session_term self.new).seen ≡ (session_term self.old).seen)
             × Rose (session_term self.old).refusals (session_term self.new).refusals }
     {
@@ -159,8 +162,8 @@ impl<M: Mark> Session<M> {
         }
     }
 
-    /// A page of at least this version. Where that was seen, the board's newest one serves; else, or where the board refuses the entry, it
-    /// is made under the lock. `Ahead` comes exactly where the history there has fewer entries.
+    /// A page of at least this version, behind room for the head of a reply. Where that was seen, the board's newest one serves; else, or
+    /// where the board refuses the entry, it is made under the lock. `Ahead` comes exactly where the history there has fewer entries.
     pub fn page_at<R: Wait, W: Wait + Copy>(
         &mut self,
         rt: &R,
@@ -172,6 +175,7 @@ impl<M: Mark> Session<M> {
         ensures asked { KeepsEntries (session_term self.old) (session_term self.new) (next_count (session_term self.old).page_at_calls) }
         ensures ok { IfOk result (λ page. ShowsPage face (session_term self.new).seen (session_term self.new).seat page
             × (at_least ≤ page.version)) }
+        ensures room { IfOk result (λ page. page.room ≡ 256) }
         ensures ahead { (have : ℕ) → result ≡ Err (Ahead have) → (have ≡ version_of (session_term self.new).seen) × (have < at_least) }
     {
         self.count_call();
@@ -193,6 +197,7 @@ impl<M: Mark> Session<M> {
         ensures asked { KeepsEntries (session_term self.old) (session_term self.new) (session_term self.old).page_at_calls }
         ensures some { IfSome result (λ page. ShowsPage face (session_term self.new).seen (session_term self.new).seat page
             × (at_least ≤ page.version)) }
+        ensures room { IfSome result (λ page. page.room ≡ 256) }
     {
         if self.seen < at_least {
             return None;

@@ -119,7 +119,7 @@ impl<M: Mark, R: Wait + Copy> SharedWorld<M, R> {
         Ok(version)
     }
 
-    // A page of the present history, if it is long enough.
+    // A page of the present history, if it is long enough, behind room for the head of a reply.
     pub(crate) fn page_at(
         &mut self,
         alloc: Global,
@@ -132,6 +132,7 @@ impl<M: Mark, R: Wait + Copy> SharedWorld<M, R> {
         ensures kept { KeepsEntries (session_term me.old) (session_term me.new) (session_term me.old).page_at_calls }
         ensures ok { IfOk result (λ page. ShowsPage face (session_term me.new).seen (session_term me.new).seat page
             × (at_least ≤ page.version)) }
+        ensures room { IfOk result (λ page. page.room ≡ 256) }
         ensures ahead { (have : ℕ) → result ≡ Err (Ahead have) → (have ≡ version_of (history_term self.old)) × (have < at_least) }
     {
         self.meet(me);

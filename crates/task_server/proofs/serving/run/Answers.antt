@@ -20,7 +20,7 @@ use Rattle.task_server.specs.Crews.{CrewTerm, HasWorked, desks}
 use Rattle.task_server.specs.contracts.porch.Porch as porch
 use Rattle.task_server.proofs.CrewLemmas.{worked_each, worked_seats, worked_told}
 use Rattle.task_server.proofs.SendLemmas.{crew_send}
-use Rattle.task_server.proofs.SharingLemmas.{session_send, shared_sync}
+use Rattle.world_lock.proofs.SharingLemmas.{session_send, shared_sync}
 use Rattle.task_server.proofs.serving.run.Goals as goal
 
 pub crosses-requires-2-send-X : goal.crosses-requires-2-send-X

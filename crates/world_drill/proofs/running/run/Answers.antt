@@ -16,7 +16,7 @@ use Rattle.world_lock.specs.Sessions.{SeenSession, session_term}
 use Rattle.world_lock.specs.contracts.shared.Shared as shared
 use Rattle.world_drill.specs.Drilled.{HasGiven, HaveGiven}
 use Rattle.world_drill.proofs.DrilledLemmas.{given_each, if_ok, oks_length}
-use Rattle.world_drill.proofs.SharingLemmas.{session_send, shared_sync}
+use Rattle.world_lock.proofs.SharingLemmas.{session_send, shared_sync}
 use Rattle.world_drill.proofs.running.run.Goals as goal
 
 pub map_vec-requires-send-J : goal.map_vec-requires-send-J

@@ -1,4 +1,4 @@
-use Rattle.std.proofs.Common.{◌≤◌, ap, arith}
+use Rattle.std.proofs.Common.{◌≡◌, ◌≤◌, ap, arith}
 use Rattle.task_model.specs.Terms.Item.{history_term}
 use Rattle.task_model.specs.Running.State.{version_of}
 use Rattle.task_laws.proofs.BeginningLemmas.{version_later}
@@ -14,3 +14,7 @@ returns-clause-some g c =
     rw c.ok.ensures.value (shown_newest c.page.result (ShowsPage c.args.face (history_term c.page.new.self.seen) c.page.new.self.seat)
     (λ p. ShowsPage c.args.face (history_term c.page.new.self.seen) c.page.new.self.seat p × (c.args.at_least ≤ p.version))
     (λ p q. (q, omega (arith, q.0, later, here, c.self.invariant.counted, c.if-self-at_least.false))) c.page.ensures.ok)
+
+pub returns-clause-room : goal.returns-clause-room
+returns-clause-room g c =
+    rw c.ok.ensures.value (shown_newest c.page.result (λ p. p.room ≡ 256) (λ p. p.room ≡ 256) (λ p q. q) c.page.ensures.room)

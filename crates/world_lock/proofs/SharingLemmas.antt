@@ -1,8 +1,8 @@
--- What the workers share may be looked at by each of them, and their sessions may go to other threads.
+-- Sessions may go to other threads, and what is shared may be looked at by each of them, where its parts may.
 use denote.RattleType.{RattleType}
 use denote.Param.Send.{IsSend, IsSync, sendable, view_send}
-use denote.Param.SendFields.{FieldsHave, declared_send, declared_sync, as_row_send, as_row_sync}
-use Rattle.std.proofs.Crossing.{crosses, Vec-send, Vec-sync}
+use denote.Param.SendFields.{FieldsHave, declared_send, declared_sync, as_row_sync}
+use Rattle.std.proofs.Crossing.{crosses, Vec-send}
 use Rattle.std.proofs.sync.ledger.Book.TheSendSync as book
 use Rattle.std.proofs.sync.ledger.Share.TheSendSync as share
 use Rattle.std.specs.declared.sync.ledger.Ledger as ledger
@@ -41,7 +41,7 @@ module _ (M R : RattleType) (m : mark.Ghosts M.Denot) (l : ledger.Ghosts M.Denot
       let s = shared_world_send w b in
       let O = shared.the_type M R m l in
       let parts : FieldsHave IsSync O.parts = (
-        search (s, crosses, as_row_sync, sendable) depth 20,
+        search (s, crosses, sendable) depth 20,
         (search sendable, (search (crosses, as_row_sync, sendable) depth 20, tt)),
       )
       in declared_sync O parts
