@@ -43,3 +43,9 @@ Finishes (Some old) (Some new) link = new ≡ old ++ link ∷ []
 -- What a gate over a socket tells: its count alone.
 abbrev pub told_by_listener : ℕ → GateTold
 told_by_listener faults = record { left = None; finished = None; faults = faults }
+
+-- What holds of a link that was handed out.
+abbrev pub IfLink : {L : Type 0} → Accept L → (L → Type 0) → Type 0
+IfLink (Link link) holds = holds link
+IfLink Closed holds = ⊤
+IfLink Failed holds = ⊤

@@ -1,2 +1,4 @@
+pub mod Arrivals
 pub mod Gates
 pub mod MemGates
+pub mod ReceivedLinks

@@ -1,18 +1,22 @@
-ghost use Rattle.std.specs.Prelude.{◌≡◌, ◌≤◌, IfOk};
+ghost use Rattle.std.specs.Prelude.{◌≡◌, ◌≤◌, [], IfOk, IfSome};
 ghost use Rattle.outer_io.specs.Causes.{Rose};
+ghost use Rattle.outer_io.specs.PlainSource.{left_of};
 ghost use Rattle.outer_io.specs.StreamLinks.{told_over_stream};
-ghost use Rattle.outer_gates.specs.Gates.{Accepts, faults_after_accept, told_by_listener};
+ghost use Rattle.outer_gates.specs.Arrivals.{BeginsWithRequest};
+ghost use Rattle.outer_gates.specs.Gates.{Accepts, IfLink, faults_after_accept, told_by_listener};
 
 use crate::accept::Accept;
+use crate::client::Client;
 use crate::gate::Gate;
-use crate::silent_streams::SilentStreams;
+use crate::received_link::ReceivedLink;
+use crate::waiting_clients::{ReadyClient, WaitingClients};
 use mio::net::{TcpListener, TcpStream};
 use mio::{Events, Interest, Poll, Token};
 use outer_io::{LinkTimes, StreamLink};
 use std::alloc::Global;
 use std::io::ErrorKind;
 use std::net::Net;
-use std::time::Clock;
+use std::time::{Clock, Duration, Instant};
 use std::{io, net};
 use task_model::OutOfMemory;
 
@@ -21,6 +25,14 @@ const ABORTS: u32 = 1000;
 
 // How many events one wait tells at most. Nothing hangs on it.
 const EVENTS: usize = 64;
+
+// How long it waits in milliseconds until it tries again to open a connection, where too many files are open.
+const PAUSE: u64 = 50;
+
+// The numbers of the system's errors: the system has too many open files (ENFILE), and the process has (EMFILE).
+const FILES_OF_ALL: i32 = 23;
+
+const FILES_OF_ONE: i32 = 24;
 
 /// Why a gate over a socket wasn't made.
 #[derive(Clone, Copy, Debug, PartialEq, Eq)]
@@ -39,17 +51,20 @@ impl From<OutOfMemory> for GateStop {
 
 /// A gate over a socket of the system that listens. It tells its count alone, and never answers `Closed`.
 ///
-/// A link is handed out once its first bytes are there. Until then its client costs a place among 256, and no more: where
-/// another one comes, the client that has been silent for longest is closed. A client that goes before it has sent
-/// anything is no link. One that goes before it was accepted is no fault, up to 1,000 in a row. All else that the system
-/// refuses is a fault.
+/// A link is handed out once its first request is there whole. Until then its client costs a place among 256 and the memory of what
+/// it has sent, and no more. It is closed where that never comes: it goes, its time for a request is over, or there is no memory for
+/// it. Where all places are taken and another client comes, or too many files are open, the client that has waited for longest is
+/// closed. None of these is a link or a fault, nor is a client that goes before it was accepted, up to 1,000 in a row. All else that
+/// the system refuses is a fault.
 #[derive(Drop)]
 pub struct ListenerGate<'r, R: Clock> {
     listener: TcpListener,
     poll: Poll,
     events: Events,
-    silent: SilentStreams,
+    waiting: WaitingClients,
+    alloc: Global,
     clock: &'r R,
+    first: Duration,
     times: LinkTimes,
     faults: u64,
 }
@@ -59,25 +74,29 @@ pub struct ListenerGate<'r, R: Clock> {
 enum Admitted {
     // Nobody else waits to be accepted.
     All,
-    // There is room for no other one.
+    // There is no place for another one.
     Full,
+    // Too many files are open for another one.
+    NoFile,
     // The system refused something.
     Failed,
 }
 
 impl<'r, R: Clock> ListenerGate<'r, R> {
-    /// A gate over this socket, of which no call failed yet. Its links have these times.
+    /// A gate over this socket, of which no call failed yet. A client has `first` for its first request. The links have these times
+    /// behind it.
     pub fn new<N: Net>(
         net: &N,
         alloc: Global,
         listener: net::TcpListener,
         clock: &'r R,
+        first: Duration,
         times: LinkTimes,
     ) -> Result<ListenerGate<'r, R>, GateStop>
         ensures faults { IfOk result (λ gate. gate.faults ≡ 0) }
-        ensures times { IfOk result (λ gate. gate.times ≡ times) }
+        ensures times { IfOk result (λ gate. (gate.first ≡ first) × (gate.times ≡ times)) }
     {
-        let silent = SilentStreams::new(alloc)?;
+        let waiting = WaitingClients::new(alloc)?;
         let Ok(events) = Events::with_capacity(alloc, EVENTS) else {
             return Err(GateStop::Memory);
         };
@@ -88,8 +107,10 @@ impl<'r, R: Clock> ListenerGate<'r, R> {
             listener,
             poll,
             events,
-            silent,
+            waiting,
+            alloc,
             clock,
+            first,
             times,
             faults: 0,
         })
@@ -110,10 +131,10 @@ impl<'r, R: Clock> ListenerGate<'r, R> {
 
     // Takes in the clients that wait to be accepted, as long as there is room.
     fn admit(&mut self) -> Admitted
-        ensures { (self.new.faults ≡ self.old.faults) × (self.new.times ≡ self.old.times) }
+        ensures { (self.new.faults ≡ self.old.faults) × (self.new.first ≡ self.old.first) × (self.new.times ≡ self.old.times) }
     {
         for _ in 0..u64::MAX {
-            if self.silent.is_full() {
+            if self.waiting.is_full() {
                 return Admitted::Full;
             }
             match self.next_client() {
@@ -121,9 +142,10 @@ impl<'r, R: Clock> ListenerGate<'r, R> {
                     if self.watch_client(&mut stream).is_err() {
                         return Admitted::Failed;
                     }
-                    self.silent.keep(stream);
+                    self.waiting.keep(Client::new(self.alloc, stream));
                 }
                 Ok(None) => return Admitted::All,
+                Err(error) if are_too_many_files(&error) => return Admitted::NoFile,
                 Err(_) => return Admitted::Failed,
             }
         }
@@ -137,31 +159,77 @@ impl<'r, R: Clock> ListenerGate<'r, R> {
             .register(stream, Token(1), Interest::READABLE)
     }
 
-    // The first client whose first bytes are there. It waits for one. None: the system refused something.
-    fn next_speaking(&mut self) -> Option<net::TcpStream>
-        ensures { (self.new.faults ≡ self.old.faults) × (self.new.times ≡ self.old.times) }
+    // The first client whose first request is there whole. It waits for one. None: the system refused something.
+    fn next_ready(&mut self) -> Option<ReadyClient>
+        ensures stays { (self.new.faults ≡ self.old.faults) × (self.new.first ≡ self.old.first) × (self.new.times ≡ self.old.times) }
+        ensures ready { IfSome result (λ ready. BeginsWithRequest ready.received.list) }
     {
         for _ in 0..u64::MAX {
             let admitted = self.admit();
-            if let Some(stream) = self.silent.take_speaking() {
-                return self.leave(stream);
+            let now = Instant::now(self.clock).ok()?;
+            if let Some(ready) = self.waiting.take_ready(self.alloc, now, self.first) {
+                return Some(ready);
             }
-            match admitted {
-                Admitted::All => self.poll.poll(&mut self.events, None).ok()?,
-                Admitted::Full => self.silent.close_oldest(),
-                Admitted::Failed => return None,
-            }
+            self.make_room(admitted, now)?;
         }
         None
     }
 
-    // A stream whose calls wait, of which no wait tells any more.
-    fn leave(&self, mut stream: TcpStream) -> Option<net::TcpStream> {
+    // Waits, or closes a client, so that more can be taken in. None: the system refused something.
+    fn make_room(&mut self, admitted: Admitted, now: Instant) -> Option<()>
+        ensures { (self.new.faults ≡ self.old.faults) × (self.new.first ≡ self.old.first) × (self.new.times ≡ self.old.times) }
+    {
+        match admitted {
+            Admitted::All => {
+                let time = self.waiting.time_left(now);
+                self.wait(time)
+            }
+            Admitted::NoFile if self.waiting.is_empty() => {
+                self.wait(Some(Duration::from_millis(PAUSE)))
+            }
+            Admitted::Full | Admitted::NoFile => {
+                self.waiting.close_oldest();
+                Some(())
+            }
+            Admitted::Failed => None,
+        }
+    }
+
+    // Waits until a client comes, sends something or goes, or so much time is over. None: the system refused it.
+    fn wait(&mut self, time: Option<Duration>) -> Option<()>
+        ensures { (self.new.faults ≡ self.old.faults) × (self.new.first ≡ self.old.first) × (self.new.times ≡ self.old.times) }
+    {
+        self.poll.poll(&mut self.events, time).ok()
+    }
+
+    // The link of a client, of which no wait tells any more. None: the system refused it.
+    fn link(&self, ready: ReadyClient) -> Option<ReceivedLink<'r, R>>
+        ensures { IfSome result (λ l. (left_of l.received ≡ ready.received.list) × (l.link.read_faults ≡ 0) × (l.link.write_faults ≡ 0)) }
+    {
+        let ReadyClient {
+            mut stream,
+            received,
+        } = ready;
         self.poll.registry().deregister(&mut stream).ok()?;
         let stream = net::TcpStream::from(stream);
         stream.set_nonblocking(false).ok()?;
-        Some(stream)
+        let link = StreamLink::new(stream, self.clock, self.times);
+        Some(ReceivedLink::new(received, link))
     }
+
+    // The link of the first client whose first request is there whole. None: the system refused something.
+    fn next_link(&mut self) -> Option<ReceivedLink<'r, R>>
+        ensures stays { (self.new.faults ≡ self.old.faults) × (self.new.first ≡ self.old.first) × (self.new.times ≡ self.old.times) }
+        ensures link { IfSome result (λ l. BeginsWithRequest (left_of l.received) × (l.link.read_faults ≡ 0) × (l.link.write_faults ≡ 0)) }
+    {
+        let ready = self.next_ready()?;
+        self.link(ready)
+    }
+}
+
+// Whether an error says that too many files are open.
+fn are_too_many_files(error: &io::Error) -> bool {
+    matches!(error.raw_os_error(), Some(FILES_OF_ALL | FILES_OF_ONE))
 }
 
 // A socket whose `accept` doesn't wait, and waits that end when a client comes.
@@ -177,23 +245,24 @@ fn watch<N: Net>(net: &N, listener: net::TcpListener) -> io::Result<(TcpListener
 impl<'r, R: Clock + Sync> Gate for ListenerGate<'r, R> {
     ghost use Rattle.std.specs.Prelude.{refl};
 
-    type Link = StreamLink<'r, R>;
+    type Link = ReceivedLink<'r, R>;
 
     ghost told = { λ g. told_by_listener g.faults };
 
-    ghost tells = { λ l. told_over_stream l.read_faults l.write_faults };
+    ghost tells = { λ l. told_over_stream l.link.read_faults l.link.write_faults };
 
-    fn accept(&mut self) -> Accept<StreamLink<'r, R>>
-        ensures links { Accepts (λ l. told_over_stream l.read_faults l.write_faults) (told_by_listener self.old.faults)
+    fn accept(&mut self) -> Accept<ReceivedLink<'r, R>>
+        ensures links { Accepts (λ l. told_over_stream l.link.read_faults l.link.write_faults) (told_by_listener self.old.faults)
             (told_by_listener self.new.faults) result }
         ensures count { self.old.faults ≤ self.new.faults }
         ensures failed { result ≡ Accept.Failed → Rose self.old.faults self.new.faults }
         ensures exact { self.new.faults ≡ faults_after_accept self.old.faults result }
         ensures open { result ≡ Accept.Closed → ⊥ }
-        ensures times { self.new.times ≡ self.old.times }
+        ensures times { (self.new.first ≡ self.old.first) × (self.new.times ≡ self.old.times) }
+        ensures ready { IfLink result (λ l. BeginsWithRequest (left_of l.received)) }
     {
-        match self.next_speaking() {
-            Some(stream) => Accept::Link(StreamLink::new(stream, self.clock, self.times)),
+        match self.next_link() {
+            Some(link) => Accept::Link(link),
             None => {
                 self.faults = self.faults.saturating_add(1);
                 Accept::Failed
@@ -201,7 +270,7 @@ impl<'r, R: Clock + Sync> Gate for ListenerGate<'r, R> {
         }
     }
 
-    fn finish(&mut self, _link: StreamLink<'r, R>)
+    fn finish(&mut self, _link: ReceivedLink<'r, R>)
         ensures { self.new ≡ self.old }
     {}
 

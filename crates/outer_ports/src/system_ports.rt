@@ -11,25 +11,28 @@ use outer_gates::{GateStop, ListenerGate};
 use outer_io::LinkTimes;
 use std::alloc::Global;
 use std::net::{Ipv4Addr, Net, SocketAddr, SocketAddrV4};
-use std::time::Clock;
+use std::time::{Clock, Duration};
 use std::{io, net};
 
-/// The ports of 127.0.0.1 of this machine. The links of their gates have these times.
+/// The ports of 127.0.0.1 of this machine. A client of their gates has `first` for its first request, and the links have these times
+/// behind it.
 #[derive(Drop)]
 pub struct SystemPorts<'r, R> {
     rt: &'r R,
+    first: Duration,
     times: LinkTimes,
     faults: u64,
 }
 
 impl<'r, R: Net + Clock> SystemPorts<'r, R> {
     /// The ports, of which no call failed yet.
-    pub fn new(rt: &'r R, times: LinkTimes) -> SystemPorts<'r, R>
+    pub fn new(rt: &'r R, first: Duration, times: LinkTimes) -> SystemPorts<'r, R>
         ensures faults { result.faults ≡ 0 }
-        ensures times { result.times ≡ times }
+        ensures times { (result.first ≡ first) × (result.times ≡ times) }
     {
         SystemPorts {
             rt,
+            first,
             times,
             faults: 0,
         }
@@ -43,12 +46,12 @@ impl<'r, R: Net + Clock> SystemPorts<'r, R> {
     ) -> Result<ListenerGate<'r, R>, GateStop>
         ensures refused { IfErr bound (λ _. result ≡ Err GateStop.Failed) }
         ensures faults { IfOk result (λ gate. gate.faults ≡ 0) }
-        ensures times { IfOk result (λ gate. gate.times ≡ self.now.times) }
+        ensures times { IfOk result (λ gate. (gate.first ≡ self.now.first) × (gate.times ≡ self.now.times)) }
     {
         match bound {
             Ok(listener) => {
                 let listener = net::TcpListener::from(listener);
-                ListenerGate::new(self.rt, alloc, listener, self.rt, self.times)
+                ListenerGate::new(self.rt, alloc, listener, self.rt, self.first, self.times)
             }
             Err(_) => Err(GateStop::Failed),
         }

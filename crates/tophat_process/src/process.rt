@@ -37,15 +37,20 @@ where
         &mut ReaderSource::new(input),
         &mut WriterSink::new(out),
         &mut WriterSink::new(err),
-        &mut SystemPorts::new(rt, times()),
+        &mut SystemPorts::new(rt, first(), times()),
     )
 }
 
-// How long a client may take (docs/FORMATS.md, "Times").
+// How long a client may take for its first request (docs/FORMATS.md, "Times").
+fn first() -> Duration {
+    Duration::from_secs(10)
+}
+
+// How long it may take behind that one.
 fn times() -> LinkTimes {
     LinkTimes {
-        idle: Duration::from_secs(2),
-        request: Duration::from_secs(10),
+        idle: Duration::from_millis(50),
+        request: Duration::from_millis(500),
         reply: Duration::from_secs(10),
     }
 }

@@ -1,9 +1,22 @@
 use outer_gates::{Accept, Gate, GateStop, ListenerGate};
 use outer_io::{Got, Link, LinkTimes, Source};
 use std::io::{Read, Write};
-use std::net::{TcpListener, TcpStream};
+use std::net::{Shutdown, SocketAddr, TcpListener, TcpStream};
 use std::test::Fail;
+use std::thread;
 use std::time::Duration;
+
+/// A request, another one, and the first part of one.
+pub(crate) const ASK: &[u8] = b"GET /?face=text HTTP/1.1\r\nHost: a\r\n\r\n";
+
+const POST: &[u8] = b"POST / HTTP/1.1\r\nHost: a\r\nContent-Length: 15\r\n\r\npath=.&act=next";
+
+const PART: &[u8] = b"GET / HTTP/1.1\r\nHos";
+
+/// How long a client may take for its first request.
+pub(crate) fn first() -> Duration {
+    Duration::from_millis(400)
+}
 
 pub(crate) fn times() -> LinkTimes {
     LinkTimes {
@@ -13,73 +26,135 @@ pub(crate) fn times() -> LinkTimes {
     }
 }
 
-// The first three bytes of the next link, which is then shut.
-pub(crate) fn next_bytes<G: Gate>(gate: &mut G) -> Result<[u8; 3], Fail> {
-    let mut room = [0u8; 3];
+/// The next link gives these bytes, and is then shut.
+pub(crate) fn gives<G: Gate>(gate: &mut G, bytes: &[u8]) -> Result<(), Fail> {
     match gate.accept() {
         Accept::Link(mut link) => {
-            let got = link.read(&mut room);
+            let told = gives_all(&mut link, bytes);
             link.shut();
             gate.finish(link);
-            if got == Got::Took(3) {
-                Ok(room)
-            } else {
-                Err(Fail::from("the link gave other bytes"))
-            }
+            told
         }
         Accept::Closed => Err(Fail::from("the gate is closed")),
         Accept::Failed => Err(Fail::from("the gate failed")),
     }
 }
 
-// A gate over this socket.
-fn gate_over(
-    rt: &HostRuntime,
-    listener: TcpListener,
-) -> Result<ListenerGate<'_, HostRuntime>, Fail> {
-    match ListenerGate::new(rt, rt.alloc(), listener, rt, times()) {
-        Ok(gate) => Ok(gate),
+// A link gives these bytes next, one by one.
+fn gives_all<L: Link>(link: &mut L, bytes: &[u8]) -> Result<(), Fail> {
+    for byte in bytes {
+        let mut room = [0u8; 1];
+        if link.read(&mut room) != Got::Took(1) || room[0] != *byte {
+            return Err(Fail::from("the link gave other bytes"));
+        }
+    }
+    Ok(())
+}
+
+// A gate over a socket, and its address.
+fn gate(rt: &HostRuntime) -> Result<(ListenerGate<'_, HostRuntime>, SocketAddr), Fail> {
+    let listener = TcpListener::bind(rt, "127.0.0.1:0")?;
+    let addr = listener.local_addr()?;
+    match ListenerGate::new(rt, rt.alloc(), listener, rt, first(), times()) {
+        Ok(gate) => Ok((gate, addr)),
         Err(GateStop::Failed) => Err(Fail::from("no gate")),
         Err(GateStop::Memory) => Err(Fail::from("no memory")),
     }
 }
 
+// A client that has sent these bytes.
+fn client(rt: &HostRuntime, addr: SocketAddr, bytes: &[u8]) -> Result<TcpStream, Fail> {
+    let mut client = TcpStream::connect(rt, addr)?;
+    client.set_nodelay(true)?;
+    client.set_read_timeout(Some(Duration::from_secs(5)))?;
+    client.write_all(bytes)?;
+    Ok(client)
+}
+
 #[test]
-fn a_silent_client_holds_up_nobody(rt: HostRuntime) -> Result<(), Fail> {
-    let listener = TcpListener::bind(&rt, "127.0.0.1:0")?;
-    let addr = listener.local_addr()?;
-    let mut gate = gate_over(&rt, listener)?;
-    let mut silent = TcpStream::connect(&rt, addr)?;
-    let mut asks = TcpStream::connect(&rt, addr)?;
-    asks.write_all(b"ask")?;
-    assert_eq!(rt; next_bytes(&mut gate)?, *b"ask");
-    // a client that goes before it says anything is no link
-    drop(TcpStream::connect(&rt, addr)?);
-    silent.write_all(b"now")?;
-    assert_eq!(rt; next_bytes(&mut gate)?, *b"now");
+fn requests_in_pieces_of_one_byte_are_handed_out_whole(rt: HostRuntime) -> Result<(), Fail> {
+    let (mut gate, addr) = gate(&rt)?;
+    for request in [ASK, POST] {
+        let mut asks = client(&rt, addr, b"")?;
+        for byte in request {
+            asks.write_all(&[*byte])?;
+        }
+        gives(&mut gate, request)?;
+    }
     Ok(())
 }
 
 #[test]
+fn bytes_behind_the_first_request_are_given_too(rt: HostRuntime) -> Result<(), Fail> {
+    let (mut gate, addr) = gate(&rt)?;
+    let mut all = Vec::new(rt.alloc());
+    for part in [ASK, POST, ASK, PART] {
+        all.extend_from_slice(part)?;
+    }
+    let asks = client(&rt, addr, all.as_slice())?;
+    asks.shutdown(Shutdown::Write)?;
+    gives(&mut gate, all.as_slice())
+}
+
+#[test]
+fn clients_that_send_no_whole_request_hold_up_nobody(rt: HostRuntime) -> Result<(), Fail> {
+    let (mut gate, addr) = gate(&rt)?;
+    let mut silent = client(&rt, addr, b"")?;
+    let mut slow = client(&rt, addr, PART)?;
+    // a client that goes is no link, whatever it has sent
+    for sent in [b"".as_slice(), b"\r\n", PART] {
+        let goes = client(&rt, addr, sent)?;
+        goes.shutdown(Shutdown::Write)?;
+    }
+    let _asks = client(&rt, addr, ASK)?;
+    gives(&mut gate, ASK)?;
+    slow.write_all(b"t: a\r\n\r\n")?;
+    gives(&mut gate, b"GET / HTTP/1.1\r\nHost: a\r\n\r\n")?;
+    silent.write_all(POST)?;
+    gives(&mut gate, POST)
+}
+
+#[test]
+fn what_is_refused_is_handed_out(rt: HostRuntime) -> Result<(), Fail> {
+    let (mut gate, addr) = gate(&rt)?;
+    let _garbled = client(&rt, addr, b"hello\r\n\r\n")?;
+    gives(&mut gate, b"hello\r\n\r\n")?;
+    let long = [b'a'; 8192];
+    let _endless = client(&rt, addr, &long)?;
+    gives(&mut gate, &long)
+}
+
+#[test]
+fn a_client_whose_time_is_over_is_closed(rt: HostRuntime) -> Result<(), Fail> {
+    let (mut gate, addr) = gate(&rt)?;
+    let mut silent = client(&rt, addr, b"")?;
+    let mut slow = client(&rt, addr, PART)?;
+    let _asks = client(&rt, addr, ASK)?;
+    gives(&mut gate, ASK)?;
+    thread::sleep(&rt, first());
+    slow.write_all(b"t")?;
+    let _asks_then = client(&rt, addr, ASK)?;
+    gives(&mut gate, ASK)?;
+    assert_eq!(rt; slow.read(&mut [0u8; 1])?, 0);
+    silent.write_all(POST)?;
+    gives(&mut gate, POST)
+}
+
+#[test]
 fn of_many_silent_clients_those_that_came_first_are_closed(rt: HostRuntime) -> Result<(), Fail> {
-    let listener = TcpListener::bind(&rt, "127.0.0.1:0")?;
-    let addr = listener.local_addr()?;
-    let mut gate = gate_over(&rt, listener)?;
-    let mut first = TcpStream::connect(&rt, addr)?;
+    let (mut gate, addr) = gate(&rt)?;
+    let mut first = client(&rt, addr, b"")?;
     let mut silent = Vec::new(rt.alloc());
     for _ in 0..3 {
         for _ in 0..100 {
             silent.push(TcpStream::connect(&rt, addr)?)?;
         }
-        let mut asks = TcpStream::connect(&rt, addr)?;
-        asks.write_all(b"ask")?;
-        assert_eq!(rt; next_bytes(&mut gate)?, *b"ask");
+        let _asks = client(&rt, addr, ASK)?;
+        gives(&mut gate, ASK)?;
     }
-    first.set_read_timeout(Some(Duration::from_secs(5)))?;
     assert_eq!(rt; first.read(&mut [0u8; 1])?, 0);
     if let Some(last) = silent.last_mut() {
-        last.write_all(b"now")?;
+        last.write_all(POST)?;
     }
-    assert_eq!(rt; next_bytes(&mut gate)?, *b"now");
-    Ok(())
+    gives(&mut gate, POST)
 }

@@ -1,4 +1,4 @@
-use crate::tests::listening::{next_bytes, times};
+use crate::tests::listening::{ASK, first, gives, times};
 use crate::tests::memory::two_links;
 use outer_gates::{ListenerGate, MemGate};
 use outer_ports::{Listening, MemPorts, Ports, SystemPorts};
@@ -24,7 +24,7 @@ fn listen_at<R: Net + Clock + Sync>(
     alloc: Global,
     port: u16,
 ) -> Listening<ListenerGate<'_, R>> {
-    SystemPorts::new(rt, times()).listen(alloc, port)
+    SystemPorts::new(rt, first(), times()).listen(alloc, port)
 }
 
 // A port of this machine at which nobody listens.
@@ -51,8 +51,8 @@ fn a_free_port_of_this_machine_has_a_gate(rt: HostRuntime) -> Result<(), Fail> {
     match listen_at(&rt, rt.alloc(), port) {
         Listening::Gate(mut gate) => {
             let mut asks = TcpStream::connect(&rt, ("127.0.0.1", port))?;
-            asks.write_all(b"ask")?;
-            assert_eq!(rt; next_bytes(&mut gate)?, *b"ask");
+            asks.write_all(ASK)?;
+            gives(&mut gate, ASK)?;
         }
         _ => return Err(Fail::from("no gate")),
     }
@@ -63,7 +63,7 @@ fn a_free_port_of_this_machine_has_a_gate(rt: HostRuntime) -> Result<(), Fail> {
 fn a_port_that_is_taken_has_none(rt: HostRuntime) -> Result<(), Fail> {
     let taken = TcpListener::bind(&rt, "127.0.0.1:0")?;
     let port = taken.local_addr()?.port();
-    let mut ports = SystemPorts::new(&rt, times());
+    let mut ports = SystemPorts::new(&rt, first(), times());
     assert_eq!(rt; answered(&mut ports, rt.alloc(), port), "failed");
     drop(taken);
     assert_eq!(rt; answered(&mut ports, rt.alloc(), port), "gate");
