@@ -1,4 +1,4 @@
--- What `clap` does after the words: nothing has a default, and each place needs a value.
+-- What `clap` does after the words: nothing has a default, and each argument needs a value.
 use Rattle.std.proofs.Common.{◌≡◌, ◌∙◌, ap, ap₂, sym, refl, ℕ, Bool, true, false, cond, List, ◌∷◌, Some, true≢false, []}
 use Rattle.std.specs.Prelude.{◌&&◌, ◌||◌, not}
 use Rattle.std.specs.Str.{bytes_eq}
@@ -53,7 +53,7 @@ is_given-rows name (u ∷ us) = go (bytes_eq u.0 name) (is_given-rows name us)
     go true later = refl
     go false later = later
 
--- a place that has no value
+-- an argument that has no value
 abbrev pub lacks : List Use → Text → Bool
 lacks us p = not (has_row p (rows_for us))
 
@@ -64,18 +64,18 @@ no_option_lacks : (rows : List Row) (options : List Text) → list_any (lacks_re
 no_option_lacks rows [] = refl
 no_option_lacks rows (o ∷ os) = no_option_lacks rows os
 
-pub missing-is : (i : ℕ) (us : List Use) (places options : List Text)
-    → list_any (lacks_required (rows_for us)) (built_rules i places options) ≡ list_any (lacks us) places
+pub missing-is : (i : ℕ) (us : List Use) (arguments options : List Text)
+    → list_any (lacks_required (rows_for us)) (built_rules i arguments options) ≡ list_any (lacks us) arguments
 missing-is i us [] options = no_option_lacks (rows_for us) options
 missing-is i us (p ∷ ps) options = ap₂ (λ a b. not a || b) (is_given-rows p us) (missing-is (next_index i) us ps options)
 
-pub none_lacks : (us : List Use) (places : List Text) → ((n : Text) → has n places ≡ true → has_row n (rows_for us) ≡ true)
-    → list_any (lacks us) places ≡ false
+pub none_lacks : (us : List Use) (arguments : List Text) → ((n : Text) → has n arguments ≡ true → has_row n (rows_for us) ≡ true)
+    → list_any (lacks us) arguments ≡ false
 none_lacks us [] h = refl
 none_lacks us (p ∷ ps) h = rw (h p (has-head p ps)) (none_lacks us ps (λ n e. h n (or_right (bytes_eq p n) (has n ps) e)))
 
-pub some_lacks : (us : List Use) (p : Text) (places : List Text) → has p places ≡ true → has_row p (rows_for us) ≡ false
-    → list_any (lacks us) places ≡ true
+pub some_lacks : (us : List Use) (p : Text) (arguments : List Text) → has p arguments ≡ true → has_row p (rows_for us) ≡ false
+    → list_any (lacks us) arguments ≡ true
 some_lacks us p [] h none = absurd (true≢false (sym h))
 some_lacks us p (x ∷ xs) h none = go (bytes_eq x p) refl h (λ e. some_lacks us p xs e none)
   where

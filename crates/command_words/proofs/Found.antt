@@ -46,7 +46,7 @@ no_uses : (o : Option (List Use)) (kinds : Kinds) (rows : List Row) → Agrees o
 no_uses None kinds rows h bad = refl
 no_uses (Some vs) kinds rows h bad = absurd (bad h.0)
 
-pub apart : (places options : List Text) → list_all (λ p. not (has p options)) places ≡ true → (n : Text) → has n places ≡ true
+pub apart : (arguments options : List Text) → list_all (λ p. not (has p options)) arguments ≡ true → (n : Text) → has n arguments ≡ true
     → has n options ≡ false
 apart [] options e n h = absurd (true≢false (sym h))
 apart (p ∷ ps) options e n h = go (bytes_eq p n) refl (and_parts (not (has p options)) _ e) h
@@ -58,22 +58,22 @@ apart (p ∷ ps) options e n h = go (bytes_eq p n) refl (and_parts (not (has p o
     go true t parts h later = ap (λ x. has x options) (sym ((bytes_eq-Decides p n).0 t)) ∙ not-true _ parts.0
     go false t parts h later = later h
 
-module _ (name : Text) (places options : List Text) (table : is_table places options ≡ true) (words : List (Bor Text))
+module _ (name : Text) (arguments options : List Text) (table : is_table arguments options ≡ true) (words : List (Bor Text))
     (text : All (λ w. IsUtf8 w.now) words) where
-  agrees : Agrees (clap_read (texts words) places options None) [] (fault_of (app_with name (rules_for places options)) (texts words))
-      (matches_of (app_with name (rules_for places options)) (texts words))
+  agrees : Agrees (clap_read (texts words) arguments options None) [] (fault_of (app_with name (rules_for arguments options)) (texts words))
+      (matches_of (app_with name (rules_for arguments options)) (texts words))
   agrees =
-      let parts = and_parts (is_distinct places) _ table in
-      let more = and_parts (list_all (λ p. not (has p options)) places) _ parts.1 in
-      command_reads name places options parts.0 (apart places options more.0) (ltb-true (length places) 1000 more.1) (texts words)
+      let parts = and_parts (is_distinct arguments) _ table in
+      let more = and_parts (list_all (λ p. not (has p options)) arguments) _ parts.1 in
+      command_reads name arguments options parts.0 (apart arguments options more.0) (ltb-true (length arguments) 1000 more.1) (texts words)
       (are_texts words text)
 
-  pub found : (m : ArgMatches) (app : App) → app ≡ app_with name (rules_for places options) → fault_of app (texts words) ≡ []
+  pub found : (m : ArgMatches) (app : App) → app ≡ app_with name (rules_for arguments options) → fault_of app (texts words) ≡ []
       → rows_of (found_of m) ≡ matches_of app (texts words)
-      → HasUses (clap_read (texts words) places options None) m
+      → HasUses (clap_read (texts words) arguments options None) m
   found m app is none rows =
       has_uses _ _ _ m agrees (ap (λ a. fault_of a (texts words)) (sym is) ∙ none) (rows ∙ ap (λ a. matches_of a (texts words)) is)
 
-  pub outside : (app : App) → app ≡ app_with name (rules_for places options) → (fault_of app (texts words) ≡ [] → ⊥)
-      → clap_read (texts words) places options None ≡ None
+  pub outside : (app : App) → app ≡ app_with name (rules_for arguments options) → (fault_of app (texts words) ≡ [] → ⊥)
+      → clap_read (texts words) arguments options None ≡ None
   outside app is bad = no_uses _ _ _ agrees (λ none. bad (ap (λ a. fault_of a (texts words)) is ∙ none))

@@ -20,25 +20,25 @@ use Rattle.command_words.proofs.Found.{apart}
 use Rattle.command_words.proofs.Strict.{dash, same_by_both}
 
 -- the words' meaning, which is nothing where an option has the value `-`
-module _ (meaning : Values → Option CommandTerm) (words places options : List Text) (table : is_table places options ≡ true)
+module _ (meaning : Values → Option CommandTerm) (words arguments options : List Text) (table : is_table arguments options ≡ true)
     (fails : (uses : List Use) (name : Text) → has name options ≡ true → value_given name uses ≡ Some dash
     → meaning (λ n. value_given n uses) ≡ None) where
-  same : looked_up meaning (clap_read words places options None) ≡ looked_up meaning (read words places options None)
+  same : looked_up meaning (clap_read words arguments options None) ≡ looked_up meaning (read words arguments options None)
   same =
-      let more = (and_parts (is_distinct places) _ table).1 in
-      let names = (and_parts (list_all (λ p. not (has p options)) places) _ more).0 in
-      same_by_both (looked_up meaning) words places options (apart places options names) refl fails
+      let more = (and_parts (is_distinct arguments) _ table).1 in
+      let names = (and_parts (list_all (λ p. not (has p options)) arguments) _ more).0 in
+      same_by_both (looked_up meaning) words arguments options (apart arguments options names) refl fails
 
-  pub meant : (m : ArgMatches) (r : Result Command WordStop) → HasUses (clap_read words places options None) m
-      → IsAsked (meaning (first_value (found_of m))) r → IsAsked (looked_up meaning (read words places options None)) r
-  meant m r found given = subst (λ o. IsAsked o r) same (go (clap_read words places options None) found)
+  pub meant : (m : ArgMatches) (r : Result Command WordStop) → HasUses (clap_read words arguments options None) m
+      → IsAsked (meaning (first_value (found_of m))) r → IsAsked (looked_up meaning (read words arguments options None)) r
+  meant m r found given = subst (λ o. IsAsked o r) same (go (clap_read words arguments options None) found)
     where
       go : (o : Option (List Use)) → HasUses o m → IsAsked (looked_up meaning o) r
       go None h = absurd h
       go (Some uses) h = subst (λ (v : Values). IsAsked (meaning v) r) (λ i name. h name i) given
 
-  pub refuses : (e : WordStop) → Finds (clap_read words places options None) (Err e)
-      → IsAsked (looked_up meaning (read words places options None)) (Err e)
+  pub refuses : (e : WordStop) → Finds (clap_read words arguments options None) (Err e)
+      → IsAsked (looked_up meaning (read words arguments options None)) (Err e)
   refuses Outside h = sym same ∙ ap (looked_up meaning) h
   refuses Memory h = tt
 

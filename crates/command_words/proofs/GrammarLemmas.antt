@@ -114,7 +114,7 @@ names_without name os names n h = go (bytes_eq name n) refl
 
 fills_read : {ps ws : List Text} {us : List Use} → Fills ps ws us → filled ps ws ≡ Some us
 fills_read none = refl
-fills_read (one {place = p} {word = w} f) = ap (with_use p w) (fills_read f)
+fills_read (one {argument = p} {word = w} f) = ap (with_use p w) (fills_read f)
 
 word_read : (w : Text) (ws ps os : List Text) (k : WordKind) → kind_of_word w ≡ k
     → read (w ∷ ws) ps os None ≡ read_word ps os k w ws (read ws)
@@ -122,20 +122,20 @@ word_read w ws ps os k e = ap (λ x. read_word ps os x w ws (read ws)) e
 
 pub follows_read : {ps os ws : List Text} {us : List Use} → AreNames os → Follows ps os ws us → read ws ps os None ≡ Some us
 follows_read names ended = refl
-follows_read names (stopped {places = ps} {options = os} {words = ws} {word = w} is f) = word_read w ws ps os stop (ap kind_of_word is)
+follows_read names (stopped {arguments = ps} {options = os} {words = ws} {word = w} is f) = word_read w ws ps os stop (ap kind_of_word is)
     ∙ fills_read f
-follows_read names (apart {places = ps} {options = os} {words = ws} {word = w} {value = v} {name = n} is here value rest) =
+follows_read names (apart {arguments = ps} {options = os} {words = ws} {word = w} {value = v} {name = n} is here value rest) =
     word_read w (v ∷ ws) ps os (named n) (ap kind_of_word is ∙ option_is_named n (names n here))
     ∙ ap (λ b. cond b (read (v ∷ ws) ps (without n os) (Some n)) None) here
     ∙ ap (λ b. cond b None (with_use n v (read ws ps (without n os) None))) value
     ∙ ap (with_use n v) (follows_read (names_without n os names) rest)
-follows_read names (together {places = ps} {options = os} {words = ws} {word = w} {value = v} {name = n} is here rest) =
+follows_read names (together {arguments = ps} {options = os} {words = ws} {word = w} {value = v} {name = n} is here rest) =
     word_read w ws ps os (joined n v) (ap kind_of_word is ∙ option_is_joined n v (names n here))
     ∙ ap (λ b. cond b (with_use n v (read ws ps (without n os) None)) None) here
     ∙ ap (with_use n v) (follows_read (names_without n os names) rest)
-follows_read names (placed {place = p} {word = w} {places = ps} {options = os} {words = ws} value rest) =
+follows_read names (placed {argument = p} {word = w} {arguments = ps} {options = os} {words = ws} value rest) =
     word_read w ws (p ∷ ps) os plain (plain_is_plain w value) ∙ ap (with_use p w) (follows_read names rest)
-follows_read names (placed_dash {place = p} {word = w} {places = ps} {options = os} {words = ws} is rest) =
+follows_read names (placed_dash {argument = p} {word = w} {arguments = ps} {options = os} {words = ws} is rest) =
     word_read w ws (p ∷ ps) os plain (ap kind_of_word is) ∙ ap (with_use p w) (follows_read names rest)
 
 -- ---- from the reading to the grammar
@@ -218,7 +218,7 @@ are_names (o ∷ os) e n h = go (bytes_eq o n) refl h (and_parts (is_option_name
     go true t h parts later = ap is_option_name (sym ((bytes_eq-Decides o n).0 t)) ∙ parts.0
     go false t h parts later = later h
 
-pub reading_is_the_grammar : (places options words : List Text) (uses : List Use) → list_all is_option_name options ≡ true
-    → (read words places options None ≡ Some uses) ↔ Follows places options words uses
-reading_is_the_grammar places options words uses names =
-    (read_follows words places options None uses, follows_read (are_names options names))
+pub reading_is_the_grammar : (arguments options words : List Text) (uses : List Use) → list_all is_option_name options ≡ true
+    → (read words arguments options None ≡ Some uses) ↔ Follows arguments options words uses
+reading_is_the_grammar arguments options words uses names =
+    (read_follows words arguments options None uses, follows_read (are_names options names))

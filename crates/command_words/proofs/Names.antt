@@ -1,4 +1,4 @@
--- Names of places and options, and which of them are left.
+-- Names of arguments and options, and which of them are left.
 use Rattle.std.proofs.Common.{◌≡◌, ◌∙◌, ap, sym, subst, refl, ℕ, Bool, true, false, List, ◌∷◌, true≢false, []}
 use Rattle.std.specs.Prelude.{◌||◌, not}
 use Rattle.std.specs.Str.{bytes_eq}
@@ -36,13 +36,13 @@ has-without-other m n (x ∷ xs) e = go (bytes_eq x n) refl (has-without-other m
         rw (t, differs) later
     go false t later = rw t (ap (λ b. bytes_eq x m || b) later)
 
--- ---- what is left: places, options and the place's index, where `taken` tells which names were used
+-- ---- what is left: arguments, options and the argument's index, where `taken` tells which names were used
 
-pub record Left (places options : List Text) (rules : List Rule) (ps os : List Text) (i : ℕ) (taken : Text → Bool) : Type 0 where
+pub record Left (arguments options : List Text) (rules : List Rule) (ps os : List Text) (i : ℕ) (taken : Text → Bool) : Type 0 where
   pub at : IsAt rules i ps
   pub distinct : is_distinct ps ≡ true
-  pub places_left : (n : Text) → has n places ≡ true → taken n ≡ not (has n ps)
-  pub of_places : (n : Text) → has n ps ≡ true → has n places ≡ true
+  pub arguments_left : (n : Text) → has n arguments ≡ true → taken n ≡ not (has n ps)
+  pub of_arguments : (n : Text) → has n ps ≡ true → has n arguments ≡ true
   pub options_left : (n : Text) → has n options ≡ true → taken n ≡ not (has n os)
   pub of_options : (n : Text) → has n os ≡ true → has n options ≡ true
 
@@ -54,31 +54,31 @@ or_false_part : (a b : Bool) → b ≡ false → (a || b) ≡ a
 or_false_part true b e = refl
 or_false_part false b e = e
 
-module _ (places options : List Text) (rules : List Rule) (apart : (n : Text) → has n places ≡ true → has n options ≡ false) where
-  differ : (a b : Text) → has a options ≡ true → has b places ≡ true → bytes_eq a b ≡ false
+module _ (arguments options : List Text) (rules : List Rule) (apart : (n : Text) → has n arguments ≡ true → has n options ≡ false) where
+  differ : (a b : Text) → has a options ≡ true → has b arguments ≡ true → bytes_eq a b ≡ false
   differ a b opt pl = go (bytes_eq a b) refl
     where
       go : (t : Bool) → bytes_eq a b ≡ t → t ≡ false
       go true e = absurd (true≢false (sym opt ∙ ap (λ x. has x options) (is_name a b e) ∙ apart b pl))
       go false e = refl
 
-  differ-back : (a b : Text) → has a places ≡ true → has b options ≡ true → bytes_eq a b ≡ false
+  differ-back : (a b : Text) → has a arguments ≡ true → has b options ≡ true → bytes_eq a b ≡ false
   differ-back a b pl opt = go (bytes_eq a b) refl
     where
       go : (t : Bool) → bytes_eq a b ≡ t → t ≡ false
       go true e = absurd (true≢false (sym opt ∙ ap (λ x. has x options) (sym (is_name a b e)) ∙ apart a pl))
       go false e = refl
 
-  pub take_option : (ps os : List Text) (i : ℕ) (taken : Text → Bool) (name : Text) → Left places options rules ps os i taken
+  pub take_option : (ps os : List Text) (i : ℕ) (taken : Text → Bool) (name : Text) → Left arguments options rules ps os i taken
       → has name os ≡ true
-      → Left places options rules ps (without name os) i (and_taken taken name)
+      → Left arguments options rules ps (without name os) i (and_taken taken name)
   take_option ps os i taken name left here =
       let known = left.of_options name here in
       record {
         at = left.at;
         distinct = left.distinct;
-        places_left = λ n pl. or_false_part _ _ (differ name n known pl) ∙ left.places_left n pl;
-        of_places = left.of_places;
+        arguments_left = λ n pl. or_false_part _ _ (differ name n known pl) ∙ left.arguments_left n pl;
+        of_arguments = left.of_arguments;
         options_left = λ n opt. go n opt (bytes_eq name n) refl;
         of_options = λ n h. left.of_options n (sub n h (bytes_eq name n) refl);
       }
@@ -94,35 +94,35 @@ module _ (places options : List Text) (rules : List Rule) (apart : (n : Text) �
       sub n h true e = ap (λ x. has x os) (sym (is_name name n e)) ∙ here
       sub n h false e = sym (has-without-other n name os e) ∙ h
 
-  pub take_place : (p : Text) (ps os : List Text) (i : ℕ) (taken : Text → Bool) → Left places options rules (p ∷ ps) os i taken
-      → Left places options rules ps os (next_index i) (and_taken taken p)
-  take_place p ps os i taken left =
+  pub take_argument : (p : Text) (ps os : List Text) (i : ℕ) (taken : Text → Bool) → Left arguments options rules (p ∷ ps) os i taken
+      → Left arguments options rules ps os (next_index i) (and_taken taken p)
+  take_argument p ps os i taken left =
       let parts = and_parts (not (has p ps)) (is_distinct ps) left.distinct in
-      let known = left.of_places p (has-head p ps) in
+      let known = left.of_arguments p (has-head p ps) in
       record {
         at = left.at.1;
         distinct = parts.1;
-        places_left = λ n pl. go n pl (not-true _ parts.0) (bytes_eq p n) refl (left.places_left n pl);
-        of_places = λ n h. left.of_places n (or_right (bytes_eq p n) (has n ps) h);
+        arguments_left = λ n pl. go n pl (not-true _ parts.0) (bytes_eq p n) refl (left.arguments_left n pl);
+        of_arguments = λ n h. left.of_arguments n (or_right (bytes_eq p n) (has n ps) h);
         options_left = λ n opt. or_false_part _ _ (differ-back p n known opt) ∙ left.options_left n opt;
         of_options = left.of_options;
       }
     where
-      go : (n : Text) → has n places ≡ true → has p ps ≡ false → (b : Bool) → bytes_eq p n ≡ b → taken n ≡ not (b || has n ps)
+      go : (n : Text) → has n arguments ≡ true → has p ps ≡ false → (b : Bool) → bytes_eq p n ≡ b → taken n ≡ not (b || has n ps)
           → (taken n || b) ≡ not (has n ps)
       go n pl gone true e t =
           let none : has n ps ≡ false = subst (λ x. has x ps ≡ false) (is_name p n e) gone in
           or_right _ _ refl ∙ ap not (sym none)
       go n pl gone false e t = or_false_part _ _ refl ∙ t
 
-pub left_as : (places options : List Text) (rules : List Rule) (ps os : List Text) (i : ℕ) (taken other : Text → Bool)
+pub left_as : (arguments options : List Text) (rules : List Rule) (ps os : List Text) (i : ℕ) (taken other : Text → Bool)
     → ((n : Text) → other n ≡ taken n)
-    → Left places options rules ps os i taken → Left places options rules ps os i other
-left_as places options rules ps os i taken other same left = record {
+    → Left arguments options rules ps os i taken → Left arguments options rules ps os i other
+left_as arguments options rules ps os i taken other same left = record {
   at = left.at;
   distinct = left.distinct;
-  places_left = λ n pl. same n ∙ left.places_left n pl;
-  of_places = left.of_places;
+  arguments_left = λ n pl. same n ∙ left.arguments_left n pl;
+  of_arguments = left.of_arguments;
   options_left = λ n opt. same n ∙ left.options_left n opt;
   of_options = left.of_options;
 }

@@ -7,7 +7,7 @@ use Rattle.std.proofs.lemmas.Bool.Decides.{nat_tests}
 use Rattle.task_model.specs.Terms.Text.{Text}
 use Rattle.command_words.specs.WordReading.{Use, read}
 use Rattle.command_words.specs.WordNumbers.{is_number, number_at, number_in, number_or}
-use Rattle.command_words.specs.Commands.{CommandTerm, IsAsked, IsInRange, Values, budget_in, check_in, check_with, command_of, command_term, connections_in, drill_in, drill_places, drill_with, file_place, looked_up, port_in, run_in, run_options, run_with, seats_in, serve_in, serve_options, serve_with, serving_with, soak_in, soak_places, soak_with, usual_budget, workers_in}
+use Rattle.command_words.specs.Commands.{CommandTerm, IsAsked, IsInRange, Values, budget_in, check_in, check_with, command_of, command_term, connections_in, drill_in, drill_arguments, drill_with, file_argument, looked_up, port_in, run_in, run_options, run_with, seats_in, serve_in, serve_options, serve_with, serving_with, soak_in, soak_arguments, soak_with, usual_budget, workers_in}
 use Rattle.command_words.specs.declared.command.Command.{Command}
 use Rattle.command_words.specs.declared.stop.WordStop.{WordStop}
 
@@ -114,26 +114,26 @@ in_range (name ∷ words) = go (bytes_eq name (codes "run")) (bytes_eq name (cod
     (bytes_eq name (codes "drill")) (bytes_eq name (codes "serve"))
   where
     ran : Option CommandTerm
-    ran = looked_up run_in (read words file_place run_options None)
+    ran = looked_up run_in (read words file_argument run_options None)
 
     checked : Option CommandTerm
-    checked = looked_up check_in (read words file_place [] None)
+    checked = looked_up check_in (read words file_argument [] None)
 
     soaked : Option CommandTerm
-    soaked = looked_up soak_in (read words soak_places [] None)
+    soaked = looked_up soak_in (read words soak_arguments [] None)
 
     drilled : Option CommandTerm
-    drilled = looked_up drill_in (read words drill_places [] None)
+    drilled = looked_up drill_in (read words drill_arguments [] None)
 
     served : Option CommandTerm
-    served = looked_up serve_in (read words file_place serve_options None)
+    served = looked_up serve_in (read words file_argument serve_options None)
 
     go : (a b c d e : Bool) → AreInRange (cond a ran (cond b checked (cond c soaked (cond d drilled (cond e served None)))))
-    go true b c d e = run_found (read words file_place run_options None)
-    go false true c d e = check_found (read words file_place [] None)
-    go false false true d e = soak_found (read words soak_places [] None)
-    go false false false true e = drill_found (read words drill_places [] None)
-    go false false false false true = serve_found (read words file_place serve_options None)
+    go true b c d e = run_found (read words file_argument run_options None)
+    go false true c d e = check_found (read words file_argument [] None)
+    go false false true d e = soak_found (read words soak_arguments [] None)
+    go false false false true e = drill_found (read words drill_arguments [] None)
+    go false false false false true = serve_found (read words file_argument serve_options None)
     go false false false false false = tt
 
 pub asked_in_range : (words : List Text) (r : Result Command WordStop) → IsAsked (command_of words) r

@@ -1,4 +1,4 @@
--- The rules that `clap` reads of a command with places and options, and the look-ups in them.
+-- The rules that `clap` reads of a command with arguments and options, and the look-ups in them.
 use Rattle.std.proofs.Common.{◌≡◌, ◌∙◌, ◌⊎◌, inl, inr, ap, ap₂, sym, subst, refl, ℕ, Bool, true, false, cond, List, ◌∷◌, ◌++◌, map, Option, Some, None, arith, true≢false, append_assoc, length, ◌≤◌, ◌<◌, []}
 use Rattle.std.specs.Prelude.{◌==◌, ◌+◌, ◌&&◌, ◌||◌, not, find, min, is_some}
 use Rattle.std.specs.Str.{bytes_eq}
@@ -52,7 +52,7 @@ filled-options : (i : ℕ) (options : List Text) → filled_from i (map option_r
 filled-options i [] = refl
 filled-options i (o ∷ os) = ap (λ rs. rule_with o (Some o) None false ∷ rs) (filled-options i os)
 
-pub filled-rules : (i : ℕ) (places options : List Text) → filled_from i (rules_for places options) ≡ built_rules i places options
+pub filled-rules : (i : ℕ) (arguments options : List Text) → filled_from i (rules_for arguments options) ≡ built_rules i arguments options
 filled-rules i [] options = filled-options i options
 filled-rules i (p ∷ ps) options = ap (λ rs. rule_with p None (Some i) true ∷ rs) (filled-rules (next_index i) ps options)
 
@@ -73,7 +73,7 @@ ours_options : (options : List Text) → AreOurs (built_options options)
 ours_options [] = tt
 ours_options (o ∷ os) = (record { long = Some o; index = None; required = false; is = refl; own = λ l e. (cc) }, ours_options os)
 
-pub ours : (i : ℕ) (places options : List Text) → AreOurs (built_rules i places options)
+pub ours : (i : ℕ) (arguments options : List Text) → AreOurs (built_rules i arguments options)
 ours i [] options = ours_options options
 ours i (p ∷ ps) options =
     (record { long = None; index = Some i; required = true; is = refl; own = λ l e. (cc) }, ours (next_index i) ps options)
@@ -126,8 +126,8 @@ any_option_id : (options : List Text) (name : Text) → list_any (named_id name)
 any_option_id [] name = refl
 any_option_id (o ∷ os) name = ap (λ b. bytes_eq o name || b) (any_option_id os name)
 
-pub any_id : (i : ℕ) (places options : List Text) (name : Text)
-    → list_any (named_id name) (built_rules i places options) ≡ (has name places || has name options)
+pub any_id : (i : ℕ) (arguments options : List Text) (name : Text)
+    → list_any (named_id name) (built_rules i arguments options) ≡ (has name arguments || has name options)
 any_id i [] options name = any_option_id options name
 any_id i (p ∷ ps) options name =
     ap (λ b. bytes_eq p name || b) (any_id (next_index i) ps options name) ∙ assoc (bytes_eq p name)
@@ -144,8 +144,8 @@ any_option_long (o ∷ os) name = ap₂ (λ a b. a || b) (no_alias (bytes_eq o n
     no_alias true = refl
     no_alias false = refl
 
-pub any_long : (i : ℕ) (places options : List Text) (name : Text)
-    → list_any (named_long name) (built_rules i places options) ≡ has name options
+pub any_long : (i : ℕ) (arguments options : List Text) (name : Text)
+    → list_any (named_long name) (built_rules i arguments options) ≡ has name options
 any_long i [] options name = any_option_long options name
 any_long i (p ∷ ps) options name = any_long (next_index i) ps options name
 
@@ -153,7 +153,7 @@ no_option_short : (options : List Text) (x : ℕ) → list_any (named_short x) (
 no_option_short [] x = refl
 no_option_short (o ∷ os) x = no_option_short os x
 
-pub any_short : (i : ℕ) (places options : List Text) (x : ℕ) → list_any (named_short x) (built_rules i places options) ≡ false
+pub any_short : (i : ℕ) (arguments options : List Text) (x : ℕ) → list_any (named_short x) (built_rules i arguments options) ≡ false
 any_short i [] options x = no_option_short options x
 any_short i (p ∷ ps) options x = any_short (next_index i) ps options x
 
@@ -165,10 +165,10 @@ rule_of_id : (name : Text) (found : Option Rule) (a : Rule) → found ≡ Some a
 rule_of_id name found a is own same =
     (own.long, own.index, own.required, is ∙ ap Some (own.is ∙ ap (λ t. rule_with t own.long own.index own.required) same))
 
-pub rule_by_id : (i : ℕ) (places options : List Text) (name : Text) → (has name places || has name options) ≡ true
-    → IsRuleOf name (arg_by_id (built_rules i places options) name)
-rule_by_id i places options name e =
-    let f = found_where (named_id name) (built_rules i places options) (ours i places options) (any_id i places options name ∙ e) in
+pub rule_by_id : (i : ℕ) (arguments options : List Text) (name : Text) → (has name arguments || has name options) ≡ true
+    → IsRuleOf name (arg_by_id (built_rules i arguments options) name)
+rule_by_id i arguments options name e =
+    let f = found_where (named_id name) (built_rules i arguments options) (ours i arguments options) (any_id i arguments options name ∙ e) in
     rule_of_id name _ f.rule f.is f.ours ((bytes_eq-Decides f.rule.id name).0 f.passes)
 
 long_is_id : (name : Text) (a : Rule) → IsOurs a → named_long name a ≡ true → a.id ≡ name
@@ -192,25 +192,25 @@ long_is_id name a own e = go own.long refl (subst (λ b. named_long name b ≡ t
         let long : (bytes_eq l name || false) ≡ true = rw is at both in
         sym (own.own l is) ∙ (bytes_eq-Decides l name).0 (or_false _ long)
 
-pub rule_by_long : (i : ℕ) (places options : List Text) (name : Text) → has name options ≡ true
-    → IsRuleOf name (arg_by_long (built_rules i places options) name)
-rule_by_long i places options name e =
-    let f = found_where (named_long name) (built_rules i places options) (ours i places options) (any_long i places options name ∙ e) in
+pub rule_by_long : (i : ℕ) (arguments options : List Text) (name : Text) → has name options ≡ true
+    → IsRuleOf name (arg_by_long (built_rules i arguments options) name)
+rule_by_long i arguments options name e =
+    let f = found_where (named_long name) (built_rules i arguments options) (ours i arguments options) (any_long i arguments options name ∙ e) in
     rule_of_id name _ f.rule f.is f.ours (long_is_id name f.rule f.ours f.passes)
 
-pub none_by_long : (i : ℕ) (places options : List Text) (name : Text) → has name options ≡ false
-    → arg_by_long (built_rules i places options) name ≡ None
-none_by_long i places options name e = none_where (named_long name) (built_rules i places options) (any_long i places options name ∙ e)
+pub none_by_long : (i : ℕ) (arguments options : List Text) (name : Text) → has name options ≡ false
+    → arg_by_long (built_rules i arguments options) name ≡ None
+none_by_long i arguments options name e = none_where (named_long name) (built_rules i arguments options) (any_long i arguments options name ∙ e)
 
-pub none_by_short : (i : ℕ) (places options : List Text) (x : ℕ) → arg_by_short (built_rules i places options) x ≡ None
-none_by_short i places options x = none_where (named_short x) (built_rules i places options) (any_short i places options x)
+pub none_by_short : (i : ℕ) (arguments options : List Text) (x : ℕ) → arg_by_short (built_rules i arguments options) x ≡ None
+none_by_short i arguments options x = none_where (named_short x) (built_rules i arguments options) (any_short i arguments options x)
 
--- ---- by place
+-- ---- by argument
 
 abbrev pub at_index : ℕ → Rule → Bool
 at_index i a = option_map_or (λ k. k == i) a.index false
 
--- from index i on stand these places, and no more
+-- from index i on stand these arguments, and no more
 abbrev pub IsAt : List Rule → ℕ → List Text → Type 0
 IsAt rules i [] = arg_by_index rules i ≡ None
 IsAt rules i (p ∷ ps) = (arg_by_index rules i ≡ Some (rule_with p None (Some i) true)) × IsAt rules (next_index i) ps
@@ -231,12 +231,12 @@ no_option_index (o ∷ os) j = no_option_index os j
 next-is : (i : ℕ) → i < usize_max → next_index i ≡ i + 1
 next-is i lt = omega arith
 
-places_from : (before : List Rule) (i : ℕ) (places options : List Text) → i + length places < usize_max
+arguments_from : (before : List Rule) (i : ℕ) (arguments options : List Text) → i + length arguments < usize_max
     → ((j : ℕ) → i ≤ j → find (at_index j) before ≡ None)
-    → IsAt (before ++ built_rules i places options) i places
-places_from before i [] options lt none = find-append (at_index i) before (built_options options) (none i (omega arith))
+    → IsAt (before ++ built_rules i arguments options) i arguments
+arguments_from before i [] options lt none = find-append (at_index i) before (built_options options) (none i (omega arith))
     ∙ no_option_index options i
-places_from before i (p ∷ ps) options lt none =
+arguments_from before i (p ∷ ps) options lt none =
     let rule = rule_with p None (Some i) true in
     let here : arg_by_index (rule ∷ built_rules (next_index i) ps options) i ≡ Some rule = rw (eq-eqb i i refl) refl in
     let next = next-is i (omega arith) in
@@ -244,8 +244,8 @@ places_from before i (p ∷ ps) options lt none =
     find-append (at_index j) before (rule ∷ []) (none j (omega arith)) ∙ rw (ne_eqb i j (λ e. omega arith)) refl in (
       find-append (at_index i) before _ (none i (omega arith)) ∙ here,
       subst (λ rules. IsAt rules (next_index i) ps) (append_assoc before (rule ∷ []) (built_rules (next_index i) ps options))
-          (places_from (before ++ rule ∷ []) (next_index i) ps options (omega arith) later),
+          (arguments_from (before ++ rule ∷ []) (next_index i) ps options (omega arith) later),
     )
 
-pub places_at : (places options : List Text) → length places < 1000 → IsAt (built_rules 1 places options) 1 places
-places_at places options lt = places_from [] 1 places options (omega arith) (λ j le. refl)
+pub arguments_at : (arguments options : List Text) → length arguments < 1000 → IsAt (built_rules 1 arguments options) 1 arguments
+arguments_at arguments options lt = arguments_from [] 1 arguments options (omega arith) (λ j le. refl)

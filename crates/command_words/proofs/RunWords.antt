@@ -9,7 +9,7 @@ use Rattle.std.proofs.lemmas.Bool.Decides.{nat_tests}
 use Rattle.std.proofs.lemmas.Fmt.{decimal_is_IsNumeral, length-decimal-le}
 use Rattle.task_model.specs.Terms.Text.{Text}
 use Rattle.task_model.specs.Running.State.{IsBudget}
-use Rattle.command_words.specs.Commands.{command_of, file_place, looked_up, run, run_in, run_options, run_with, serve, serve_in, serve_options}
+use Rattle.command_words.specs.Commands.{command_of, file_argument, looked_up, run, run_in, run_options, run_with, serve, serve_in, serve_options}
 use Rattle.command_words.specs.WordNumbers.{number_in}
 use Rattle.command_words.specs.WordReading.{Use, begins_with_dash}
 use Rattle.command_words.specs.WordGrammar.{Follows}
@@ -50,8 +50,8 @@ module _ (n : ℕ) (within : IsBudget n) where
   plain_run file bare =
       let uses : List Use = (codes "FILE", file) ∷ (codes "budget", decimal n) ∷ [] in
       let words : List Text = file ∷ codes "--budget" ∷ decimal n ∷ [] in
-      let follows : Follows file_place run_options words uses = placed bare (apart refl refl (dashless (decimal n) digits) ended) in
-      ap (looked_up run_in) ((reading_is_the_grammar file_place run_options words uses refl).1 follows)
+      let follows : Follows file_argument run_options words uses = placed bare (apart refl refl (dashless (decimal n) digits) ended) in
+      ap (looked_up run_in) ((reading_is_the_grammar file_argument run_options words uses refl).1 follows)
       ∙ ap (run_with (Some file)) budget_is
 
   pub dashed_run : (file : Text)
@@ -59,8 +59,8 @@ module _ (n : ℕ) (within : IsBudget n) where
   dashed_run file =
       let uses : List Use = (codes "budget", decimal n) ∷ (codes "FILE", file) ∷ [] in
       let words : List Text = codes "--budget" ∷ decimal n ∷ codes "--" ∷ file ∷ [] in
-      let follows : Follows file_place run_options words uses = apart refl refl (dashless (decimal n) digits) (stopped refl (one none)) in
-      ap (looked_up run_in) ((reading_is_the_grammar file_place run_options words uses refl).1 follows)
+      let follows : Follows file_argument run_options words uses = apart refl refl (dashless (decimal n) digits) (stopped refl (one none)) in
+      ap (looked_up run_in) ((reading_is_the_grammar file_argument run_options words uses refl).1 follows)
       ∙ ap (run_with (Some file)) budget_is
 
 pub served_as_usual : (file : Text) → begins_with_dash file ≡ false
@@ -68,5 +68,5 @@ pub served_as_usual : (file : Text) → begins_with_dash file ≡ false
     ≡ Some (serve file (record { budget = 10000; seats = 8; workers = 4; port = 8080; connections = 1000000 }))
 served_as_usual file bare =
     let uses : List Use = (codes "FILE", file) ∷ [] in
-    let follows : Follows file_place serve_options (file ∷ []) uses = placed bare ended in
-    ap (looked_up serve_in) ((reading_is_the_grammar file_place serve_options (file ∷ []) uses refl).1 follows)
+    let follows : Follows file_argument serve_options (file ∷ []) uses = placed bare ended in
+    ap (looked_up serve_in) ((reading_is_the_grammar file_argument serve_options (file ∷ []) uses refl).1 follows)

@@ -30,9 +30,9 @@ pub record GivesDash (os : List Text) (waits : Option Text) (read_so : Option (L
 abbrev pub Strict : List Text → Option Text → Option (List Use) → Option (List Use) → Type 0
 Strict os waits lax strict = (lax ≡ strict) ⊎ ((strict ≡ None) × GivesDash os waits lax)
 
--- what is left of places and options does not meet
+-- what is left of arguments and options does not meet
 pub record IsApart (ps os : List Text) (waits : Option Text) : Type 0 where
-  pub places : (n : Text) → has n ps ≡ true → has n os ≡ false
+  pub arguments : (n : Text) → has n ps ≡ true → has n os ≡ false
   pub waiting : (n : Text) → waits ≡ Some n → has n os ≡ false
 
 value-other : (n v name : Text) (uses : List Use) → bytes_eq n name ≡ false → value_given name ((n, v) ∷ uses) ≡ value_given name uses
@@ -177,7 +177,7 @@ strict_word w ws ps os (named n) apart follows = go (has n os) refl
         → Strict os None (cond b (clap_read ws ps (without n os) (Some n)) None) (cond b (read ws ps (without n os) (Some n)) None)
     go true e = strict_back n os (clap_read ws ps (without n os) (Some n)) (read ws ps (without n os) (Some n)) e
         (follows ps (without n os) (Some n) (record {
-          places = λ m h. has-without n m os (apart.places m h);
+          arguments = λ m h. has-without n m os (apart.arguments m h);
           waiting = λ m is. let same : n ≡ m = cc in subst (λ x. has x (without n os) ≡ false) same (has-without-same n os);
         }))
     go false e = inl refl
@@ -188,14 +188,14 @@ strict_word w ws ps os (joined n v) apart follows = go (has n os) refl
         (cond b (with_use n v (read ws ps (without n os) None)) None)
     go true e = strict_less n os (with_use n v (clap_read ws ps (without n os) None)) (with_use n v (read ws ps (without n os) None)) e
         (strict_use n v (without n os) (clap_read ws ps (without n os) None) (read ws ps (without n os) None) (has-without-same n os)
-        (follows ps (without n os) None (record { places = λ m h. has-without n m os (apart.places m h); waiting = λ m is. (cc) })))
+        (follows ps (without n os) None (record { arguments = λ m h. has-without n m os (apart.arguments m h); waiting = λ m is. (cc) })))
     go false e = inl refl
 strict_word w ws ps os refused apart follows = inl refl
 strict_word w ws [] os plain apart follows = inl refl
 strict_word w ws (p ∷ ps) os plain apart follows =
     strict_use p w os (clap_read ws ps os None) (read ws ps os None)
-    (apart.places p (or_left (bytes_eq p p) (has p ps) ((bytes_eq-Decides p p).1 refl)))
-    (follows ps os None (record { places = λ m h. apart.places m (or_right (bytes_eq p m) (has m ps) h); waiting = λ m is. (cc) }))
+    (apart.arguments p (or_left (bytes_eq p p) (has p ps) ((bytes_eq-Decides p p).1 refl)))
+    (follows ps os None (record { arguments = λ m h. apart.arguments m (or_right (bytes_eq p m) (has m ps) h); waiting = λ m is. (cc) }))
 
 pub strict_reads : (words ps os : List Text) (waits : Option Text) → IsApart ps os waits
     → Strict os waits (clap_read words ps os waits) (read words ps os waits)
@@ -207,14 +207,14 @@ strict_reads (w ∷ ws) ps os None apart = strict_word w ws ps os (kind_of_word 
 strict_reads (w ∷ ws) ps os (Some n) apart =
     let gone = apart.waiting n refl in
     strict_value n w os (clap_read ws ps os None) (read ws ps os None) gone
-    (strict_reads ws ps os None (record { places = apart.places; waiting = λ m is. (cc) }))
+    (strict_reads ws ps os None (record { arguments = apart.arguments; waiting = λ m is. (cc) }))
 
 -- what is made of the uses is the same by both, where it can be made of none that give an option the value `-`
 pub same_by_both : {T : Type 0} (f : Option (List Use) → Option T) (words ps os : List Text)
     → ((n : Text) → has n ps ≡ true → has n os ≡ false) → f None ≡ None
     → ((uses : List Use) (name : Text) → has name os ≡ true → value_given name uses ≡ Some dash → f (Some uses) ≡ None)
     → f (clap_read words ps os None) ≡ f (read words ps os None)
-same_by_both f words ps os apart none fails = go (strict_reads words ps os None (record { places = apart; waiting = λ m is. (cc) }))
+same_by_both f words ps os apart none fails = go (strict_reads words ps os None (record { arguments = apart; waiting = λ m is. (cc) }))
   where
     go : Strict os None (clap_read words ps os None) (read words ps os None) → f (clap_read words ps os None) ≡ f (read words ps os None)
     go (inl same) = ap f same

@@ -1,4 +1,4 @@
--- What one word does in `clap`'s walk over the words of a command with places and options.
+-- What one word does in `clap`'s walk over the words of a command with arguments and options.
 use Rattle.std.proofs.Common.{◌≡◌, ◌∙◌, ◌⊎◌, inl, inr, ap, sym, subst, refl, ℕ, Bool, true, false, List, ◌∷◌, ◌++◌, map, Option, Some, None, append-nil, []}
 use Rattle.std.specs.Prelude.{◌&&◌, ◌||◌}
 use Rattle.std.specs.Str.{IsUtf8, bytes_eq}
@@ -168,41 +168,41 @@ and_false : (b : Bool) → (b && false) ≡ false
 and_false true = refl
 and_false false = refl
 
--- ---- a word that fills a place
+-- ---- a word that fills an argument
 
--- what is held after the place got the word
+-- what is held after the argument got the word
 abbrev pub placed : List Rule → Text → Text → Held → Held
 placed rules p word h = record { rows = (settled rules h).rows; pending = Some (p, word ∷ []); skip = h.skip }
 
 module _ (name : Text) (rules : List Rule) (h : Held) (i : ℕ) where
-  -- no place is left
+  -- no argument is left
   pub stray_fails : arg_by_index rules i ≡ None → step_fault (shape_with name rules) i h value ≡ [] → ⊥
   stray_fails none e =
       let bad : kind.UnknownArgument ∷ [] ≡ [] = rw none at e in
       cc
 
-  place_fault : (a : Rule) → IsOurs a → arg_by_index rules i ≡ Some a
+  argument_fault : (a : Rule) → IsOurs a → arg_by_index rules i ≡ Some a
       → step_fault (shape_with name rules) i h value ≡ settle_fault rules false h
-  place_fault a own found =
+  argument_fault a own found =
       let none : (is_pending a h.pending && takes_several a) ≡ false = rw (not_several a own) (and_false (is_pending a h.pending)) in
       rw found (rw none refl)
 
   -- the value before it does not pass
-  pub place_fails : (arg_by_index rules i ≡ None) ⊎ ((a : Rule) × (arg_by_index rules i ≡ Some a) × IsOurs a)
+  pub argument_fails : (arg_by_index rules i ≡ None) ⊎ ((a : Rule) × (arg_by_index rules i ≡ Some a) × IsOurs a)
       → (settle_fault rules false h ≡ [] → ⊥)
       → step_fault (shape_with name rules) i h value ≡ [] → ⊥
-  place_fails (inl none) bad e = stray_fails none e
-  place_fails (inr found) bad e = bad (sym (place_fault found.0 found.2 found.1) ∙ e)
+  argument_fails (inl none) bad e = stray_fails none e
+  argument_fails (inr found) bad e = bad (sym (argument_fault found.0 found.2 found.1) ∙ e)
 
-  -- the word fills the place p
+  -- the word fills the argument p
   module _ (p : Text) (found : arg_by_index rules i ≡ Some (rule_with p None (Some i) true)) where
-    pub place_passes : settle_fault rules false h ≡ [] → step_fault (shape_with name rules) i h value ≡ []
-    place_passes e = place_fault (rule_with p None (Some i) true)
+    pub argument_passes : settle_fault rules false h ≡ [] → step_fault (shape_with name rules) i h value ≡ []
+    argument_passes e = argument_fault (rule_with p None (Some i) true)
         (record { long = None; index = Some i; required = true; is = refl; own = λ l k. (cc) }) found ∙ e
 
-    pub place_moves : (word : Text) (waiting : Waiting) (is_trailing : Bool)
+    pub argument_moves : (word : Text) (waiting : Waiting) (is_trailing : Bool)
         → after_step rules word (at h waiting i is_trailing) h value ≡ at (placed rules p word h) idle (next_index i) is_trailing
-    place_moves word waiting is_trailing =
+    argument_moves word waiting is_trailing =
         let none = and_false (is_pending (rule_with p None (Some i) true) h.pending) in
         let same = or_false is_trailing in
         rw (found, none, same) refl

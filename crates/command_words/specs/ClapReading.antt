@@ -13,8 +13,8 @@ clap_value _ name w uses = None
 abbrev pub clap_read : List Text → List Text → List Text → Option Text → Option (List Use)
 clap_read [] [] options None = Some []
 clap_read [] (p ∷ ps) options None = None
-clap_read [] places options (Some n) = None
-clap_read (w ∷ ws) places options None =
-    read_word places options (kind_of_word w) w ws (clap_read ws)
-clap_read (w ∷ ws) places options (Some n) =
-    clap_value (kind_of_word w) n w (clap_read ws places options None)
+clap_read [] arguments options (Some n) = None
+clap_read (w ∷ ws) arguments options None =
+    read_word arguments options (kind_of_word w) w ws (clap_read ws)
+clap_read (w ∷ ws) arguments options (Some n) =
+    clap_value (kind_of_word w) n w (clap_read ws arguments options None)

@@ -1,4 +1,4 @@
--- Commands as tables of places and options, and what `clap` is to find in the words.
+-- Commands as tables of arguments and options, and what `clap` is to find in the words.
 use Rattle.std.specs.Prelude.{◌≡◌, ◌++◌, ◌&&◌, nat_lt, not, Bool, true, List, map, length, Option, Some, None, Result, Ok, Err, []}
 use Rattle.std.specs.List.{list_all}
 use Rattle.clap.specs.Walk.{Rule}
@@ -10,17 +10,17 @@ use Rattle.command_words.specs.WordReading.{Use, has, is_distinct, value_given}
 use Rattle.command_words.specs.declared.stop.WordStop.{WordStop}
 use Rattle.command_words.specs.declared.stop.WordStop.TheVariants.{Memory, Outside}
 
--- the rule of a place: a value must stand there
-abbrev pub place_rule : Text → Rule
-place_rule id = record (new_rule id) { required = true }
+-- the rule of an argument: a value must stand there
+abbrev pub argument_rule : Text → Rule
+argument_rule id = record (new_rule id) { required = true }
 
 -- the rule of an option: a value may stand behind `--` and its name
 abbrev pub option_rule : Text → Rule
 option_rule id = record (new_rule id) { long = Some id }
 
--- the rules of a table, places first
+-- the rules of a table, arguments first
 abbrev pub rules_for : List Text → List Text → List Rule
-rules_for places options = map place_rule places ++ map option_rule options
+rules_for arguments options = map argument_rule arguments ++ map option_rule options
 
 -- a command with these rules, no help and no name of the program among its words
 abbrev pub app_with : Text → List Rule → App
@@ -29,10 +29,10 @@ app_with name rules = record {
   subs = [];
 }
 
--- the names of places and options differ
+-- the names of arguments and options differ
 abbrev pub is_table : List Text → List Text → Bool
-is_table places options = is_distinct places
-    && (list_all (λ p. not (has p options)) places && nat_lt (length places) 1000)
+is_table arguments options = is_distinct arguments
+    && (list_all (λ p. not (has p options)) arguments && nat_lt (length arguments) 1000)
 
 -- the matches have the values of these uses
 abbrev pub HasUses : Option (List Use) → ArgMatches → Type 0

@@ -50,7 +50,7 @@ command_term (commands.Soak count seed) = soak count seed
 command_term (commands.Drill seats each) = drill seats each
 command_term (commands.Serve file serving) = serve file (serve_term serving)
 
--- what stands at each place and option, by its name
+-- the value of each argument and option, by its name
 abbrev pub Values : Type 0
 Values = Text → Option Text
 
@@ -75,7 +75,7 @@ run_with None budget = None
 run_with (Some file) None = None
 run_with (Some file) (Some budget) = Some (run file budget)
 
--- a run of the file at its place, within the budget that is given
+-- a run of the file that is named, within the budget that is given
 abbrev pub run_in : Values → Option CommandTerm
 run_in value = run_with (value (codes "FILE")) (budget_in value)
 
@@ -86,7 +86,7 @@ abbrev pub check_with : Option Text → Option CommandTerm
 check_with None = None
 check_with (Some file) = Some (check file)
 
--- a check of the file at its place
+-- a check of the file that is named
 abbrev pub check_in : Values → Option CommandTerm
 check_in value = check_with (value (codes "FILE"))
 
@@ -153,15 +153,15 @@ serve_with None serving = None
 serve_with (Some file) None = None
 serve_with (Some file) (Some serving) = Some (serve file serving)
 
--- the file at its place is served with the numbers that are given
+-- the file that is named is served with the numbers that are given
 abbrev pub serve_in : Values → Option CommandTerm
 serve_in value = serve_with (value (codes "FILE")) (serving_in value)
 
 -- ---- all
 
--- the place of `run`, `check` and `serve`
-abbrev pub file_place : List Text
-file_place = codes "FILE" ∷ []
+-- the argument of `run`, `check` and `serve`
+abbrev pub file_argument : List Text
+file_argument = codes "FILE" ∷ []
 
 -- the option of `run`
 abbrev pub run_options : List Text
@@ -171,23 +171,23 @@ run_options = codes "budget" ∷ []
 abbrev pub serve_options : List Text
 serve_options = codes "budget" ∷ codes "seats" ∷ codes "workers" ∷ codes "port" ∷ codes "connections" ∷ []
 
--- the places of `soak`
-abbrev pub soak_places : List Text
-soak_places = codes "N" ∷ codes "SEED" ∷ []
+-- the arguments of `soak`
+abbrev pub soak_arguments : List Text
+soak_arguments = codes "N" ∷ codes "SEED" ∷ []
 
--- the places of `drill`
-abbrev pub drill_places : List Text
-drill_places = codes "SEATS" ∷ codes "N" ∷ []
+-- the arguments of `drill`
+abbrev pub drill_arguments : List Text
+drill_arguments = codes "SEATS" ∷ codes "N" ∷ []
 
 -- the command that the words ask for, or none where they are outside the grammar
 abbrev pub command_of : List Text → Option CommandTerm
 command_of [] = None
 command_of (name ∷ words) =
-    if bytes_eq name (codes "run") then looked_up run_in (read words file_place run_options None)
-    else (if bytes_eq name (codes "check") then looked_up check_in (read words file_place [] None)
-    else (if bytes_eq name (codes "soak") then looked_up soak_in (read words soak_places [] None)
-    else (if bytes_eq name (codes "drill") then looked_up drill_in (read words drill_places [] None)
-    else (if bytes_eq name (codes "serve") then looked_up serve_in (read words file_place serve_options None)
+    if bytes_eq name (codes "run") then looked_up run_in (read words file_argument run_options None)
+    else (if bytes_eq name (codes "check") then looked_up check_in (read words file_argument [] None)
+    else (if bytes_eq name (codes "soak") then looked_up soak_in (read words soak_arguments [] None)
+    else (if bytes_eq name (codes "drill") then looked_up drill_in (read words drill_arguments [] None)
+    else (if bytes_eq name (codes "serve") then looked_up serve_in (read words file_argument serve_options None)
     else None))))
 
 -- the numbers of `serve` are within their ranges

@@ -14,7 +14,7 @@ abbrev pub number_in : ℕ → ℕ → Text → Option ℕ
 number_in low high t = if is_number t && (nat_le low (digits_value 10 t) && nat_le (digits_value 10 t) high)
     then Some (digits_value 10 t) else None
 
--- the number of a place
+-- the number of an argument
 abbrev pub number_at : ℕ → ℕ → Option Text → Option ℕ
 number_at low high None = None
 number_at low high (Some t) = number_in low high t

@@ -1,4 +1,4 @@
--- What the words after a command's name say, where the command takes a value at each of its places
+-- What the words after a command's name say, where the command takes a value for each of its arguments
 -- and may have options with a value each.
 use Rattle.std.specs.Prelude.{◌==◌, ◌&&◌, ℕ, Bool, true, false, not, List, ◌∷◌, Option, Some, None, []}
 use Rattle.std.specs.Prelude.{if◌then◌else◌, option_map}
@@ -58,7 +58,7 @@ begins_with_dash (c ∷ cs) = c == 45
 
 -- ---- all words
 
--- a place or an option, and the value that it got
+-- an argument or an option, and the value that it got
 abbrev pub Use : Type 0
 Use = Text × Text
 
@@ -67,37 +67,37 @@ abbrev pub with_use : Text → Text → Option (List Use) → Option (List Use)
 with_use name value None = None
 with_use name value (Some uses) = Some ((name, value) ∷ uses)
 
--- each word fills a place, and no place is left
+-- each word fills an argument, and no argument is left
 abbrev pub filled : List Text → List Text → Option (List Use)
 filled [] [] = Some []
 filled (p ∷ ps) [] = None
 filled [] (w ∷ ws) = None
 filled (p ∷ ps) (w ∷ ws) = with_use p w (filled ps ws)
 
--- one word, where `next` reads the words after it with the places and the options that are left and
+-- one word, where `next` reads the words after it with the arguments and the options that are left and
 -- the option that waits for its value
 abbrev pub read_word : List Text → List Text → WordKind → Text → List Text
     → (List Text → List Text → Option Text → Option (List Use)) → Option (List Use)
-read_word places options stop w ws next = filled places ws
-read_word places options (named n) w ws next =
-    if has n options then next places (without n options) (Some n) else None
-read_word places options (joined n v) w ws next =
-    if has n options then with_use n v (next places (without n options) None) else None
-read_word places options refused w ws next = None
+read_word arguments options stop w ws next = filled arguments ws
+read_word arguments options (named n) w ws next =
+    if has n options then next arguments (without n options) (Some n) else None
+read_word arguments options (joined n v) w ws next =
+    if has n options then with_use n v (next arguments (without n options) None) else None
+read_word arguments options refused w ws next = None
 read_word [] options plain w ws next = None
 read_word (p ∷ ps) options plain w ws next = with_use p w (next ps options None)
 
--- the uses that the words make, in order: each place is filled from the left, each option stands at
+-- the uses that the words make, in order: each argument is filled from the left, each option stands at
 -- most once, and the value of `--NAME` is the next word, which may not begin with `-`
 abbrev pub read : List Text → List Text → List Text → Option Text → Option (List Use)
 read [] [] options None = Some []
 read [] (p ∷ ps) options None = None
-read [] places options (Some n) = None
-read (w ∷ ws) places options None =
-    read_word places options (kind_of_word w) w ws (read ws)
-read (w ∷ ws) places options (Some n) =
-    if begins_with_dash w then None else with_use n w (read ws places options None)
+read [] arguments options (Some n) = None
+read (w ∷ ws) arguments options None =
+    read_word arguments options (kind_of_word w) w ws (read ws)
+read (w ∷ ws) arguments options (Some n) =
+    if begins_with_dash w then None else with_use n w (read ws arguments options None)
 
--- the value of a place or an option
+-- the value of an argument or an option
 abbrev pub value_given : Text → List Use → Option Text
 value_given name uses = option_map (λ u. u.1) (find (λ u. bytes_eq u.0 name) uses)

@@ -8,8 +8,8 @@ ghost use Rattle.command_words.specs.WordReading.{Use, begins_with_dash, read};
 
 /// The reading of the words behind a command's name is a grammar with a rule for each thing that a word may do.
 pub fn words_follow_the_grammar()
-    ensures { (places options words : List Text) (uses : List Use) → list_all is_option_name options ≡ true
-        → (read words places options None ≡ Some uses) ↔ Follows places options words uses }
+    ensures { (arguments options words : List Text) (uses : List Use) → list_all is_option_name options ≡ true
+        → (read words arguments options None ≡ Some uses) ↔ Follows arguments options words uses }
 {}
 
 /// `run FILE --budget N` asks for the run of that file within that budget, where the name doesn't begin with `-`; and

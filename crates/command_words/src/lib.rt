@@ -1,5 +1,5 @@
 //! The words of the command line (docs/FORMATS.md, "Words"): which command they ask for, and with which values.
-//! A command is a table of places and options; `clap` reads the words, and the clauses say what is read without it.
+//! A command is a table of arguments and options; `clap` reads the words, and the clauses say what is read without it.
 #![tactic(auto)]
 
 mod command;

@@ -11,19 +11,19 @@ use clap::error::ErrorKind;
 use clap::{Arg, ArgMatches, Command};
 use std::alloc::{AllocError, Global};
 
-// A command that needs a value at each place, and takes options with a value each.
+// A command that needs a value at each argument, and takes options with a value each.
 fn parser<'a>(
     alloc: Global,
-    places: &[&'a str],
+    arguments: &[&'a str],
     options: &[&'a str],
 ) -> Result<Command<'a>, AllocError>
-    ensures { IfOk result (λ command. app_of command ≡ app_with (codes "tophat") (rules_for (texts places.now) (texts options.now))) }
+    ensures { IfOk result (λ command. app_of command ≡ app_with (codes "tophat") (rules_for (texts arguments.now) (texts options.now))) }
 {
     let mut command = Command::new(alloc, "tophat")
         .no_binary_name(true)
         .disable_help_flag(true);
-    for place in places {
-        command = command.arg(Arg::new(alloc, place).required(true))?;
+    for argument in arguments {
+        command = command.arg(Arg::new(alloc, argument).required(true))?;
     }
     for option in options {
         command = command.arg(Arg::new(alloc, option).long(option))?;
@@ -34,15 +34,15 @@ fn parser<'a>(
 /// What `clap` finds in the words.
 pub(crate) fn matches<'a>(
     alloc: Global,
-    places: &[&'a str],
+    arguments: &[&'a str],
     options: &[&'a str],
     words: &'a [&'a str],
 ) -> Result<ArgMatches<'a>, WordStop>
-    requires table { is_table (texts places.now) (texts options.now) ≡ true }
+    requires table { is_table (texts arguments.now) (texts options.now) ≡ true }
     requires texts { All (λ w. IsUtf8 w.now) words.now }
-    ensures { Finds (clap_read (texts words.now) (texts places.now) (texts options.now) None) result }
+    ensures { Finds (clap_read (texts words.now) (texts arguments.now) (texts options.now) None) result }
 {
-    let command = match parser(alloc, places, options) {
+    let command = match parser(alloc, arguments, options) {
         Ok(command) => command,
         Err(_) => return Err(WordStop::Memory),
     };

@@ -3,7 +3,7 @@ ghost use Rattle.std.specs.List.{All};
 ghost use Rattle.std.specs.Str.{IsUtf8};
 ghost use Rattle.clap.specs.Matches.{first_value, found_of};
 ghost use Rattle.clap.specs.Walk.{texts};
-ghost use Rattle.command_words.specs.Commands.{AreAsked, IsAsked, budget_in, check_in, drill_in, drill_places, file_place, looked_up, run_in, run_options, serve_in, serve_options, serving_in, soak_in, soak_places};
+ghost use Rattle.command_words.specs.Commands.{AreAsked, IsAsked, budget_in, check_in, drill_in, drill_arguments, file_argument, looked_up, run_in, run_options, serve_in, serve_options, serving_in, soak_in, soak_arguments};
 ghost use Rattle.command_words.specs.WordNumbers.{number_at, number_or};
 ghost use Rattle.command_words.specs.WordReading.{read};
 ghost use Rattle.command_words.specs.CommandTables.{IsReadAs};
@@ -20,7 +20,7 @@ use task_model::{BUDGET_LIMIT, DEFAULT_BUDGET, SEAT_LIMIT, TaskText};
 /// `run FILE [--budget N]`.
 pub(crate) fn run(alloc: Global, words: &[&str]) -> Result<Command, WordStop>
     requires { All (λ w. IsUtf8 w.now) words.now }
-    ensures { IsAsked (looked_up run_in (read (texts words.now) file_place run_options None)) result }
+    ensures { IsAsked (looked_up run_in (read (texts words.now) file_argument run_options None)) result }
 {
     match matches(alloc, &["FILE"], &["budget"], words) {
         Ok(found) => run_found(alloc, &found),
@@ -31,7 +31,7 @@ pub(crate) fn run(alloc: Global, words: &[&str]) -> Result<Command, WordStop>
 /// `check FILE`.
 pub(crate) fn check(alloc: Global, words: &[&str]) -> Result<Command, WordStop>
     requires { All (λ w. IsUtf8 w.now) words.now }
-    ensures { IsAsked (looked_up check_in (read (texts words.now) file_place [] None)) result }
+    ensures { IsAsked (looked_up check_in (read (texts words.now) file_argument [] None)) result }
 {
     match matches(alloc, &["FILE"], &[], words) {
         Ok(found) => check_found(alloc, &found),
@@ -42,7 +42,7 @@ pub(crate) fn check(alloc: Global, words: &[&str]) -> Result<Command, WordStop>
 /// `soak N SEED`.
 pub(crate) fn soak(alloc: Global, words: &[&str]) -> Result<Command, WordStop>
     requires { All (λ w. IsUtf8 w.now) words.now }
-    ensures { IsAsked (looked_up soak_in (read (texts words.now) soak_places [] None)) result }
+    ensures { IsAsked (looked_up soak_in (read (texts words.now) soak_arguments [] None)) result }
 {
     match matches(alloc, &["N", "SEED"], &[], words) {
         Ok(found) => soak_found(&found),
@@ -53,7 +53,7 @@ pub(crate) fn soak(alloc: Global, words: &[&str]) -> Result<Command, WordStop>
 /// `drill SEATS N`.
 pub(crate) fn drill(alloc: Global, words: &[&str]) -> Result<Command, WordStop>
     requires { All (λ w. IsUtf8 w.now) words.now }
-    ensures { IsAsked (looked_up drill_in (read (texts words.now) drill_places [] None)) result }
+    ensures { IsAsked (looked_up drill_in (read (texts words.now) drill_arguments [] None)) result }
 {
     match matches(alloc, &["SEATS", "N"], &[], words) {
         Ok(found) => drill_found(&found),
@@ -64,7 +64,7 @@ pub(crate) fn drill(alloc: Global, words: &[&str]) -> Result<Command, WordStop>
 /// `serve FILE [--budget N] [--seats N] [--workers N] [--port N] [--connections N]`.
 pub(crate) fn serve(alloc: Global, words: &[&str]) -> Result<Command, WordStop>
     requires { All (λ w. IsUtf8 w.now) words.now }
-    ensures { IsAsked (looked_up serve_in (read (texts words.now) file_place serve_options None)) result }
+    ensures { IsAsked (looked_up serve_in (read (texts words.now) file_argument serve_options None)) result }
 {
     let options = ["budget", "seats", "workers", "port", "connections"];
     match matches(alloc, &["FILE"], &options, words) {
@@ -169,11 +169,11 @@ fn budget_found(found: &ArgMatches<'_>) -> Result<u32, WordStop>
     Ok(budget as u32)
 }
 
-// The text at a place.
-fn text_found(alloc: Global, found: &ArgMatches<'_>, place: &str) -> Result<TaskText, WordStop>
-    ensures { IsReadAs (first_value (found_of found.now) place.now) result }
+// The text of an argument.
+fn text_found(alloc: Global, found: &ArgMatches<'_>, argument: &str) -> Result<TaskText, WordStop>
+    ensures { IsReadAs (first_value (found_of found.now) argument.now) result }
 {
-    match found.get_str(place) {
+    match found.get_str(argument) {
         Some(text) => match TaskText::of(alloc, text) {
             Ok(text) => Ok(text),
             Err(_) => Err(WordStop::Memory),
@@ -182,12 +182,17 @@ fn text_found(alloc: Global, found: &ArgMatches<'_>, place: &str) -> Result<Task
     }
 }
 
-// The number at a place.
-fn number_found(found: &ArgMatches<'_>, place: &str, low: u64, high: u64) -> Result<u64, WordStop>
-    ensures given { IsReadAs (number_at low high (first_value (found_of found.now) place.now)) result }
+// The number of an argument.
+fn number_found(
+    found: &ArgMatches<'_>,
+    argument: &str,
+    low: u64,
+    high: u64,
+) -> Result<u64, WordStop>
+    ensures given { IsReadAs (number_at low high (first_value (found_of found.now) argument.now)) result }
     ensures capped { IfOk result (λ n. n ≤ high) }
 {
-    match found.get_str(place) {
+    match found.get_str(argument) {
         Some(text) => number(text, low, high).ok_or(WordStop::Outside),
         None => Err(WordStop::Outside),
     }

@@ -5,7 +5,7 @@ mod counter;
 mod joined;
 mod judge;
 
-use line_frame::{Finish, LineStop, Machine, drive};
+use line_frame::{Finish, LineStop, Machine, run_script};
 use outer_io::{Got, MemSink, MemSource, Source};
 use std::alloc::Global;
 use std::process::Abort;
@@ -74,7 +74,7 @@ fn run(
         row(alloc, &[read])?,
     );
     let mut out = MemSink::new(alloc, 9, row(alloc, &[write])?);
-    let finish = drive(alloc, &mut Yes, &mut input, &mut out, limit);
+    let finish = run_script(alloc, &mut Yes, &mut input, &mut out, limit);
     assert_eq!(rt; finish, want.0);
     assert_eq!(rt; out.taken(), want.1);
     Ok(())
@@ -103,7 +103,7 @@ fn stopped_at(alloc: Global, piece: usize, write: u64) -> Result<(Finish, u64), 
 {
     let mut input = MemSource::new(row(alloc, b"a\nb\nc\n")?, piece, row(alloc, &[])?);
     let mut out = MemSink::new(alloc, 9, row(alloc, &[write])?);
-    let finish = drive(alloc, &mut Yes, &mut input, &mut out, 99);
+    let finish = run_script(alloc, &mut Yes, &mut input, &mut out, 99);
     Ok((finish, left(&mut input)))
 }
 

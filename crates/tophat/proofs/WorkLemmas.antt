@@ -17,7 +17,7 @@ use Rattle.task_model.specs.Terms.Text.{Text}
 use Rattle.task_syntax.specs.declared.stop.ReadKind.TheVariants as reads
 use Rattle.world_core.specs.World.{WorldTerm, SeenWorld, world_term}
 use Rattle.line_frame.specs.Told.{Told, Comes}
-use Rattle.line_frame.specs.Drove.{Drove, IsTold}
+use Rattle.line_frame.specs.RanScript.{RanScript, IsTold}
 use Rattle.line_frame.specs.Script.{TellsScript}
 use Rattle.line_frame.specs.declared.finish.Finish.{Finish}
 use Rattle.line_frame.specs.declared.finish.Finish.TheVariants as finishes
@@ -296,7 +296,7 @@ module _ (l : Limits) (name : Text) (budget : ℕ) (holds : Option (Option Text)
   -- a script was run on the world of the bytes
   pub worked_ran : (left_old left_new taken_old taken_new : Option Text) (finish : Finish) (w : SeenWorld)
       → OpensBytes budget bytes.list (Ok w)
-      → Drove (Tells l.line (world_term w) 1) l.script left_old left_new taken_old taken_new finish → HasVerdict (Some bytes.list)
+      → RanScript (Tells l.line (world_term w) 1) l.script left_old left_new taken_old taken_new finish → HasVerdict (Some bytes.list)
       → Worked l (Some (run name budget)) holds left_old left_new taken_old taken_new (Ran finish)
   worked_ran left_old left_new taken_old taken_new finish w o d verdict_is = record {
     file = Some bytes.list;

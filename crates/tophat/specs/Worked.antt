@@ -5,7 +5,7 @@ use Rattle.outer_io.specs.Sink.{IsStart}
 use Rattle.task_model.specs.Terms.Text.{Text}
 use Rattle.world_core.specs.World.{SeenWorld, world_term}
 use Rattle.line_frame.specs.RanOut.{RanOut}
-use Rattle.line_frame.specs.Drove.{Drove, IsRead, IsTold}
+use Rattle.line_frame.specs.RanScript.{RanScript, IsRead, IsTold}
 use Rattle.line_frame.specs.declared.finish.Finish.{Finish}
 use Rattle.line_frame.specs.declared.finish.Finish.TheVariants as finishes
 use Rattle.tophat.specs.declared.ending.CommandEnding.{CommandEnding}
@@ -135,6 +135,6 @@ HasVerdictAfter (Err why) bytes = HasVerdict (Some bytes)
 -- a script was run on the world that these bytes were opened to, or there is none
 abbrev pub RunsBytes : Limits → ℕ → Text → (left_old left_new taken_old taken_new : Option Text) → Result Finish NoWorld → Type 0
 RunsBytes l budget bytes left_old left_new taken_old taken_new (Ok finish) =
-    (w : SeenWorld) × OpensBytes budget bytes (Ok w) × Drove (Tells l.line (world_term w) 1) l.script left_old left_new taken_old taken_new
+    (w : SeenWorld) × OpensBytes budget bytes (Ok w) × RanScript (Tells l.line (world_term w) 1) l.script left_old left_new taken_old taken_new
     finish
 RunsBytes l budget bytes left_old left_new taken_old taken_new (Err why) = OpensBytes budget bytes (Err why)

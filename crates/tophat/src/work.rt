@@ -20,7 +20,7 @@ use crate::soak::soaked_text;
 use crate::texts::write_text;
 use crate::verdict::verdict_on;
 use command_words::{Command, WordStop};
-use line_frame::{Finish, drive};
+use line_frame::{Finish, run_script};
 use outer_io::{Files, Sink, Source};
 use std::alloc::Global;
 use std::sync::ledger::{Blank, Ledger};
@@ -147,7 +147,7 @@ fn run_bytes<I: Source, O: Sink, L: Ledger>(
     match open_bytes(alloc, bytes, budget) {
         Ok(world) => {
             let mut runner = Runner::new(world, steps);
-            Ok(drive(alloc, &mut runner, input, out, SCRIPT_BYTE_LIMIT))
+            Ok(run_script(alloc, &mut runner, input, out, SCRIPT_BYTE_LIMIT))
         }
         Err(why) => Err(why),
     }

@@ -3,7 +3,7 @@ ghost use Rattle.std.specs.Prelude.{◌<◌};
 use super::counter::Counter;
 use super::judge::Judge;
 use super::row;
-use line_frame::{Finish, drive};
+use line_frame::{Finish, run_script};
 use outer_io::{MemSink, MemSource};
 use std::alloc::Global;
 use std::process::Abort;
@@ -25,7 +25,7 @@ fn counted(
         writes: 0,
         bytes: 0,
     };
-    let finish = drive(alloc, &mut Judge { size }, &mut input, &mut out, 99);
+    let finish = run_script(alloc, &mut Judge { size }, &mut input, &mut out, 99);
     Ok((finish, out.writes, out.bytes))
 }
 
@@ -74,7 +74,7 @@ fn answered(
     let alloc = rt.alloc();
     let mut input = MemSource::new(row(alloc, script)?, 99, row(alloc, &[])?);
     let mut out = MemSink::new(alloc, 3, row(alloc, &[write])?);
-    let finish = drive(alloc, &mut Judge { size: 2 }, &mut input, &mut out, 9);
+    let finish = run_script(alloc, &mut Judge { size: 2 }, &mut input, &mut out, 9);
     assert_eq!(rt; finish, want.0);
     assert_eq!(rt; out.taken(), want.1);
     Ok(())

@@ -8,23 +8,23 @@ use Rattle.command_words.proofs.matches.matches.Goals as goal
 
 pub returns-in-Ok-try_get_matches_from : goal.returns-in-Ok-try_get_matches_from
 returns-in-Ok-try_get_matches_from c =
-    let places = texts c.args.places.now in
+    let arguments = texts c.args.arguments.now in
     let options = texts c.args.options.now in
     let is = c.in-Ok.ensures in
     let parse = c.in-Ok-try_get_matches_from.ensures in
-    let free = ap is_simple_and_free is ∙ is_simple_command (codes "tophat") places options in
-    let rows = parse.matches (ap is_simple is ∙ simple (codes "tophat") places options) in
-    found (codes "tophat") places options c.requires.table c.args.words.now c.requires.texts c.in-Ok-try_get_matches_from.matches
+    let free = ap is_simple_and_free is ∙ is_simple_command (codes "tophat") arguments options in
+    let rows = parse.matches (ap is_simple is ∙ simple (codes "tophat") arguments options) in
+    found (codes "tophat") arguments options c.requires.table c.args.words.now c.requires.texts c.in-Ok-try_get_matches_from.matches
     (app_of c.in-Ok.command) is (parse.kinds free) rows.0
 
 pub returns : goal.returns
 returns c =
-    let places = texts c.args.places.now in
+    let arguments = texts c.args.arguments.now in
     let options = texts c.args.options.now in
     let is = c.in-Ok.ensures in
     let error = c.in-Err-try_get_matches_from.error in
     let fails = c.in-Err-try_get_matches_from.ensures.kinds
-    (ap is_simple_and_free is ∙ is_simple_command (codes "tophat") places options) in
-    outside (codes "tophat") places options c.requires.table c.args.words.now c.requires.texts (app_of c.in-Ok.command) is
+    (ap is_simple_and_free is ∙ is_simple_command (codes "tophat") arguments options) in
+    outside (codes "tophat") arguments options c.requires.table c.args.words.now c.requires.texts (app_of c.in-Ok.command) is
     (λ none. ⊎_elim (λ memory. c.in_default.not-OutOfMemory (c.kind.ensures ∙ memory))
     (λ among. subst (IsAmong (kind_of error)) none among) fails)

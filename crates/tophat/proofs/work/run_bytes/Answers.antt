@@ -1,5 +1,5 @@
 use Rattle.std.proofs.Common.{subst}
-use Rattle.line_frame.specs.Drove.{Drove}
+use Rattle.line_frame.specs.RanScript.{RanScript}
 use Rattle.line_frame.specs.declared.finish.Finish.{Finish}
 use Rattle.world_core.specs.World.{SeenWorld, world_term}
 use Rattle.tophat.specs.Session.{Tells}
@@ -11,9 +11,9 @@ pub returns-in-Ok-clause-ran : goal.returns-in-Ok-clause-ran
 returns-in-Ok-clause-ran g c = (
   c.in-Ok.world,
   c.in-Ok.ensures.opened,
-  subst (λ w. Drove (Tells limits.line (world_term w) 1) limits.script (g.I.Source.left c.args.input.now)
-      (g.I.Source.left c.drive.new.input) (g.O.Sink.taken c.args.out.now) (g.O.Sink.taken c.drive.new.out) c.drive.result)
-      c.new-runner.ensures c.drive.ensures.drove,
+  subst (λ w. RanScript (Tells limits.line (world_term w) 1) limits.script (g.I.Source.left c.args.input.now)
+      (g.I.Source.left c.run_script.new.input) (g.O.Sink.taken c.args.out.now) (g.O.Sink.taken c.run_script.new.out) c.run_script.result)
+      c.new-runner.ensures c.run_script.ensures.ran,
 )
 
 pub returns-in-Err-clause-verdict_is : goal.returns-in-Err-clause-verdict_is

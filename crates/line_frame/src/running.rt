@@ -1,7 +1,7 @@
 ghost use Rattle.std.specs.Prelude.{◌≡◌, ◌<◌, ◌≤◌, ◌^◌};
 ghost use Rattle.outer_io.specs.Causes.{Rose};
 ghost use Rattle.line_frame.specs.RunFaults.{read_faults_after_run, write_faults_after_run};
-ghost use Rattle.line_frame.specs.Drove.{Drove};
+ghost use Rattle.line_frame.specs.RanScript.{RanScript};
 
 use crate::cursor::Cursor;
 use crate::lines::{end_script, take_piece};
@@ -19,7 +19,7 @@ const PIECE: usize = 65536;
 /// does (`Done`). Lines that end within the bytes that were read before are answered; the answers to lines
 /// that end within one read go out together. Memory is taken for what is kept of a line, for the answers
 /// that are due, and by the machine. Want of it for those answers ends nothing: they are written.
-pub fn drive<M: Machine, I: Source, O: Sink>(
+pub fn run_script<M: Machine, I: Source, O: Sink>(
     alloc: Global,
     machine: &mut M,
     input: &mut I,
@@ -27,7 +27,7 @@ pub fn drive<M: Machine, I: Source, O: Sink>(
     limit: u64,
 ) -> Finish
     requires { limit < 2 ^ 63 }
-    ensures drove { Drove (M.tells machine.old 1) limit (I.left input.old) (I.left input.new) (O.taken out.old) (O.taken out.new) result }
+    ensures ran { RanScript (M.tells machine.old 1) limit (I.left input.old) (I.left input.new) (O.taken out.old) (O.taken out.new) result }
     ensures read_count { I.faults input.old ≤ I.faults input.new }
     ensures read_failed { result ≡ Finish.ReadFault → Rose (I.faults input.old) (I.faults input.new) }
     ensures write_count { O.faults out.old ≤ O.faults out.new }
