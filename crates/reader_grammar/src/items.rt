@@ -1,10 +1,12 @@
 ghost use Rattle.std.specs.Prelude.{◌≡◌, ◌+◌, ◌<◌, ◌^◌, [], IfOk, IfErr};
 ghost use Rattle.task_model.specs.Terms.Host.{call_expr, list_expr, as_exprs};
 
+use crate::joining::joined;
 use crate::parsed::{Parsed, name_text};
 use crate::parts::Parts;
 use exact_reading::ParseStop;
 use std::alloc::Global;
+use std::collections::VecDeque;
 use task_model::{Host, Row};
 
 /// Arguments or elements, the most levels of one of them, and the places of their nodes in pre-order.
@@ -12,7 +14,7 @@ use task_model::{Host, Row};
 pub struct Items {
     pub list: Row<Host>,
     pub levels: usize,
-    pub places: Vec<u64>,
+    pub places: VecDeque<u64>,
 }
 
 impl Items {
@@ -25,7 +27,7 @@ impl Items {
         Items {
             list: Row::new(alloc),
             levels: 0,
-            places: Vec::new(alloc),
+            places: VecDeque::new(alloc),
         }
     }
 
@@ -51,9 +53,7 @@ impl Items {
         ensures memory { IfErr result (λ e. e ≡ ParseStop.Memory) }
     {
         let levels = self.levels.max(next.levels);
-        let mut places = self.places;
-        let mut others = next.places;
-        places.append(&mut others)?;
+        let places = joined(self.places, next.places)?;
         let mut list = self.list;
         if list.push(Box::into_inner(next.term)).is_err() {
             return Err(ParseStop::Memory);
@@ -75,7 +75,7 @@ impl Items {
         let parts = Parts {
             levels: self.levels,
             places: self.places,
-            bodies: Vec::new(alloc),
+            bodies: VecDeque::new(alloc),
         };
         (self.list, parts)
     }

@@ -3,6 +3,7 @@
 
 mod basics;
 mod items;
+mod joining;
 mod lexeme;
 mod measured;
 mod operators;
@@ -14,6 +15,7 @@ mod steps;
 
 pub use basics::basic;
 pub use items::Items;
+pub use joining::joined;
 pub use lexeme::{Digits, Lexeme, PositionedToken, QuotedText};
 pub use measured::Measured;
 pub use operators::{prefix, relation};

@@ -2,6 +2,7 @@ ghost use Rattle.std.specs.Prelude.{◌≡◌, []};
 
 use crate::parts::Parts;
 use std::alloc::Global;
+use std::collections::VecDeque;
 use task_model::Basic;
 
 /// A type that was read, and its levels.
@@ -21,8 +22,8 @@ impl Measured {
     {
         let parts = Parts {
             levels: self.levels,
-            places: Vec::new(alloc),
-            bodies: Vec::new(alloc),
+            places: VecDeque::new(alloc),
+            bodies: VecDeque::new(alloc),
         };
         (self.basic, parts)
     }

@@ -8,6 +8,7 @@ use crate::parts::Parts;
 use crate::prefixes::Prefix;
 use exact_reading::ParseStop;
 use std::alloc::Global;
+use std::collections::VecDeque;
 use task_model::{Body, Host, Op, TaskText};
 
 /// What was read, in a box, so that it is cheap to move and to let go, its levels, the place of its first token, the places of its nodes in
@@ -17,8 +18,8 @@ pub struct Parsed<T: Drop> {
     pub term: Box<T>,
     pub levels: usize,
     pub start: u64,
-    pub places: Vec<u64>,
-    pub bodies: Vec<Body>,
+    pub places: VecDeque<u64>,
+    pub bodies: VecDeque<Body>,
 }
 
 /// The text of a name.

@@ -1,8 +1,10 @@
 ghost use Rattle.std.specs.Prelude.{◌≡◌, ◌+◌, ◌<◌, ◌^◌, ◌∷◌, IfOk, IfErr};
 
+use crate::joining::joined;
 use crate::parsed::Parsed;
 use exact_reading::ParseStop;
 use std::alloc::Global;
+use std::collections::VecDeque;
 use task_model::Body;
 
 /// What is said of the parts of a node: the most levels of one, the places of their nodes in pre-order, and their bodies in the order in
@@ -10,8 +12,8 @@ use task_model::Body;
 #[derive(Drop)]
 pub struct Parts {
     pub levels: usize,
-    pub places: Vec<u64>,
-    pub bodies: Vec<Body>,
+    pub places: VecDeque<u64>,
+    pub bodies: VecDeque<Body>,
 }
 
 impl Parts {
@@ -23,8 +25,8 @@ impl Parts {
     {
         Parts {
             levels: 0,
-            places: Vec::new(alloc),
-            bodies: Vec::new(alloc),
+            places: VecDeque::new(alloc),
+            bodies: VecDeque::new(alloc),
         }
     }
 
@@ -34,12 +36,8 @@ impl Parts {
         ensures memory { IfErr result (λ e. e ≡ ParseStop.Memory) }
     {
         let levels = self.levels.max(others.levels);
-        let mut places = self.places;
-        let mut more_places = others.places;
-        places.append(&mut more_places)?;
-        let mut bodies = self.bodies;
-        let mut more_bodies = others.bodies;
-        bodies.append(&mut more_bodies)?;
+        let places = joined(self.places, others.places)?;
+        let bodies = joined(self.bodies, others.bodies)?;
         Ok(Parts {
             levels,
             places,
@@ -58,7 +56,7 @@ impl Parts {
         ensures memory { IfErr result (λ e. e ≡ ParseStop.Memory) }
     {
         let mut places = self.places;
-        places.insert(0, place)?;
+        places.push_front(place)?;
         Ok(Parsed {
             term: Box::new(alloc, term)?,
             levels: 1 + self.levels,

@@ -16,18 +16,19 @@ use crate::tasks::task;
 use exact_reading::ParseStop;
 use reader_expressions::expression;
 use reader_grammar::{
-    Measured, Parsed, Parts, PositionedToken, basic, expect_name, expect_symbol, name_text,
+    Measured, Parsed, Parts, PositionedToken, basic, expect_name, expect_symbol, joined, name_text,
 };
 use reader_tasks::parameter_scope;
 use std::alloc::Global;
+use std::collections::VecDeque;
 use task_model::{Body, Def, DefBody, Host, Symbol, Task};
 
 /// A definition that was read, the places of its nodes in pre-order, and its bodies in the order in which their texts begin.
 #[derive(Drop)]
 pub(crate) struct ReadDefinition {
     pub(crate) def: Def,
-    pub(crate) places: Vec<u64>,
-    pub(crate) bodies: Vec<Body>,
+    pub(crate) places: VecDeque<u64>,
+    pub(crate) bodies: VecDeque<Body>,
 }
 
 impl ReadDefinition {
@@ -49,9 +50,8 @@ impl ReadDefinition {
         let name = name_text(alloc, name)?;
         let (what, parts) = body;
         let mut places = parameters.places;
-        let mut inner_places = parts.places;
-        places.insert(0, place)?;
-        places.append(&mut inner_places)?;
+        places.push_front(place)?;
+        let places = joined(places, parts.places)?;
         Ok(ReadDefinition {
             def: Def {
                 name,

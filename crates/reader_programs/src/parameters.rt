@@ -11,13 +11,14 @@ use reader_grammar::{
     PositionedToken, basic, expect_symbol, name_text, strip_keyword, strip_name, strip_symbol,
 };
 use std::alloc::Global;
+use std::collections::VecDeque;
 use task_model::{Keyword, Kind, Param, Row, Symbol};
 
 /// Parameters that were read, and their places.
 #[derive(Drop)]
 pub(crate) struct Parameters {
     pub(crate) list: Row<Param>,
-    pub(crate) places: Vec<u64>,
+    pub(crate) places: VecDeque<u64>,
 }
 
 impl Parameters {
@@ -27,7 +28,7 @@ impl Parameters {
     {
         Parameters {
             list: Row::new(alloc),
-            places: Vec::new(alloc),
+            places: VecDeque::new(alloc),
         }
     }
 
@@ -38,7 +39,7 @@ impl Parameters {
         ensures memory { IfErr result (λ e. e ≡ ParseStop.Memory) }
     {
         let mut places = self.places;
-        places.push(place)?;
+        places.push_back(place)?;
         let mut list = self.list;
         if list.push(parameter).is_err() {
             return Err(ParseStop::Memory);

@@ -46,10 +46,10 @@ impl Definitions {
         ensures memory { IfErr result (λ e. e ≡ ParseStop.Memory) }
     {
         let mut places = self.places;
-        let mut other_places = definition.places;
+        let mut other_places = Vec::from(definition.places);
         places.append(&mut other_places)?;
         let mut bodies = self.bodies;
-        let mut other_bodies = definition.bodies;
+        let mut other_bodies = Vec::from(definition.bodies);
         bodies.append(&mut other_bodies)?;
         let mut defs = self.defs;
         if defs.push(definition.def).is_err() {

@@ -25,14 +25,11 @@ fn body_of(scope: &Scope, binder: Option<TaskText>, task: Parsed<Task>) -> Resul
     let (task, parts) = task.into_parts();
     let mut bodies = parts.bodies;
     let task = Box::into_inner(task);
-    bodies.insert(
-        0,
-        Body {
-            scope,
-            binder,
-            task,
-        },
-    )?;
+    bodies.push_front(Body {
+        scope,
+        binder,
+        task,
+    })?;
     Ok(Parts { bodies, ..parts })
 }
 

@@ -67,7 +67,7 @@ pub(crate) fn renumbered_task(task: Parsed<Task>) -> Parsed<Task>
 {
     let mut task = task;
     renumber(&mut task.term);
-    renumber_bodies(task.bodies.as_mut_slice());
+    renumber_bodies(task.bodies.make_contiguous());
     task
 }
 
