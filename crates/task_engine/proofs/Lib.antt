@@ -7,3 +7,5 @@ pub mod StrideLemmas
 pub mod SignLemmas
 pub mod FittingLemmas
 pub mod QuietLemmas
+pub mod ValuedLemmas
+pub mod PartLemmas

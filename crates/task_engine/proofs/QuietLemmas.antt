@@ -1,5 +1,5 @@
 -- Trees in which a stride fires nothing, form by form.
-use Rattle.std.proofs.Common.{◌≡◌, ℕ, suc, ◌+◌, max, add-one, Bool, true, false, cond, List, Option, None, Some, Ok, refl, sym, ap, ◌∙◌, subst, arith}
+use Rattle.std.proofs.Common.{◌≡◌, ℕ, suc, ◌+◌, max, add-one, Bool, false, cond, List, Option, None, Some, Ok, refl, sym, ap, ◌∙◌, subst, arith}
 use Rattle.std.specs.Option.{is_some, option_or}
 use Rattle.task_model.specs.Terms.Value.{ValueTerm}
 use Rattle.task_model.specs.Terms.Tree.{LaterTerm, TreeTerm, State, then_tree, next_tree, and_tree, or_tree, at}
@@ -44,7 +44,7 @@ quiet_next c t k σ j valued q =
     (gives_it c j (at (next_tree t k) σ)))
     refl
 
-both : (o p : Option ValueTerm) → cond (is_some o) (is_some p) false ≡ is_some (paired o p)
+pub both : (o p : Option ValueTerm) → cond (is_some o) (is_some p) false ≡ is_some (paired o p)
 both None p = refl
 both (Some v) None = refl
 both (Some v) (Some w) = refl

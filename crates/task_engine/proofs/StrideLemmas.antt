@@ -16,7 +16,7 @@ use Rattle.task_model.specs.Terms.Tree.{LaterTerm, TreeTerm, then_tree, xor_tree
 use Rattle.task_model.specs.Running.Checked.{CheckedTerm, body_first}
 use Rattle.task_model.specs.Checking.Accepted.{IsAccepted}
 use Rattle.task_model.specs.Running.Plan.{fails, strides, evaluates, Plan, give, ask, after, known, stride_on, derives_at}
-use Rattle.task_model.specs.Running.Rules.{bound, branch, side, trial, opened_env, applied, fired, value_of, with_value, fail_rule, stride_rule, rule_of}
+use Rattle.task_model.specs.Running.Rules.{bound, branch, side, trial, opened_env, applied, fired, with_value, fail_rule, stride_rule, rule_of}
 use Rattle.task_model.specs.Syntax.Calls.{RunsJudgement, RunsPlan}
 use Rattle.task_model.specs.Checking.Fits.{BindsAs, LaterHas}
 use Rattle.task_model.specs.declared.tree.Tree as tree
@@ -29,7 +29,8 @@ use Rattle.typing_laws.proofs.TreeLemmas.{good_applied, good_trial, good_side}
 use Rattle.task_engine.specs.Fitting.{ContFits, SideFits}
 use Rattle.typing_laws.proofs.RuleLemmas.{derives_typed}
 use Rattle.task_laws.proofs.RanLemmas.{ran_give}
-use Rattle.task_engine.specs.Strides.{after_stride, Calm, state_at, attempt, after_attempt, Binds, BindsNone, AnswersStride}
+use Rattle.task_engine.specs.declared.strode.Strode.{Strode}
+use Rattle.task_engine.specs.Strides.{after_stride, state_at, attempt, after_attempt, Binds, BindsNone, AnswersStride}
 
 -- ---- what may be asked
 module _ {c : CheckedTerm} {σ : List ValueTerm} where
@@ -253,27 +254,14 @@ side_tested {c = c} {k = k} {σ = σ} accepted f = record {
 pub side_unbound : {c : CheckedTerm} {k : LaterTerm} {σ : List ValueTerm} → IsAccepted c → SideFits c k σ → BindsNone c k.body
 side_unbound {c = c} {k = k} accepted f = side_binds c f.places k f.gives accepted f.side
 
--- ---- what stays without a value
+-- ---- what a stride answers
 pub none_is : {A : Type 0} (o : Option A) → is_some o ≡ false → o ≡ None
 none_is None e = refl
 none_is (Some x) e = absurd (cc)
 
-pub valueless : (t : TreeTerm) {o : Option tree.Tree} {σ τ : List Value} → o ≡ None → τ ≡ σ
-    → value_of (after_stride t o) (map value_term σ) ≡ None → value_of t (map value_term τ) ≡ None
-valueless t {σ = σ} e l v =
-    subst (λ z. value_of t (map value_term z) ≡ None) (sym l) (subst (λ z. value_of (after_stride t z) (map value_term σ) ≡ None) e v)
-
-pub calm_on : (t : TreeTerm) {σ τ : List Value} → τ ≡ σ → Calm t (map value_term σ) → Calm t (map value_term τ)
-calm_on t l h = subst (λ z. Calm t (map value_term z)) (sym l) h
-
--- a step has no value, whatever a stride of it answers
-pub step_calm : {E : Type 0} (r : Result (Option tree.Tree) E) → IfOk r (λ o. o ≡ None → Unit {0})
-step_calm (Ok o) = λ e. tt
-step_calm (Err e) = tt
-
 -- a tree that is made of what was strided
-pub ran_strode : {c : CheckedTerm} {t x : TreeTerm} (σ : List ValueTerm) {old : Left} {o : Option tree.Tree} → after_stride t o ≡ x
-    → RunsPlan c (give (at x σ)) (λ z. at (after_stride t z) σ) old old (Ok o)
+pub ran_strode : {c : CheckedTerm} {t x : TreeTerm} (σ : List ValueTerm) {old : Left} {s : Strode} → after_stride t s.tree ≡ x
+    → RunsPlan c (give (at x σ)) (λ z. at (after_stride t z.tree) σ) old old (Ok s)
 ran_strode σ e = ran_give (ap (λ z. at z σ) e)
 
 -- what holds of a stride's answer, whichever it is, holds of what is answered

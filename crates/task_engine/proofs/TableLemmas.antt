@@ -47,6 +47,7 @@ firsts_none p n defs lt = ap (λ l. definition_firsts p n (map def_term l)) (emp
 pub record CalledAt (p : ProgramTerm) (n i : ℕ) (ds : List DefTerm) (called : Option Callee) (d : Numbered) : Type 0 where
   pub from : ℕ
   pub at : d.index ≡ i + from
+  pub here : slice_get ds from ≡ Some d.def
   pub listed : IsSome (slice_get (definition_firsts p n ds) from)
   pub is : (first : ℕ) → slice_get (definition_firsts p n ds) from ≡ Some first → called ≡ as_callee first d.def
 
@@ -59,13 +60,14 @@ called_by p n i e ds d o rest true k h =
     let number = ap (λ (z : Numbered). z.index) same in record {
       from = 0;
       at = omega (arith, number);
+      here = ap (λ (z : Numbered). Some z.def) same;
       listed = refl;
       is = λ first q. let start : n ≡ first = cc in ap (λ m. as_callee m e) start ∙ ap (λ (z : Numbered). as_callee first z.def) same;
     }
 called_by p n i e ds d o rest false k h =
     let c = k h in
     let number = c.at in
-    record { from = suc c.from; at = omega (arith, number); listed = c.listed; is = c.is }
+    record { from = suc c.from; at = omega (arith, number); here = c.here; listed = c.listed; is = c.is }
 
 pub called_at : (p : ProgramTerm) (n i : ℕ) (ds : List DefTerm) (f : Text) (d : Numbered) → first_named i ds f ≡ Some d
     → CalledAt p n i ds (def_in p as_callee n ds f) d
@@ -81,6 +83,9 @@ module _ (p : ProgramTerm) (f : Text) (d : Numbered) (found : first_named 0 p.de
 
   number : d.index ≡ called_all.from
   number = let e = called_all.at in omega (arith, e)
+
+  pub called_here : slice_get p.defs d.index ≡ Some d.def
+  called_here = ap (slice_get p.defs) number ∙ called_all.here
 
   pub called_listed : IsSome (slice_get (definition_firsts p 0 p.defs) d.index)
   called_listed = subst (λ k. IsSome (slice_get (definition_firsts p 0 p.defs) k)) (sym number) called_all.listed

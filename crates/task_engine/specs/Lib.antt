@@ -8,3 +8,4 @@ pub mod TestAnswers
 pub mod Kinds
 pub mod Stores
 pub mod Quiet
+pub mod FirstParts

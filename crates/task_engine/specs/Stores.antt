@@ -15,6 +15,7 @@ use Rattle.task_model.specs.declared.tree.Tree.{Tree}
 use Rattle.typing_laws.specs.Well.{MayAsk}
 use Rattle.host_eval.specs.declared.names.Names.{Names}
 use Rattle.host_eval.specs.NamesTerm.{names_term}
+use Rattle.task_engine.specs.declared.strode.Strode.{Strode}
 use Rattle.task_engine.specs.Strides.{after_stride}
 
 -- the values that stand in a store
@@ -42,5 +43,5 @@ abbrev pub MayStride : SeenChecked → TreeTerm → Layered Value → Type 0
 MayStride c t s = MayAsk (checked_term c) (strides (at t (values_in s)))
 
 -- a tree strode by its rule, from a store to another
-abbrev pub RunsStride : SeenChecked → TreeTerm → Layered Value → Layered Value → Left → Left → Result (Option Tree) Stop → Type 0
-RunsStride c t s s' = RunsPlan (checked_term c) (stride_rule (checked_term c) t (values_in s)) (state_after t s')
+abbrev pub RunsStride : SeenChecked → TreeTerm → Layered Value → Layered Value → Left → Left → Result Strode Stop → Type 0
+RunsStride c t s s' = RunsPlan (checked_term c) (stride_rule (checked_term c) t (values_in s)) (λ o. state_after t s' o.tree)

@@ -1,33 +1,26 @@
 -- What strides and trials answer.
 use Rattle.std.specs.Prelude.{◌≡◌, ℕ, List, map, Option, Some, None, Result, Ok, Err, ◌⊎◌, slice_get, IsSome}
+use Rattle.std.specs.Option.{is_some}
 use Rattle.task_model.specs.Terms.Value.{ValueTerm, value_term}
 use Rattle.task_model.specs.declared.value.Value.{Value}
 use Rattle.task_model.specs.declared.purse.Stop.{Stop}
 use Rattle.task_model.specs.declared.purse.Stop.TheVariants.{Memory}
 use Rattle.task_model.specs.Terms.Task.{BodyTerm}
-use Rattle.task_model.specs.Terms.Tree.{LaterTerm, TreeTerm, edit_tree, enter_tree, share_tree, then_tree, next_tree, fail_tree, and_tree, or_tree, xor_tree, tree_term, State, at}
+use Rattle.task_model.specs.Terms.Tree.{LaterTerm, TreeTerm, then_tree, tree_term, State, at}
 use Rattle.task_model.specs.Running.Checked.{CheckedTerm}
 use Rattle.task_model.specs.Running.Plan.{fails, Plan, give, ask}
 use Rattle.task_model.specs.Running.Rules.{branch, applied, value_of}
 use Rattle.task_model.specs.declared.tree.Tree.{Tree}
+use Rattle.task_engine.specs.declared.strode.Strode.{Strode}
 
 -- the tree after a stride: where nothing is answered it is the one that stood there
 abbrev pub after_stride : TreeTerm → Option Tree → TreeTerm
 after_stride t None = t
 after_stride t (Some u) = tree_term u
 
--- No choice has a value that a tree's value is asked of. So it is where a stride fired nothing, for a choice with a value is no choice
--- then.
-abbrev pub Calm : TreeTerm → List ValueTerm → Type 0
-Calm (edit_tree b v) σ = Unit {0}
-Calm (enter_tree b) σ = Unit {0}
-Calm (share_tree b n) σ = Unit {0}
-Calm (then_tree t k) σ = Unit {0}
-Calm (next_tree t k) σ = Unit {0}
-Calm fail_tree σ = Unit {0}
-Calm (and_tree t u) σ = Calm t σ × Calm u σ
-Calm (or_tree t u) σ = (value_of t σ ≡ None) × (value_of u σ ≡ None)
-Calm (xor_tree j k) σ = Unit {0}
+-- the stride tells whether the tree that it leads to has a value over these values
+abbrev pub TellsValue : TreeTerm → List ValueTerm → Strode → Type 0
+TellsValue t σ s = s.valued ≡ is_some (value_of (after_stride t s.tree) σ)
 
 -- a state where there is a tree
 abbrev pub state_at : List ValueTerm → Option Tree → Option State

@@ -25,7 +25,8 @@ pub(crate) fn number_at(numbers: &[u64], i: usize) -> u64
     }
 }
 
-fn body_nodes(counts: &[u64], from: usize, body: u32) -> u64
+/// How many nodes a body has, where the counts are those of the bodies from a number on.
+pub(crate) fn body_nodes(counts: &[u64], from: usize, body: u32) -> u64
     ensures { result ≡ checked.body_nodes counts.now from body }
 {
     match counts.get((body as usize).saturating_sub(from)) {

@@ -1,4 +1,4 @@
-ghost use Rattle.std.specs.Prelude.{◌≡◌, ◌<◌, IfOk, IsSome, Some, slice_get};
+ghost use Rattle.std.specs.Prelude.{◌≡◌, IfOk, IfSome, IsSome, Some, slice_get};
 ghost use Rattle.std.specs.Option.{option_map};
 ghost use Rattle.task_model.specs.Terms.Basic.{basic_term};
 ghost use Rattle.task_model.specs.Terms.Task.{body_term, task_term};
@@ -6,9 +6,12 @@ ghost use Rattle.task_model.specs.Terms.Program.{program_term};
 ghost use Rattle.task_model.specs.Running.Checked as checked;
 ghost use Rattle.task_model.specs.Running.Checked.{checked_term};
 ghost use Rattle.task_engine.specs.Called.{seen_callee};
+ghost use Rattle.task_engine.specs.FirstParts.{parts_at, what_parts};
 
 use crate::callee::Callee;
-use crate::counts::{nodes_in, number_at};
+use crate::counts::number_at;
+use crate::first_part::FirstPart;
+use crate::parts::{body_parts, definition_parts, task_parts};
 use crate::tables::{counts_of, definitions_of, starts_of};
 use host_eval::Definitions;
 use std::alloc::Global;
@@ -16,7 +19,7 @@ use std::marker::Model;
 use task_model::{Basic, Body, Checked, DefBody, OutOfMemory, Row, Task, TaskText, copy_basic};
 
 /// An accepted program whose definitions are found by their names, with where its `edit` and `share` nodes stand: how many each body
-/// has, and how many stand before each definition.
+/// has, how many stand before each definition and each body, and how many each first part in them has.
 #[derive(Drop)]
 pub struct Engine {
     alloc: Global,
@@ -24,6 +27,8 @@ pub struct Engine {
     nodes: Vec<u64>,
     firsts: Row<u64>,
     starts: Row<u64>,
+    definition_parts: Row<Row<FirstPart>>,
+    body_parts: Row<Row<FirstPart>>,
 }
 
 impl Model for Engine {
@@ -31,7 +36,7 @@ impl Model for Engine {
     ghost use Rattle.task_model.specs.Running.Checked.{SeenChecked, counts_of};
     ghost use Rattle.task_model.specs.Terms.Program.{program_term, def_term};
     ghost use Rattle.host_eval.specs.contracts.definitions.Definitions as held;
-    ghost use Rattle.task_engine.specs.Tables.{AreTables};
+    ghost use Rattle.task_engine.specs.Tables.{AreTables, lists};
 
     ghost Value = { SeenChecked };
 
@@ -39,11 +44,12 @@ impl Model for Engine {
 
     ghost view = { λ e. e.definitions };
 
-    ghost invariant = { λ e. AreTables (program_term e.definitions.program) e.nodes.items e.firsts.list e.starts.list };
+    ghost invariant = { λ e. AreTables (program_term e.definitions.program) e.nodes.items e.firsts.list e.starts.list
+        (lists e.definition_parts.list) (lists e.body_parts.list) };
 }
 
 impl Engine {
-    /// The tables are made in one walk of the program.
+    /// The tables are made in one walk of the program each.
     pub fn new(alloc: Global, checked: Checked) -> Result<Engine, OutOfMemory>
         ensures { IfOk result (λ e. e ≡ checked) }
     {
@@ -52,12 +58,16 @@ impl Engine {
         let nodes = counts_of(alloc, program.bodies.as_slice())?;
         let firsts = definitions_of(alloc, nodes.as_slice(), program.defs.as_slice())?;
         let starts = starts_of(alloc, program)?;
+        let definition_parts = definition_parts(alloc, nodes.as_slice(), program.defs.as_slice())?;
+        let body_parts = body_parts(alloc, nodes.as_slice(), program.bodies.as_slice())?;
         Ok(Engine {
             alloc,
             definitions,
             nodes,
             firsts,
             starts,
+            definition_parts,
+            body_parts,
         })
     }
 
@@ -80,14 +90,33 @@ impl Engine {
         self.alloc
     }
 
-    /// How many nodes a task has, where their number fits 64 bits.
-    pub(crate) fn nodes_of(&self, t: &Task) -> u64
-        requires fits { checked.nodes_of (program_term self.now.program) (task_term t.now) < 18446744073709551616 }
-        ensures { result ≡ checked.nodes_of (program_term self.now.program) (task_term t.now) }
+    /// The first parts in a task that may stand anywhere.
+    pub(crate) fn parts_of(&self, t: &Task) -> Result<Row<FirstPart>, OutOfMemory>
+        ensures { IfOk result (λ parts. parts.list ≡ parts_at self.now (task_term t.now)) }
     {
-        match nodes_in(self.nodes.as_slice(), 0, t) {
-            Ok(n) => n,
-            Err(_) => unreachable!(),
+        task_parts(self.alloc, self.nodes.as_slice(), t)
+    }
+
+    /// The first parts in a body of the program.
+    pub(crate) fn parts_of_body(&self, body: u32) -> &[FirstPart]
+        requires { IsSome (slice_get (checked_term self.now).program.bodies body) }
+        ensures { IfSome (slice_get (checked_term self.now).program.bodies body) (λ own. result.now ≡ parts_at self.now own.task) }
+    {
+        match self.body_parts.as_slice().get(body as usize) {
+            Some(parts) => parts.as_slice(),
+            None => unreachable!(),
+        }
+    }
+
+    // The first parts in a definition of the program.
+    fn parts_of_definition(&self, number: usize) -> &[FirstPart]
+        requires { IsSome (slice_get (checked_term self.now).program.defs number) }
+        ensures { IfSome (slice_get (checked_term self.now).program.defs number)
+            (λ def. result.now ≡ what_parts (checked.counts_of (checked_term self.now).program) def.what) }
+    {
+        match self.definition_parts.as_slice().get(number) {
+            Some(parts) => parts.as_slice(),
+            None => unreachable!(),
         }
     }
 
@@ -132,7 +161,8 @@ impl Engine {
     /// The task that a call names.
     pub(crate) fn task_named(&self, name: &TaskText) -> Callee<'_>
         requires { IsSome (checked.task_named (program_term self.now.program) name.now) }
-        ensures { checked.task_named (program_term self.now.program) name.now ≡ Some (seen_callee result) }
+        ensures named { checked.task_named (program_term self.now.program) name.now ≡ Some (seen_callee result) }
+        ensures parts { result.parts.now ≡ parts_at self.now (task_term result.task.now) }
     {
         match self.called(name) {
             Some(callee) => callee,
@@ -142,7 +172,8 @@ impl Engine {
 
     // The task of a name, where the first definition of that name is one.
     fn called(&self, name: &TaskText) -> Option<Callee<'_>>
-        ensures { checked.task_named (program_term self.now.program) name.now ≡ option_map seen_callee result }
+        ensures named { checked.task_named (program_term self.now.program) name.now ≡ option_map seen_callee result }
+        ensures parts { IfSome result (λ callee. callee.parts.now ≡ parts_at self.now (task_term callee.task.now)) }
     {
         let found = self.definitions.first(name)?;
         match &found.def.what {
@@ -151,6 +182,7 @@ impl Engine {
                 params: found.def.params.as_slice(),
                 task,
                 first: number_at(self.firsts.as_slice(), found.number),
+                parts: self.parts_of_definition(found.number),
             }),
         }
     }

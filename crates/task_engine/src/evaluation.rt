@@ -7,7 +7,7 @@ ghost use Rattle.task_model.specs.Terms.Task as tasks;
 ghost use Rattle.task_model.specs.Terms.Task.{task_term};
 ghost use Rattle.task_model.specs.Terms.Tree.{tree_term, at};
 ghost use Rattle.task_model.specs.Checking.Accepted.{IsAccepted};
-ghost use Rattle.task_model.specs.Running.Checked.{checked_term, nodes_of};
+ghost use Rattle.task_model.specs.Running.Checked.{checked_term};
 ghost use Rattle.task_model.specs.Running.Plan.{gives_value, evaluates};
 ghost use Rattle.task_model.specs.Running.Rules.{evaluate_rule, later_by, slots_for};
 ghost use Rattle.task_model.specs.Running.Judgements.{Evaluates};
@@ -16,14 +16,18 @@ ghost use Rattle.task_model.specs.Syntax.Calls.{RunsJudgement, RunsPlan};
 ghost use Rattle.typing_laws.specs.Well.{MayAsk, Well};
 ghost use Rattle.host_eval.specs.NamesTerm.{IsPaired, names_term};
 ghost use Rattle.task_engine.specs.Called.{task_call_plan, seen_callee};
+ghost use Rattle.task_engine.specs.FirstParts.{parts_at};
 ghost use Rattle.task_engine.specs.Kinds.{step_task, pair_task};
 ghost use Rattle.task_engine.specs.Steps.{share_tree_at};
 ghost use Rattle.task_engine.specs.Stores.{values_in, state_in, MayEvaluate, RunsEvaluation};
 
 use crate::callee::Callee;
 use crate::engine::Engine;
+use crate::first_part::FirstPart;
 use crate::kept::{enter_tree, paired, step_later, xor_later};
+use crate::kinds::StepKind::{Next, Then};
 use crate::kinds::{PairKind, StepKind};
+use crate::two_parts::TwoParts;
 use host_eval::{HeadAndTail, Names, place_named, slots_at, truth, value_at};
 use shared_store::Store;
 use task_model::{Host, OutOfMemory, Param, Purse, Row, Slot, Stop, Task, TaskText, Tree, Value};
@@ -44,19 +48,22 @@ pub fn evaluate(
 {
     // The program of an engine is accepted.
     let _accepted = engine.checked().program();
-    evaluate_at(engine, t, names, store, purse)
+    let parts = engine.parts_of(t)?;
+    evaluate_at(engine, t, parts.as_slice(), names, store, purse)
 }
 
 #[cycle(evaluate)]
 pub(crate) fn evaluate_at(
     engine: &Engine,
     t: &Task,
+    parts: &[FirstPart],
     names: &Names,
     store: &mut Store<Value>,
     purse: &mut Purse,
 ) -> Result<Tree, Stop>
     requires accepted { IsAccepted (checked_term engine.now) }
     requires may { MayEvaluate engine.now (task_term t.now) names.now store.old }
+    requires parts { parts.now ≡ parts_at engine.now (task_term t.now) }
     ensures height { OnOk result (purse.new.height ≡ purse.old.height) }
     ensures layers { store.new.layers ≡ store.old.layers }
     ensures asked { RunsJudgement (checked_term engine.now) (evaluates (task_term t.now) (names_term names.now) (values_in store.old))
@@ -64,7 +71,7 @@ pub(crate) fn evaluate_at(
 {
     let height = purse.height_left();
     purse.enter()?;
-    let u = evaluate_form(engine, t, names, store, purse)?;
+    let u = evaluate_form(engine, t, parts, names, store, purse)?;
     purse.leave(height);
     Ok(u)
 }
@@ -74,12 +81,14 @@ pub(crate) fn evaluate_at(
 fn evaluate_form(
     engine: &Engine,
     t: &Task,
+    parts: &[FirstPart],
     names: &Names,
     store: &mut Store<Value>,
     purse: &mut Purse,
 ) -> Result<Tree, Stop>
     requires accepted { IsAccepted (checked_term engine.now) }
     requires may { MayEvaluate engine.now (task_term t.now) names.now store.old }
+    requires parts { parts.now ≡ parts_at engine.now (task_term t.now) }
     ensures height { OnOk result (purse.new.height ≡ purse.old.height) }
     ensures layers { store.new.layers ≡ store.old.layers }
     ensures ran { RunsEvaluation engine.now (task_term t.now) names.now store.old store.new purse.old purse.new result }
@@ -93,25 +102,33 @@ fn evaluate_form(
             call_form(engine, name, args.as_slice(), names, store, purse)
         }
         Task::Then { left, body } => {
-            step_form(engine, StepKind::Then, left, *body, names, store, purse)
+            step_form(engine, Then, left, *body, parts, names, store, purse)
         }
         Task::Next { left, body } => {
-            step_form(engine, StepKind::Next, left, *body, names, store, purse)
+            step_form(engine, Next, left, *body, parts, names, store, purse)
         }
-        Task::And(a, b) => pair_form(engine, PairKind::And, a, b, names, store, purse),
-        Task::Or(a, b) => pair_form(engine, PairKind::Or, a, b, names, store, purse),
+        Task::And(a, b) => pair_form(engine, PairKind::And, a, b, parts, names, store, purse),
+        Task::Or(a, b) => pair_form(engine, PairKind::Or, a, b, parts, names, store, purse),
         Task::Xor { left, right } => Ok(xor_later(engine.alloc(), *left, *right, names)?),
-        Task::Let { name, bound, rest } => let_form(engine, name, bound, rest, names, store, purse),
-        Task::If { test, yes, no } => if_form(engine, test, yes, no, names, store, purse),
+        Task::Let { name, bound, rest } => let_form(
+            engine, name, bound, rest, parts, names, store, purse,
+        ),
+        Task::If { test, yes, no } => if_form(engine, test, yes, no, parts, names, store, purse),
         Task::Case {
             list,
             empty,
             head,
             tail,
             more,
-        } => case_form(engine, list, empty, head, tail, more, names, store, purse),
-        Task::New { name, init, rest } => new_form(engine, name, init, rest, names, store, purse),
-        Task::Put { name, value, rest } => put_form(engine, name, value, rest, names, store, purse),
+        } => case_form(
+            engine, list, empty, head, tail, more, parts, names, store, purse,
+        ),
+        Task::New { name, init, rest } => new_form(
+            engine, name, init, rest, parts, names, store, purse,
+        ),
+        Task::Put { name, value, rest } => put_form(
+            engine, name, value, rest, parts, names, store, purse,
+        ),
     }
 }
 
@@ -161,15 +178,13 @@ fn argument_slots(
     )
 }
 
-// The environment of what follows a task.
-fn names_after<'e>(engine: &Engine, t: &Task, names: &Names<'e>) -> Names<'e>
-    requires within { nodes_of (checked_term engine.now).program (task_term t.now)
-        ≤ length (checked_term engine.now).types - (names_term names.now).first }
-    ensures { names_term result ≡ later_by (nodes_of (checked_term engine.now).program (task_term t.now)) (names_term names.now) }
+// The environment of what follows so many nodes.
+fn names_after<'e>(engine: &Engine, nodes: u64, names: &Names<'e>) -> Names<'e>
+    requires within { nodes ≤ length (checked_term engine.now).types - (names_term names.now).first }
+    ensures { names_term result ≡ later_by nodes (names_term names.now) }
 {
     // So many types fit 64 bits.
     let _types = engine.checked().types().len();
-    let nodes = engine.nodes_of(t);
     Names {
         links: names.links,
         first: names.first + nodes,
@@ -212,18 +227,20 @@ fn step_form(
     kind: StepKind,
     left: &Task,
     body: u32,
+    parts: &[FirstPart],
     names: &Names,
     store: &mut Store<Value>,
     purse: &mut Purse,
 ) -> Result<Tree, Stop>
     requires accepted { IsAccepted (checked_term engine.now) }
     requires may { MayEvaluate engine.now (step_task kind (task_term left.now) body) names.now store.old }
+    requires parts { parts.now ≡ parts_at engine.now (step_task kind (task_term left.now) body) }
     ensures height { OnOk result (purse.new.height ≡ purse.old.height) }
     ensures layers { store.new.layers ≡ store.old.layers }
     ensures ran { RunsEvaluation engine.now (step_task kind (task_term left.now) body) names.now store.old store.new purse.old purse.new
         result }
 {
-    let left = evaluate_at(engine, left, names, store, purse)?;
+    let left = evaluate_at(engine, left, parts, names, store, purse)?;
     Ok(step_later(engine.alloc(), kind, left, body, names)?)
 }
 
@@ -234,20 +251,23 @@ fn pair_form(
     kind: PairKind,
     a: &Task,
     b: &Task,
+    parts: &[FirstPart],
     names: &Names,
     store: &mut Store<Value>,
     purse: &mut Purse,
 ) -> Result<Tree, Stop>
     requires accepted { IsAccepted (checked_term engine.now) }
     requires may { MayEvaluate engine.now (pair_task kind (task_term a.now) (task_term b.now)) names.now store.old }
+    requires parts { parts.now ≡ parts_at engine.now (pair_task kind (task_term a.now) (task_term b.now)) }
     ensures height { OnOk result (purse.new.height ≡ purse.old.height) }
     ensures layers { store.new.layers ≡ store.old.layers }
     ensures ran { RunsEvaluation engine.now (pair_task kind (task_term a.now) (task_term b.now)) names.now store.old store.new purse.old
         purse.new result }
 {
-    let after = names_after(engine, a, names);
-    let t = evaluate_at(engine, a, names, store, purse)?;
-    let u = evaluate_at(engine, b, &after, store, purse)?;
+    let two = TwoParts::of(parts);
+    let after = names_after(engine, two.nodes, names);
+    let t = evaluate_at(engine, a, two.first, names, store, purse)?;
+    let u = evaluate_at(engine, b, two.second, &after, store, purse)?;
     Ok(paired(engine.alloc(), kind, t, u)?)
 }
 
@@ -257,12 +277,14 @@ fn let_form(
     name: &TaskText,
     e: &Host,
     rest: &Task,
+    parts: &[FirstPart],
     names: &Names,
     store: &mut Store<Value>,
     purse: &mut Purse,
 ) -> Result<Tree, Stop>
     requires accepted { IsAccepted (checked_term engine.now) }
     requires may { MayEvaluate engine.now (tasks.let_task name.now (host_term e.now) (task_term rest.now)) names.now store.old }
+    requires parts { parts.now ≡ parts_at engine.now (task_term rest.now) }
     ensures height { OnOk result (purse.new.height ≡ purse.old.height) }
     ensures layers { store.new.layers ≡ store.old.layers }
     ensures ran { RunsEvaluation engine.now (tasks.let_task name.now (host_term e.now) (task_term rest.now)) names.now store.old store.new
@@ -271,7 +293,7 @@ fn let_form(
     let v = host_value(engine, e, names, store, purse)?;
     let slot = Slot::Plain(v);
     let inner = (&*names).with(&*name, &slot);
-    evaluate_at(engine, rest, &inner, store, purse)
+    evaluate_at(engine, rest, parts, &inner, store, purse)
 }
 
 #[cycle(evaluate)]
@@ -280,12 +302,14 @@ fn if_form(
     test: &Host,
     yes: &Task,
     no: &Task,
+    parts: &[FirstPart],
     names: &Names,
     store: &mut Store<Value>,
     purse: &mut Purse,
 ) -> Result<Tree, Stop>
     requires accepted { IsAccepted (checked_term engine.now) }
     requires may { MayEvaluate engine.now (tasks.if_task (host_term test.now) (task_term yes.now) (task_term no.now)) names.now store.old }
+    requires parts { parts.now ≡ parts_at engine.now (tasks.if_task (host_term test.now) (task_term yes.now) (task_term no.now)) }
     ensures height { OnOk result (purse.new.height ≡ purse.old.height) }
     ensures layers { store.new.layers ≡ store.old.layers }
     ensures ran { RunsEvaluation engine.now (tasks.if_task (host_term test.now) (task_term yes.now) (task_term no.now)) names.now store.old
@@ -293,11 +317,12 @@ fn if_form(
 {
     let v = host_value(engine, test, names, store, purse)?;
     let holds = truth(&v);
+    let two = TwoParts::of(parts);
     if holds {
-        evaluate_at(engine, yes, names, store, purse)
+        evaluate_at(engine, yes, two.first, names, store, purse)
     } else {
-        let after = names_after(engine, yes, names);
-        evaluate_at(engine, no, &after, store, purse)
+        let after = names_after(engine, two.nodes, names);
+        evaluate_at(engine, no, two.second, &after, store, purse)
     }
 }
 
@@ -309,6 +334,7 @@ fn case_form(
     head: &TaskText,
     tail: &TaskText,
     more: &Task,
+    parts: &[FirstPart],
     names: &Names,
     store: &mut Store<Value>,
     purse: &mut Purse,
@@ -316,6 +342,8 @@ fn case_form(
     requires accepted { IsAccepted (checked_term engine.now) }
     requires may { MayEvaluate engine.now
         (tasks.case_task (host_term list.now) (task_term empty.now) head.now tail.now (task_term more.now)) names.now store.old }
+    requires parts { parts.now ≡ parts_at engine.now
+        (tasks.case_task (host_term list.now) (task_term empty.now) head.now tail.now (task_term more.now)) }
     ensures height { OnOk result (purse.new.height ≡ purse.old.height) }
     ensures layers { store.new.layers ≡ store.old.layers }
     ensures ran { RunsEvaluation engine.now
@@ -323,16 +351,17 @@ fn case_form(
         purse.old purse.new result }
 {
     let v = host_value(engine, list, names, store, purse)?;
-    let parts = HeadAndTail::of(&v)?;
-    match parts {
-        None => evaluate_at(engine, empty, names, store, purse),
-        Some(parts) => {
-            let first = Slot::Plain(parts.head);
-            let rest = Slot::Plain(parts.tail);
-            let after = names_after(engine, empty, names);
+    let ends = HeadAndTail::of(&v)?;
+    let two = TwoParts::of(parts);
+    match ends {
+        None => evaluate_at(engine, empty, two.first, names, store, purse),
+        Some(ends) => {
+            let first = Slot::Plain(ends.head);
+            let rest = Slot::Plain(ends.tail);
+            let after = names_after(engine, two.nodes, names);
             let outer = after.with(&*head, &first);
             let inner = outer.with(&*tail, &rest);
-            evaluate_at(engine, more, &inner, store, purse)
+            evaluate_at(engine, more, two.second, &inner, store, purse)
         }
     }
 }
@@ -343,12 +372,14 @@ fn new_form(
     name: &TaskText,
     e: &Host,
     rest: &Task,
+    parts: &[FirstPart],
     names: &Names,
     store: &mut Store<Value>,
     purse: &mut Purse,
 ) -> Result<Tree, Stop>
     requires accepted { IsAccepted (checked_term engine.now) }
     requires may { MayEvaluate engine.now (tasks.new_task name.now (host_term e.now) (task_term rest.now)) names.now store.old }
+    requires parts { parts.now ≡ parts_at engine.now (task_term rest.now) }
     ensures height { OnOk result (purse.new.height ≡ purse.old.height) }
     ensures layers { store.new.layers ≡ store.old.layers }
     ensures ran { RunsEvaluation engine.now (tasks.new_task name.now (host_term e.now) (task_term rest.now)) names.now store.old store.new
@@ -358,7 +389,7 @@ fn new_form(
     let place = store.grow(v)?;
     let slot = Slot::Place(place);
     let inner = (&*names).with(&*name, &slot);
-    evaluate_at(engine, rest, &inner, store, purse)
+    evaluate_at(engine, rest, parts, &inner, store, purse)
 }
 
 #[cycle(evaluate)]
@@ -367,12 +398,14 @@ fn put_form(
     name: &TaskText,
     e: &Host,
     rest: &Task,
+    parts: &[FirstPart],
     names: &Names,
     store: &mut Store<Value>,
     purse: &mut Purse,
 ) -> Result<Tree, Stop>
     requires accepted { IsAccepted (checked_term engine.now) }
     requires may { MayEvaluate engine.now (tasks.put_task name.now (host_term e.now) (task_term rest.now)) names.now store.old }
+    requires parts { parts.now ≡ parts_at engine.now (task_term rest.now) }
     ensures height { OnOk result (purse.new.height ≡ purse.old.height) }
     ensures layers { store.new.layers ≡ store.old.layers }
     ensures ran { RunsEvaluation engine.now (tasks.put_task name.now (host_term e.now) (task_term rest.now)) names.now store.old store.new
@@ -381,7 +414,7 @@ fn put_form(
     let place = place_named(names, name);
     let v = host_value(engine, e, names, store, purse)?;
     store.set(place, v)?;
-    evaluate_at(engine, rest, names, store, purse)
+    evaluate_at(engine, rest, parts, names, store, purse)
 }
 
 #[cycle(evaluate)]
@@ -418,6 +451,7 @@ fn call_at(
     requires well { Well (checked_term engine.now)
         (task_call_plan (seen_callee callee.now) (map host_term args.now) (names_term names.now) (values_in store.old)) }
     requires paired { IsPaired (names_term names.now) }
+    requires parts { callee.now.parts.now ≡ parts_at engine.now (task_term callee.now.task.now) }
     ensures height { OnOk result (purse.new.height ≡ purse.old.height) }
     ensures layers { store.new.layers ≡ store.old.layers }
     ensures ran { RunsPlan (checked_term engine.now)
@@ -428,5 +462,5 @@ fn call_at(
     let params = callee.params;
     let slots = argument_slots(engine, args, params, names, store, purse)?;
     let inner = Names::of_params(params, slots.as_slice(), callee.first);
-    evaluate_at(engine, callee.task, &inner, store, purse)
+    evaluate_at(engine, callee.task, callee.parts, &inner, store, purse)
 }

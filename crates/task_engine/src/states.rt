@@ -1,4 +1,4 @@
-ghost use Rattle.std.specs.Prelude.{◌≡◌, map, IfOk, None};
+ghost use Rattle.std.specs.Prelude.{◌≡◌, map, slice_get, IfOk, IfSome, IsSome, None};
 ghost use Rattle.task_model.specs.Terms.Value.{value_term};
 ghost use Rattle.task_model.specs.Terms.Task.{task_term};
 ghost use Rattle.task_model.specs.Terms.Tree.{cont_term, tree_term, at};
@@ -85,7 +85,31 @@ pub fn normalise(
 {
     // The program of an engine is accepted.
     let _accepted = engine.checked().program();
-    normal_at(engine, t, names, store, purse)
+    let parts = engine.parts_of(t)?;
+    normal_at(engine, t, parts.as_slice(), names, store, purse)
+}
+
+/// The task of a body, normalised.
+pub fn normalise_body(
+    engine: &Engine,
+    body: u32,
+    names: &Names,
+    store: &mut Store<Value>,
+    purse: &mut Purse,
+) -> Result<Tree, Stop>
+    requires body { IsSome (slice_get (checked_term engine.now).program.bodies body) }
+    requires may { IfSome (slice_get (checked_term engine.now).program.bodies body)
+        (λ own. MayAsk (checked_term engine.now) (normal own.task (names_term names.now) (map value_term store.old.list))) }
+    ensures layers { store.new.layers ≡ store.old.layers }
+    ensures spends { IfSome (slice_get (checked_term engine.now).program.bodies body)
+        (λ own. Spends (judgements.Normal (checked_term engine.now) own.task (names_term names.now) (map value_term store.old.list))
+        (λ u. at (tree_term u) (map value_term store.new.list)) purse.old purse.new result) }
+{
+    // The program of an engine is accepted.
+    let _accepted = engine.checked().program();
+    let own = engine.body(body);
+    let parts = engine.parts_of_body(body);
+    normal_at(engine, &own.task, parts, names, store, purse)
 }
 
 /// A cont at a value: its body's task with its slots and the value, evaluated.

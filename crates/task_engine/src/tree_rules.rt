@@ -12,21 +12,23 @@ ghost use Rattle.task_model.specs.Running.Rules as rules;
 ghost use Rattle.task_model.specs.Syntax.Calls.{RunsJudgement, RunsPlan};
 ghost use Rattle.typing_laws.specs.Well.{MayAsk, Well};
 ghost use Rattle.host_eval.specs.NamesTerm.{names_term};
+ghost use Rattle.task_engine.specs.FirstParts.{parts_at};
 ghost use Rattle.task_engine.specs.Stores.{values_in, state_in, state_after, MayStride, RunsStride};
-ghost use Rattle.task_engine.specs.Strides.{Calm, after_stride, state_at, attempt, Binds, BindsNone, AnswersStride};
+ghost use Rattle.task_engine.specs.Strides.{after_stride, TellsValue, state_at, attempt, Binds, BindsNone, AnswersStride};
 
 use crate::engine::{Engine, binder_of};
 use crate::evaluation::evaluate_at;
-use crate::kinds::{PairKind, StepKind};
+use crate::first_part::FirstPart;
+use crate::kinds::StepKind;
 use crate::quiet::quiet_value;
-use crate::strode::{or_of, pair_of, step_of, strode_has_value, strode_tree, strode_value};
+use crate::strode::{Strode, and_of, or_of, step_of, still, strode_tree, strode_value};
 use crate::unchanged::is_unchanged;
 use host_eval::Names;
 use shared_store::Store;
 use std::alloc::Global;
 use std::sync::Arc;
 use task_model::{Cont, Delay, OutOfMemory, Purse, Slot, Stop, Task, Tree, Value};
-use task_tree::same;
+use task_tree::{has_value, same};
 
 /// Whether a tree is failing. The store stays.
 #[cycle(engine)]
@@ -147,7 +149,14 @@ pub(crate) fn side_fails(
 {
     let own = engine.body(k.body);
     let names = Names::of_scope(&own.scope, k.slots.as_slice(), engine.body_first(k.body));
-    tested(engine, &own.task, &names, store, purse)
+    tested(
+        engine,
+        &own.task,
+        engine.parts_of_body(k.body),
+        &names,
+        store,
+        purse,
+    )
 }
 
 /// Whether a cont at a value is failing. The store stays.
@@ -171,7 +180,14 @@ pub(crate) fn step_fails(
     let slot = Slot::Plain(v);
     let outer = Names::of_scope(&own.scope, k.slots.as_slice(), engine.body_first(k.body));
     let names = outer.with(binder_of(own), &slot);
-    tested(engine, &own.task, &names, store, purse)
+    tested(
+        engine,
+        &own.task,
+        engine.parts_of_body(k.body),
+        &names,
+        store,
+        purse,
+    )
 }
 
 // Whether what a task normalises to is failing, under a layer that is dropped.
@@ -179,6 +195,7 @@ pub(crate) fn step_fails(
 fn tested(
     engine: &Engine,
     t: &Task,
+    parts: &[FirstPart],
     names: &Names,
     store: &mut Store<Value>,
     purse: &mut Purse,
@@ -186,6 +203,7 @@ fn tested(
     requires accepted { IsAccepted (checked_term engine.now) }
     requires well { Well (checked_term engine.now)
         (ask (normal (task_term t.now) (names_term names.now) (values_in store.old)) (λ s. ask (fails s) give)) }
+    requires parts { parts.now ≡ parts_at engine.now (task_term t.now) }
     ensures height { OnOk result (purse.new.height ≡ purse.old.height) }
     ensures store { store.new ≡ store.old }
     ensures ran { RunsPlan (checked_term engine.now)
@@ -193,7 +211,7 @@ fn tested(
         purse.old purse.new result }
 {
     store.begin()?;
-    let failing = normal_fails(engine, t, names, store, purse);
+    let failing = normal_fails(engine, t, parts, names, store, purse);
     store.drop_layer();
     failing
 }
@@ -202,6 +220,7 @@ fn tested(
 fn normal_fails(
     engine: &Engine,
     t: &Task,
+    parts: &[FirstPart],
     names: &Names,
     store: &mut Store<Value>,
     purse: &mut Purse,
@@ -209,13 +228,14 @@ fn normal_fails(
     requires accepted { IsAccepted (checked_term engine.now) }
     requires well { Well (checked_term engine.now)
         (ask (normal (task_term t.now) (names_term names.now) (values_in store.old)) (λ s. ask (fails s) give)) }
+    requires parts { parts.now ≡ parts_at engine.now (task_term t.now) }
     ensures height { OnOk result (purse.new.height ≡ purse.old.height) }
     ensures layers { store.new.layers ≡ store.old.layers }
     ensures ran { RunsPlan (checked_term engine.now)
         (ask (normal (task_term t.now) (names_term names.now) (values_in store.old)) (λ s. ask (fails s) give)) (λ b. b)
         purse.old purse.new result }
 {
-    let u = normal_at(engine, t, names, store, purse)?;
+    let u = normal_at(engine, t, parts, names, store, purse)?;
     fails_at(engine, &u, store, purse)
 }
 
@@ -223,12 +243,14 @@ fn normal_fails(
 pub(crate) fn normal_at(
     engine: &Engine,
     t: &Task,
+    parts: &[FirstPart],
     names: &Names,
     store: &mut Store<Value>,
     purse: &mut Purse,
 ) -> Result<Tree, Stop>
     requires accepted { IsAccepted (checked_term engine.now) }
     requires may { MayAsk (checked_term engine.now) (normal (task_term t.now) (names_term names.now) (values_in store.old)) }
+    requires parts { parts.now ≡ parts_at engine.now (task_term t.now) }
     ensures height { OnOk result (purse.new.height ≡ purse.old.height) }
     ensures layers { store.new.layers ≡ store.old.layers }
     ensures asked { RunsJudgement (checked_term engine.now) (normal (task_term t.now) (names_term names.now) (values_in store.old))
@@ -236,7 +258,7 @@ pub(crate) fn normal_at(
 {
     let height = purse.height_left();
     purse.enter()?;
-    let u = normal_form(engine, t, names, store, purse)?;
+    let u = normal_form(engine, t, parts, names, store, purse)?;
     purse.leave(height);
     Ok(u)
 }
@@ -245,6 +267,7 @@ pub(crate) fn normal_at(
 fn normal_form(
     engine: &Engine,
     t: &Task,
+    parts: &[FirstPart],
     names: &Names,
     store: &mut Store<Value>,
     purse: &mut Purse,
@@ -252,13 +275,14 @@ fn normal_form(
     requires accepted { IsAccepted (checked_term engine.now) }
     requires well { Well (checked_term engine.now)
         (ask (evaluates (task_term t.now) (names_term names.now) (values_in store.old)) (λ s. stride_on s give)) }
+    requires parts { parts.now ≡ parts_at engine.now (task_term t.now) }
     ensures height { OnOk result (purse.new.height ≡ purse.old.height) }
     ensures layers { store.new.layers ≡ store.old.layers }
     ensures ran { RunsPlan (checked_term engine.now)
         (ask (evaluates (task_term t.now) (names_term names.now) (values_in store.old)) (λ s. stride_on s give)) (state_in store.new)
         purse.old purse.new result }
 {
-    let u = evaluate_at(engine, t, names, store, purse)?;
+    let u = evaluate_at(engine, t, parts, names, store, purse)?;
     stride_all(engine, u, store, purse)
 }
 
@@ -369,9 +393,30 @@ pub(crate) fn stride_at(
     ensures height { OnOk result (purse.new.height ≡ purse.old.height) }
     ensures layers { store.new.layers ≡ store.old.layers }
     ensures kept { IfOk result (λ o. o ≡ None → store.new.list ≡ store.old.list) }
-    ensures calm { IfOk result (λ o. o ≡ None → Calm (tree_term t.now) (values_in store.new)) }
     ensures asked { RunsJudgement (checked_term engine.now) (strides (state_in store.old t.now)) (state_after (tree_term t.now) store.new)
         purse.old purse.new result }
+{
+    let strode = strode_at(engine, t, store, purse)?;
+    Ok(strode.tree)
+}
+
+// The same, with whether the tree after the stride has a value: each form knows it from its parts, so no tree is walked for it but the
+// one that a step puts in.
+#[cycle(engine)]
+fn strode_at(
+    engine: &Engine,
+    t: &Tree,
+    store: &mut Store<Value>,
+    purse: &mut Purse,
+) -> Result<Strode, Stop>
+    requires accepted { IsAccepted (checked_term engine.now) }
+    requires may { MayStride engine.now (tree_term t.now) store.old }
+    ensures height { OnOk result (purse.new.height ≡ purse.old.height) }
+    ensures layers { store.new.layers ≡ store.old.layers }
+    ensures kept { IfOk result (λ s. s.tree ≡ None → store.new.list ≡ store.old.list) }
+    ensures valued { IfOk result (TellsValue (tree_term t.now) (values_in store.new)) }
+    ensures asked { RunsJudgement (checked_term engine.now) (strides (state_in store.old t.now))
+        (λ s. state_after (tree_term t.now) store.new s.tree) purse.old purse.new result }
 {
     let height = purse.height_left();
     purse.enter()?;
@@ -387,21 +432,21 @@ fn stride_form(
     t: &Tree,
     store: &mut Store<Value>,
     purse: &mut Purse,
-) -> Result<Option<Tree>, Stop>
+) -> Result<Strode, Stop>
     requires accepted { IsAccepted (checked_term engine.now) }
     requires may { MayStride engine.now (tree_term t.now) store.old }
     ensures height { OnOk result (purse.new.height ≡ purse.old.height) }
     ensures layers { store.new.layers ≡ store.old.layers }
-    ensures kept { IfOk result (λ o. o ≡ None → store.new.list ≡ store.old.list) }
-    ensures calm { IfOk result (λ o. o ≡ None → Calm (tree_term t.now) (values_in store.new)) }
+    ensures kept { IfOk result (λ s. s.tree ≡ None → store.new.list ≡ store.old.list) }
+    ensures valued { IfOk result (TellsValue (tree_term t.now) (values_in store.new)) }
     ensures ran { RunsStride engine.now (tree_term t.now) store.old store.new purse.old purse.new result }
 {
     match t {
-        Tree::Edit(..) => Ok(None),
-        Tree::Enter(_) => Ok(None),
-        Tree::Share(..) => Ok(None),
-        Tree::Fail => Ok(None),
-        Tree::Xor(..) => Ok(None),
+        Tree::Edit(..) => Ok(still(true)),
+        Tree::Enter(_) => Ok(still(false)),
+        Tree::Share(..) => Ok(still(true)),
+        Tree::Fail => Ok(still(false)),
+        Tree::Xor(..) => Ok(still(false)),
         Tree::Then(left, k) => then_form(engine, left, k, store, purse),
         Tree::Next(left, k) => next_form(engine, left, k, store, purse),
         Tree::And(a, b) => and_form(engine, a, b, store, purse),
@@ -416,17 +461,18 @@ fn next_form(
     k: &Cont,
     store: &mut Store<Value>,
     purse: &mut Purse,
-) -> Result<Option<Tree>, Stop>
+) -> Result<Strode, Stop>
     requires accepted { IsAccepted (checked_term engine.now) }
     requires may { MayStride engine.now (trees.next_tree (tree_term left.now) (cont_term k.now)) store.old }
     ensures height { OnOk result (purse.new.height ≡ purse.old.height) }
     ensures layers { store.new.layers ≡ store.old.layers }
-    ensures kept { IfOk result (λ o. o ≡ None → store.new.list ≡ store.old.list) }
+    ensures kept { IfOk result (λ s. s.tree ≡ None → store.new.list ≡ store.old.list) }
+    ensures valued { IfOk result (TellsValue (trees.next_tree (tree_term left.now) (cont_term k.now)) (values_in store.new)) }
     ensures ran { RunsStride engine.now (trees.next_tree (tree_term left.now) (cont_term k.now))
         store.old store.new purse.old purse.new result }
 {
-    let strode = stride_at(engine, left, store, purse)?;
-    Ok(step_of(engine.alloc(), StepKind::Next, strode, k)?)
+    let strode = strode_at(engine, left, store, purse)?;
+    Ok(step_of(engine.alloc(), StepKind::Next, strode.tree, k)?)
 }
 
 #[cycle(engine)]
@@ -436,20 +482,20 @@ fn and_form(
     b: &Arc<Tree>,
     store: &mut Store<Value>,
     purse: &mut Purse,
-) -> Result<Option<Tree>, Stop>
+) -> Result<Strode, Stop>
     requires accepted { IsAccepted (checked_term engine.now) }
     requires may { MayStride engine.now (trees.and_tree (tree_term (arc_value a.now)) (tree_term (arc_value b.now))) store.old }
     ensures height { OnOk result (purse.new.height ≡ purse.old.height) }
     ensures layers { store.new.layers ≡ store.old.layers }
-    ensures kept { IfOk result (λ o. o ≡ None → store.new.list ≡ store.old.list) }
-    ensures calm { IfOk result
-        (λ o. o ≡ None → Calm (trees.and_tree (tree_term (arc_value a.now)) (tree_term (arc_value b.now))) (values_in store.new)) }
+    ensures kept { IfOk result (λ s. s.tree ≡ None → store.new.list ≡ store.old.list) }
+    ensures valued { IfOk result
+        (TellsValue (trees.and_tree (tree_term (arc_value a.now)) (tree_term (arc_value b.now))) (values_in store.new)) }
     ensures ran { RunsStride engine.now (trees.and_tree (tree_term (arc_value a.now)) (tree_term (arc_value b.now)))
         store.old store.new purse.old purse.new result }
 {
-    let t = stride_at(engine, a, store, purse)?;
-    let u = stride_at(engine, b, store, purse)?;
-    Ok(pair_of(engine.alloc(), PairKind::And, t, a, u, b)?)
+    let t = strode_at(engine, a, store, purse)?;
+    let u = strode_at(engine, b, store, purse)?;
+    Ok(and_of(engine.alloc(), t, a, u, b)?)
 }
 
 #[cycle(engine)]
@@ -459,23 +505,27 @@ fn or_form(
     b: &Arc<Tree>,
     store: &mut Store<Value>,
     purse: &mut Purse,
-) -> Result<Option<Tree>, Stop>
+) -> Result<Strode, Stop>
     requires accepted { IsAccepted (checked_term engine.now) }
     requires may { MayStride engine.now (trees.or_tree (tree_term (arc_value a.now)) (tree_term (arc_value b.now))) store.old }
     ensures height { OnOk result (purse.new.height ≡ purse.old.height) }
     ensures layers { store.new.layers ≡ store.old.layers }
-    ensures kept { IfOk result (λ o. o ≡ None → store.new.list ≡ store.old.list) }
-    ensures calm { IfOk result
-        (λ o. o ≡ None → Calm (trees.or_tree (tree_term (arc_value a.now)) (tree_term (arc_value b.now))) (values_in store.new)) }
+    ensures kept { IfOk result (λ s. s.tree ≡ None → store.new.list ≡ store.old.list) }
+    ensures valued { IfOk result
+        (TellsValue (trees.or_tree (tree_term (arc_value a.now)) (tree_term (arc_value b.now))) (values_in store.new)) }
     ensures ran { RunsStride engine.now (trees.or_tree (tree_term (arc_value a.now)) (tree_term (arc_value b.now)))
         store.old store.new purse.old purse.new result }
 {
-    let t = stride_at(engine, a, store, purse)?;
-    if strode_has_value(&t, a, store) {
-        Ok(Some(strode_tree(t, a)?))
+    let t = strode_at(engine, a, store, purse)?;
+    if t.valued {
+        let tree = strode_tree(t.tree, a)?;
+        Ok(Strode {
+            tree: Some(tree),
+            valued: true,
+        })
     } else {
-        let u = stride_at(engine, b, store, purse)?;
-        Ok(or_of(engine.alloc(), t, a, u, b, store)?)
+        let u = strode_at(engine, b, store, purse)?;
+        Ok(or_of(engine.alloc(), t.tree, a, u, b)?)
     }
 }
 
@@ -486,16 +536,17 @@ fn then_form(
     k: &Cont,
     store: &mut Store<Value>,
     purse: &mut Purse,
-) -> Result<Option<Tree>, Stop>
+) -> Result<Strode, Stop>
     requires accepted { IsAccepted (checked_term engine.now) }
     requires may { MayStride engine.now (trees.then_tree (tree_term left.now) (cont_term k.now)) store.old }
     ensures height { OnOk result (purse.new.height ≡ purse.old.height) }
     ensures layers { store.new.layers ≡ store.old.layers }
-    ensures kept { IfOk result (λ o. o ≡ None → store.new.list ≡ store.old.list) }
+    ensures kept { IfOk result (λ s. s.tree ≡ None → store.new.list ≡ store.old.list) }
+    ensures valued { IfOk result (TellsValue (trees.then_tree (tree_term left.now) (cont_term k.now)) (values_in store.new)) }
     ensures ran { RunsStride engine.now (trees.then_tree (tree_term left.now) (cont_term k.now))
         store.old store.new purse.old purse.new result }
 {
-    let strode = stride_at(engine, left, store, purse)?;
+    let strode = strode_at(engine, left, store, purse)?;
     fired(engine, left, strode, k, store, purse)
 }
 
@@ -504,32 +555,33 @@ fn then_form(
 fn fired(
     engine: &Engine,
     left: &Tree,
-    strode: Option<Tree>,
+    strode: Strode,
     k: &Cont,
     store: &mut Store<Value>,
     purse: &mut Purse,
-) -> Result<Option<Tree>, Stop>
+) -> Result<Strode, Stop>
     requires accepted { IsAccepted (checked_term engine.now) }
     requires well { Well (checked_term engine.now)
-        (rules.fired (checked_term engine.now) (rules.value_of (after_stride (tree_term left.now) strode) (values_in store.old))
-        (cont_term k.now) (at (after_stride (tree_term left.now) strode) (values_in store.old))) }
+        (rules.fired (checked_term engine.now) (rules.value_of (after_stride (tree_term left.now) strode.tree) (values_in store.old))
+        (cont_term k.now) (at (after_stride (tree_term left.now) strode.tree) (values_in store.old))) }
     requires bound { Binds (checked_term engine.now) (cont_term k.now).body }
-    requires calm { strode ≡ None → Calm (tree_term left.now) (values_in store.old) }
+    requires valued { TellsValue (tree_term left.now) (values_in store.old) strode }
     ensures height { OnOk result (purse.new.height ≡ purse.old.height) }
     ensures layers { store.new.layers ≡ store.old.layers }
-    ensures kept { IfOk result (λ o. o ≡ None → (strode ≡ None) × (store.new.list ≡ store.old.list)) }
+    ensures kept { IfOk result (λ s. s.tree ≡ None → (strode.tree ≡ None) × (store.new.list ≡ store.old.list)) }
+    ensures valued { IfOk result (TellsValue (trees.then_tree (tree_term left.now) (cont_term k.now)) (values_in store.new)) }
     ensures ran { RunsPlan (checked_term engine.now)
-        (rules.fired (checked_term engine.now) (rules.value_of (after_stride (tree_term left.now) strode) (values_in store.old))
-        (cont_term k.now) (at (after_stride (tree_term left.now) strode) (values_in store.old)))
-        (state_after (trees.then_tree (tree_term left.now) (cont_term k.now)) store.new) purse.old purse.new result }
+        (rules.fired (checked_term engine.now) (rules.value_of (after_stride (tree_term left.now) strode.tree) (values_in store.old))
+        (cont_term k.now) (at (after_stride (tree_term left.now) strode.tree) (values_in store.old)))
+        (λ s. state_after (trees.then_tree (tree_term left.now) (cont_term k.now)) store.new s.tree) purse.old purse.new result }
 {
-    if !strode_has_value(&strode, left, store) {
-        return Ok(step_of(engine.alloc(), StepKind::Then, strode, k)?);
+    if !strode.valued {
+        return Ok(step_of(engine.alloc(), StepKind::Then, strode.tree, k)?);
     }
-    let value = strode_value(engine.alloc(), &strode, left, store)?;
+    let value = strode_value(engine.alloc(), &strode.tree, left, store)?;
     match value {
         None => unreachable!(),
-        Some(v) => fired_at(engine, left, strode, v, k, store, purse),
+        Some(v) => fired_at(engine, left, strode.tree, v, k, store, purse),
     }
 }
 
@@ -543,7 +595,7 @@ fn fired_at(
     k: &Cont,
     store: &mut Store<Value>,
     purse: &mut Purse,
-) -> Result<Option<Tree>, Stop>
+) -> Result<Strode, Stop>
     requires accepted { IsAccepted (checked_term engine.now) }
     requires well { Well (checked_term engine.now)
         (rules.fired (checked_term engine.now) (Some (value_term v)) (cont_term k.now)
@@ -551,15 +603,22 @@ fn fired_at(
     requires bound { Binds (checked_term engine.now) (cont_term k.now).body }
     ensures height { OnOk result (purse.new.height ≡ purse.old.height) }
     ensures layers { store.new.layers ≡ store.old.layers }
-    ensures kept { IfOk result (λ o. o ≡ None → (strode ≡ None) × (store.new.list ≡ store.old.list)) }
+    ensures kept { IfOk result (λ s. s.tree ≡ None → (strode ≡ None) × (store.new.list ≡ store.old.list)) }
+    ensures valued { IfOk result (TellsValue (trees.then_tree (tree_term left.now) (cont_term k.now)) (values_in store.new)) }
     ensures ran { RunsPlan (checked_term engine.now)
         (rules.fired (checked_term engine.now) (Some (value_term v)) (cont_term k.now)
         (at (after_stride (tree_term left.now) strode) (values_in store.old)))
-        (state_after (trees.then_tree (tree_term left.now) (cont_term k.now)) store.new) purse.old purse.new result }
+        (λ s. state_after (trees.then_tree (tree_term left.now) (cont_term k.now)) store.new s.tree) purse.old purse.new result }
 {
     let tried = tried(engine, k, v, store, purse)?;
     match tried {
-        Some(t) => Ok(Some(t)),
+        Some(t) => {
+            let valued = has_value(&t, store);
+            Ok(Strode {
+                tree: Some(t),
+                valued,
+            })
+        }
         None => Ok(step_of(engine.alloc(), StepKind::Then, strode, k)?),
     }
 }
@@ -635,7 +694,14 @@ pub(crate) fn apply_at(
     let slot = Slot::Plain(v);
     let outer = Names::of_scope(&own.scope, k.slots.as_slice(), engine.body_first(k.body));
     let names = outer.with(binder_of(own), &slot);
-    evaluate_at(engine, &own.task, &names, store, purse)
+    evaluate_at(
+        engine,
+        &own.task,
+        engine.parts_of_body(k.body),
+        &names,
+        store,
+        purse,
+    )
 }
 
 // The end of a stride's layer: nothing is answered where tree and values are as they were. After a stop what it wrote is undone.

@@ -16,12 +16,17 @@ use Rattle.world_core.specs.contracts.world.World.TheInside as within
 use Rattle.host_eval.specs.contracts.definitions.Definitions as definitions
 use Rattle.task_engine.specs.contracts.engine.Engine as engine
 use Rattle.task_engine.specs.contracts.engine.Engine.TheInside as inside
+use Rattle.task_engine.specs.contracts.first_part.FirstPart as first_part
 
 u32_send : IsSend (as_row u32-field)
 u32_send = search sendable
 
+first_part_send : IsSend first_part.the_row
+first_part_send = declared_send first_part.the_type (search sendable, (search sendable, tt))
+
 pub engine_send : IsSend definitions.the_row → IsSend engine.the_row
 engine_send d =
+    let rows_of_parts = rows.the_send _ (rows.the_send first_part.the_row first_part_send) in
     let parts : FieldsHave IsSend inside.the_type.parts = (
       search (crosses, as_row_send, sendable) depth 20,
       (
@@ -30,7 +35,10 @@ engine_send d =
           search (crosses, as_row_send, sendable) depth 20,
           (
             search (rows.the_send, crosses, as_row_send, sendable) depth 20,
-            (search (rows.the_send, crosses, as_row_send, sendable) depth 20, tt),
+            (
+              search (rows.the_send, crosses, as_row_send, sendable) depth 20,
+              (rows_of_parts, (rows_of_parts, tt)),
+            ),
           ),
         ),
       ),

@@ -21,6 +21,9 @@ body-own-requires c = well_found _ _ (side_well c.requires.accepted c.requires.f
 pub body_first-requires : goal.body_first-requires
 body_first-requires c = well_found _ _ (side_well c.requires.accepted c.requires.fits)
 
+pub unless_failing-requires-clause-body : goal.unless_failing-requires-clause-body
+unless_failing-requires-clause-body c = well_found _ _ (side_well c.requires.accepted c.requires.fits)
+
 pub unless_failing-requires-clause-well : goal.unless_failing-requires-clause-well
 unless_failing-requires-clause-well c =
     let slots = ap (map slot_term) (c.as_slice.ensures ∙ ap (λ (r : Rowed Slot). r.list) c.deref.ensures) in
@@ -30,7 +33,7 @@ unless_failing-requires-clause-well c =
     let f : BodyTerm → Plan (Option State) = λ b. ask (normal b.task (opened_env (checked_term c.args.engine.now) c.args.k.now.body b
     (delay_term c.args.k.now).slots) (map value_term c.args.store.now.list))
     (λ s. ask (fails s) (λ no. branch no (give None) (give (Some s)))) in
-    rw env (well_known _ f _ c.body-own.ensures (side_well c.requires.accepted c.requires.fits))
+    rw c.body-own.ensures (rw env (well_known _ f _ c.body-own.ensures (side_well c.requires.accepted c.requires.fits)))
 
 pub returns-clause-ran : goal.returns-clause-ran
 returns-clause-ran c =
@@ -41,4 +44,4 @@ returns-clause-ran c =
     let f : BodyTerm → Plan (Option State) = λ b. ask (normal b.task (opened_env (checked_term c.args.engine.now) c.args.k.now.body b
     (delay_term c.args.k.now).slots) (map value_term c.args.store.now.list))
     (λ s. ask (fails s) (λ no. branch no (give None) (give (Some s)))) in
-    ran_known_ok f c.body-own.ensures (rw env at c.unless_failing.ensures.ran)
+    ran_known_ok f c.body-own.ensures (rw env at (rw c.body-own.ensures at c.unless_failing.ensures.ran))

@@ -24,6 +24,9 @@ body_first-requires c = well_found _ _ (step_well c.requires.accepted c.requires
 pub binder_of-requires : goal.binder_of-requires
 binder_of-requires c = cont_binds c.requires.accepted c.requires.fits _ c.body-own.ensures
 
+pub unless_failing-requires-clause-body : goal.unless_failing-requires-clause-body
+unless_failing-requires-clause-body c = well_found _ _ (step_well c.requires.accepted c.requires.fits)
+
 pub unless_failing-requires-clause-well : goal.unless_failing-requires-clause-well
 unless_failing-requires-clause-well c =
     let slots = ap (map slot_term) (c.as_slice.ensures ∙ ap (λ (r : Rowed Slot). r.list) c.deref.ensures) in
@@ -33,7 +36,7 @@ unless_failing-requires-clause-well c =
     let f : BodyTerm → Plan (Option State) = λ b. ask (normal b.task (opened_env (checked_term c.args.engine.now) c.args.k.now.body b
     ((cont_term c.args.k.now).slots ++ plain_slot (value_term c.args.v) ∷ [])) (map value_term c.args.store.now.list))
     (λ s. ask (fails s) (λ no. branch no (give None) (give (Some s)))) in
-    rw env (well_known _ f _ c.body-own.ensures (step_well c.requires.accepted c.requires.fits))
+    rw c.body-own.ensures (rw env (well_known _ f _ c.body-own.ensures (step_well c.requires.accepted c.requires.fits)))
 
 pub returns-clause-ran : goal.returns-clause-ran
 returns-clause-ran c =
@@ -44,4 +47,4 @@ returns-clause-ran c =
     let f : BodyTerm → Plan (Option State) = λ b. ask (normal b.task (opened_env (checked_term c.args.engine.now) c.args.k.now.body b
     ((cont_term c.args.k.now).slots ++ plain_slot (value_term c.args.v) ∷ [])) (map value_term c.args.store.now.list))
     (λ s. ask (fails s) (λ no. branch no (give None) (give (Some s)))) in
-    ran_known_ok f c.body-own.ensures (rw env at c.unless_failing.ensures.ran)
+    ran_known_ok f c.body-own.ensures (rw env at (rw c.body-own.ensures at c.unless_failing.ensures.ran))

@@ -6,7 +6,7 @@ use Rattle.task_model.specs.Terms.Env.{plain_slot, place_slot, EnvTerm}
 use Rattle.task_model.specs.Terms.Host.{host_term}
 use Rattle.task_model.specs.Terms.Task.{task_term, share}
 use Rattle.task_model.specs.Terms.Tree.{State}
-use Rattle.task_model.specs.Running.Checked.{checked_term, nodes_of}
+use Rattle.task_model.specs.Running.Checked.{checked_term, counts_of, nodes_of}
 use Rattle.task_model.specs.Running.Plan.{Plan, gives_value, evaluates, give, ask}
 use Rattle.task_model.specs.Running.Rules.{bound, branch, later_by, evaluate_rule}
 use Rattle.task_laws.proofs.RanLemmas.{stopped, ran_give, ran_ask, ran_ask_stops, ran_last, ran_after, ran_after_stops, ran_unit, asked_rule, asked_rule_stops}
@@ -15,8 +15,10 @@ use Rattle.host_eval.proofs.RunLemmas.{ran_is, ran_known_ok, placed_is, chosen_i
 use Rattle.host_eval.proofs.WellLemmas.{well_is, well_found}
 use Rattle.typing_laws.proofs.CallLemmas.{well_ask, well_next, well_unit, well_first, well_after, well_known}
 use Rattle.task_engine.proofs.AskLemmas.{may_arm, well_task, within_types, task_paired, put_within}
+use Rattle.task_engine.specs.FirstParts.{parts_at}
 use Rattle.task_engine.specs.Stores.{values_in}
 use Rattle.task_engine.proofs.PlanLemmas.{ran_made_at, share_is, step_is, pair_is, pair_nodes, asked_task, ran_call, well_call}
+use Rattle.task_engine.proofs.PartLemmas.{parts_arm, step_parts, pair_parts}
 use Rattle.task_engine.proofs.evaluation.+evaluate.Goals as goal
 
 -- ---- under a rule
@@ -67,16 +69,32 @@ evaluate_form-returns-in_ok-xor_later-in-Xor-clause-ran t c =
     rw c.in-Xor.is (ran_made_at _ c.in_ok-xor_later-in-Xor.ensures)
 
 pub evaluate_form-step_form-requires : goal.evaluate_form-step_form-requires
-evaluate_form-step_form-requires t c =
-    (search rules, (c.requires.accepted, rw (c.deref.ensures) (may_arm (ap task_term c.in-Then.is) c.requires.may)))
+evaluate_form-step_form-requires t c = (
+  search rules,
+  (
+    c.requires.accepted,
+    (
+      rw (c.deref.ensures) (may_arm (ap task_term c.in-Then.is) c.requires.may),
+      rw (c.deref.ensures) (parts_arm c.args.engine.now (ap task_term c.in-Then.is) c.requires.parts),
+    ),
+  ),
+)
 
 pub evaluate_form-returns-in-Then-clause-ran : goal.evaluate_form-returns-in-Then-clause-ran
 evaluate_form-returns-in-Then-clause-ran t c =
     rw (c.in-Then.is, ← c.deref.ensures) c.step_form.ensures.ran
 
 pub evaluate_form-step_form-requires-in-Next : goal.evaluate_form-step_form-requires-in-Next
-evaluate_form-step_form-requires-in-Next t c =
-    (search rules, (c.requires.accepted, rw (c.deref-in-Next.ensures) (may_arm (ap task_term c.in-Next.is) c.requires.may)))
+evaluate_form-step_form-requires-in-Next t c = (
+  search rules,
+  (
+    c.requires.accepted,
+    (
+      rw (c.deref-in-Next.ensures) (may_arm (ap task_term c.in-Next.is) c.requires.may),
+      rw (c.deref-in-Next.ensures) (parts_arm c.args.engine.now (ap task_term c.in-Next.is) c.requires.parts),
+    ),
+  ),
+)
 
 pub evaluate_form-returns-in-Next-clause-ran : goal.evaluate_form-returns-in-Next-clause-ran
 evaluate_form-returns-in-Next-clause-ran t c =
@@ -85,7 +103,13 @@ evaluate_form-returns-in-Next-clause-ran t c =
 pub evaluate_form-pair_form-requires : goal.evaluate_form-pair_form-requires
 evaluate_form-pair_form-requires t c = (
   search rules,
-  (c.requires.accepted, rw (c.deref-in-And.ensures, c.deref-in-And-2.ensures) (may_arm (ap task_term c.in-And.is) c.requires.may)),
+  (
+    c.requires.accepted,
+    (
+      rw (c.deref-in-And.ensures, c.deref-in-And-2.ensures) (may_arm (ap task_term c.in-And.is) c.requires.may),
+      rw (c.deref-in-And.ensures, c.deref-in-And-2.ensures) (parts_arm c.args.engine.now (ap task_term c.in-And.is) c.requires.parts),
+    ),
+  ),
 )
 
 pub evaluate_form-returns-in-And-clause-ran : goal.evaluate_form-returns-in-And-clause-ran
@@ -95,7 +119,13 @@ evaluate_form-returns-in-And-clause-ran t c =
 pub evaluate_form-pair_form-requires-in-Or : goal.evaluate_form-pair_form-requires-in-Or
 evaluate_form-pair_form-requires-in-Or t c = (
   search rules,
-  (c.requires.accepted, rw (c.deref-in-Or.ensures, c.deref-in-Or-2.ensures) (may_arm (ap task_term c.in-Or.is) c.requires.may)),
+  (
+    c.requires.accepted,
+    (
+      rw (c.deref-in-Or.ensures, c.deref-in-Or-2.ensures) (may_arm (ap task_term c.in-Or.is) c.requires.may),
+      rw (c.deref-in-Or.ensures, c.deref-in-Or-2.ensures) (parts_arm c.args.engine.now (ap task_term c.in-Or.is) c.requires.parts),
+    ),
+  ),
 )
 
 pub evaluate_form-returns-in-Or-clause-ran : goal.evaluate_form-returns-in-Or-clause-ran
@@ -103,8 +133,16 @@ evaluate_form-returns-in-Or-clause-ran t c =
     rw (c.in-Or.is, ← c.deref-in-Or.ensures, ← c.deref-in-Or-2.ensures) c.pair_form-in-Or.ensures.ran
 
 pub evaluate_form-let_form-requires : goal.evaluate_form-let_form-requires
-evaluate_form-let_form-requires t c =
-    (search rules, (c.requires.accepted, rw (c.deref-in-Let.ensures) (may_arm (ap task_term c.in-Let.is) c.requires.may)))
+evaluate_form-let_form-requires t c = (
+  search rules,
+  (
+    c.requires.accepted,
+    (
+      rw (c.deref-in-Let.ensures) (may_arm (ap task_term c.in-Let.is) c.requires.may),
+      rw (c.deref-in-Let.ensures) (parts_arm c.args.engine.now (ap task_term c.in-Let.is) c.requires.parts),
+    ),
+  ),
+)
 
 pub evaluate_form-returns-in-Let-clause-ran : goal.evaluate_form-returns-in-Let-clause-ran
 evaluate_form-returns-in-Let-clause-ran t c =
@@ -113,7 +151,13 @@ evaluate_form-returns-in-Let-clause-ran t c =
 pub evaluate_form-if_form-requires : goal.evaluate_form-if_form-requires
 evaluate_form-if_form-requires t c = (
   search rules,
-  (c.requires.accepted, rw (c.deref-in-If.ensures, c.deref-in-If-2.ensures) (may_arm (ap task_term c.in-If.is) c.requires.may)),
+  (
+    c.requires.accepted,
+    (
+      rw (c.deref-in-If.ensures, c.deref-in-If-2.ensures) (may_arm (ap task_term c.in-If.is) c.requires.may),
+      rw (c.deref-in-If.ensures, c.deref-in-If-2.ensures) (parts_arm c.args.engine.now (ap task_term c.in-If.is) c.requires.parts),
+    ),
+  ),
 )
 
 pub evaluate_form-returns-in-If-clause-ran : goal.evaluate_form-returns-in-If-clause-ran
@@ -123,7 +167,13 @@ evaluate_form-returns-in-If-clause-ran t c =
 pub evaluate_form-case_form-requires : goal.evaluate_form-case_form-requires
 evaluate_form-case_form-requires t c = (
   search rules,
-  (c.requires.accepted, rw (c.deref-in-Case.ensures, c.deref-in-Case-2.ensures) (may_arm (ap task_term c.in-Case.is) c.requires.may)),
+  (
+    c.requires.accepted,
+    (
+      rw (c.deref-in-Case.ensures, c.deref-in-Case-2.ensures) (may_arm (ap task_term c.in-Case.is) c.requires.may),
+      rw (c.deref-in-Case.ensures, c.deref-in-Case-2.ensures) (parts_arm c.args.engine.now (ap task_term c.in-Case.is) c.requires.parts),
+    ),
+  ),
 )
 
 pub evaluate_form-returns-in-Case-clause-ran : goal.evaluate_form-returns-in-Case-clause-ran
@@ -131,16 +181,32 @@ evaluate_form-returns-in-Case-clause-ran t c =
     rw (c.in-Case.is, ← c.deref-in-Case.ensures, ← c.deref-in-Case-2.ensures) c.case_form.ensures.ran
 
 pub evaluate_form-new_form-requires : goal.evaluate_form-new_form-requires
-evaluate_form-new_form-requires t c =
-    (search rules, (c.requires.accepted, rw (c.deref-in-New.ensures) (may_arm (ap task_term c.in-New.is) c.requires.may)))
+evaluate_form-new_form-requires t c = (
+  search rules,
+  (
+    c.requires.accepted,
+    (
+      rw (c.deref-in-New.ensures) (may_arm (ap task_term c.in-New.is) c.requires.may),
+      rw (c.deref-in-New.ensures) (parts_arm c.args.engine.now (ap task_term c.in-New.is) c.requires.parts),
+    ),
+  ),
+)
 
 pub evaluate_form-returns-in-New-clause-ran : goal.evaluate_form-returns-in-New-clause-ran
 evaluate_form-returns-in-New-clause-ran t c =
     rw (c.in-New.is, ← c.deref-in-New.ensures) c.new_form.ensures.ran
 
 pub evaluate_form-put_form-requires : goal.evaluate_form-put_form-requires
-evaluate_form-put_form-requires t c =
-    (search rules, (c.requires.accepted, rw (c.deref-in-Put.ensures) (may_arm (ap task_term c.in-Put.is) c.requires.may)))
+evaluate_form-put_form-requires t c = (
+  search rules,
+  (
+    c.requires.accepted,
+    (
+      rw (c.deref-in-Put.ensures) (may_arm (ap task_term c.in-Put.is) c.requires.may),
+      rw (c.deref-in-Put.ensures) (parts_arm c.args.engine.now (ap task_term c.in-Put.is) c.requires.parts),
+    ),
+  ),
+)
 
 pub evaluate_form-returns-in-Put-clause-ran : goal.evaluate_form-returns-in-Put-clause-ran
 evaluate_form-returns-in-Put-clause-ran t c =
@@ -158,8 +224,16 @@ evaluate_form-returns-in-Call-clause-ran t c =
 pub step_form-evaluate_at-requires : goal.step_form-evaluate_at-requires
 step_form-evaluate_at-requires t c =
     let rule = step_is (checked_term c.args.engine.now) c.args.kind (task_term c.args.left.now) c.args.body (names_term c.args.names.now)
-    (values_in c.args.store.now) in
-    (search rules, (c.requires.accepted, well_ask (well_is rule (well_task _ c.requires.accepted c.requires.may))))
+    (values_in c.args.store.now) in (
+      search rules,
+      (
+        c.requires.accepted,
+        (
+          well_ask (well_is rule (well_task _ c.requires.accepted c.requires.may)),
+          c.requires.parts ∙ step_parts (counts_of (checked_term c.args.engine.now).program) c.args.kind (task_term c.args.left.now) c.args.body,
+        ),
+      ),
+    )
 
 pub step_form-returns-in_err-left-clause-ran : goal.step_form-returns-in_err-left-clause-ran
 step_form-returns-in_err-left-clause-ran t c =
@@ -175,23 +249,50 @@ step_form-returns-clause-ran t c =
 
 pub pair_form-names_after-after-requires : goal.pair_form-names_after-after-requires
 pair_form-names_after-after-requires t c =
+    let parts = c.requires.parts ∙ pair_parts (counts_of (checked_term c.args.engine.now).program) c.args.kind (task_term c.args.a.now)
+    (task_term c.args.b.now) in
     let within = within_types _ c.requires.may in
     let nodes = pair_nodes (checked_term c.args.engine.now).program c.args.kind (task_term c.args.a.now) (task_term c.args.b.now) in
-    record { within = omega (arith, within, nodes) }
+    let first = c.of-two.ensures.nodes (nodes_of (checked_term c.args.engine.now).program (task_term c.args.a.now))
+    (parts_at c.args.engine.now (task_term c.args.a.now)) (parts_at c.args.engine.now (task_term c.args.b.now)) parts in
+    record { within = omega (arith, within, nodes, first) }
 
 pub pair_form-evaluate_at-requires : goal.pair_form-evaluate_at-requires
 pair_form-evaluate_at-requires t c =
+    let parts = c.requires.parts ∙ pair_parts (counts_of (checked_term c.args.engine.now).program) c.args.kind (task_term c.args.a.now)
+    (task_term c.args.b.now) in
     let rule = pair_is (checked_term c.args.engine.now) c.args.kind (task_term c.args.a.now) (task_term c.args.b.now)
-    (names_term c.args.names.now) (values_in c.args.store.now) in
-    (search rules, (c.requires.accepted, well_ask (well_is rule (well_task _ c.requires.accepted c.requires.may))))
+    (names_term c.args.names.now) (values_in c.args.store.now) in (
+      search rules,
+      (
+        c.requires.accepted,
+        (
+          well_ask (well_is rule (well_task _ c.requires.accepted c.requires.may)),
+          c.of-two.ensures.first (nodes_of (checked_term c.args.engine.now).program (task_term c.args.a.now))
+              (parts_at c.args.engine.now (task_term c.args.a.now)) (parts_at c.args.engine.now (task_term c.args.b.now)) parts,
+        ),
+      ),
+    )
 
 pub pair_form-evaluate_at-requires-2 : goal.pair_form-evaluate_at-requires-2
 pair_form-evaluate_at-requires-2 t c =
+    let parts = c.requires.parts ∙ pair_parts (counts_of (checked_term c.args.engine.now).program) c.args.kind (task_term c.args.a.now)
+    (task_term c.args.b.now) in
+    let after = c.names_after-after.ensures
+    ∙ ap (λ n. later_by n (names_term c.args.names.now)) (c.of-two.ensures.nodes (nodes_of (checked_term c.args.engine.now).program (task_term c.args.a.now))
+    (parts_at c.args.engine.now (task_term c.args.a.now)) (parts_at c.args.engine.now (task_term c.args.b.now)) parts) in
     let rule = pair_is (checked_term c.args.engine.now) c.args.kind (task_term c.args.a.now) (task_term c.args.b.now)
     (names_term c.args.names.now) (values_in c.args.store.now) in
     let well = well_is rule (well_task _ c.requires.accepted c.requires.may) in (
       search rules,
-      (c.requires.accepted, rw c.names_after-after.ensures (well_ask (well_next c.requires.accepted well c.in_ok-t.ensures.asked))),
+      (
+        c.requires.accepted,
+        (
+          rw after (well_ask (well_next c.requires.accepted well c.in_ok-t.ensures.asked)),
+          c.of-two.ensures.second (nodes_of (checked_term c.args.engine.now).program (task_term c.args.a.now))
+              (parts_at c.args.engine.now (task_term c.args.a.now)) (parts_at c.args.engine.now (task_term c.args.b.now)) parts,
+        ),
+      ),
     )
 
 pub pair_form-returns-in_err-t-clause-ran : goal.pair_form-returns-in_err-t-clause-ran
@@ -202,16 +303,26 @@ pair_form-returns-in_err-t-clause-ran t c =
 
 pub pair_form-returns-in_err-u-clause-ran : goal.pair_form-returns-in_err-u-clause-ran
 pair_form-returns-in_err-u-clause-ran t c =
+    let parts = c.requires.parts ∙ pair_parts (counts_of (checked_term c.args.engine.now).program) c.args.kind (task_term c.args.a.now)
+    (task_term c.args.b.now) in
+    let after = c.names_after-after.ensures
+    ∙ ap (λ n. later_by n (names_term c.args.names.now)) (c.of-two.ensures.nodes (nodes_of (checked_term c.args.engine.now).program (task_term c.args.a.now))
+    (parts_at c.args.engine.now (task_term c.args.a.now)) (parts_at c.args.engine.now (task_term c.args.b.now)) parts) in
     let rule = pair_is (checked_term c.args.engine.now) c.args.kind (task_term c.args.a.now) (task_term c.args.b.now)
     (names_term c.args.names.now) (values_in c.args.store.now) in
     rw (stopped _ c.in_err-u.field-0.0 c.from_residual-in_err-u.ensures.1)
-    (ran_is rule (ran_ask _ c.in_ok-t.ensures.asked (ran_ask_stops _ (rw c.names_after-after.ensures at c.in_err-u.ensures.asked))))
+    (ran_is rule (ran_ask _ c.in_ok-t.ensures.asked (ran_ask_stops _ (rw after at c.in_err-u.ensures.asked))))
 
 pub pair_form-returns-clause-ran : goal.pair_form-returns-clause-ran
 pair_form-returns-clause-ran t c =
+    let parts = c.requires.parts ∙ pair_parts (counts_of (checked_term c.args.engine.now).program) c.args.kind (task_term c.args.a.now)
+    (task_term c.args.b.now) in
+    let after = c.names_after-after.ensures
+    ∙ ap (λ n. later_by n (names_term c.args.names.now)) (c.of-two.ensures.nodes (nodes_of (checked_term c.args.engine.now).program (task_term c.args.a.now))
+    (parts_at c.args.engine.now (task_term c.args.a.now)) (parts_at c.args.engine.now (task_term c.args.b.now)) parts) in
     let rule = pair_is (checked_term c.args.engine.now) c.args.kind (task_term c.args.a.now) (task_term c.args.b.now)
     (names_term c.args.names.now) (values_in c.args.store.now) in
-    ran_is rule (ran_ask _ c.in_ok-t.ensures.asked (ran_ask _ (rw c.names_after-after.ensures at c.in_ok-u.ensures.asked)
+    ran_is rule (ran_ask _ c.in_ok-t.ensures.asked (ran_ask _ (rw after at c.in_ok-u.ensures.asked)
     (ran_made_at _ c.in_ok-paired.ensures)))
 
 pub let_form-host_value-requires : goal.let_form-host_value-requires
@@ -223,8 +334,11 @@ let_form-evaluate_at-requires t c = (
   search rules,
   (
     c.requires.accepted,
-    rw c.with-inner.ensures
-        (well_ask (well_next c.requires.accepted (well_task _ c.requires.accepted c.requires.may) c.in_ok-v.ensures.asked)),
+    (
+      rw c.with-inner.ensures
+          (well_ask (well_next c.requires.accepted (well_task _ c.requires.accepted c.requires.may) c.in_ok-v.ensures.asked)),
+      c.requires.parts,
+    ),
   ),
 )
 
@@ -254,9 +368,13 @@ if_form-evaluate_at-requires t c =
       search rules,
       (
         c.requires.accepted,
-        well_ask (well_is (ap (λ t. branch t yes no) c.if-holds.true)
-            (well_known _ _ _ c.truth-holds.ensures (well_is (chosen_is _ yes no)
-            (well_next c.requires.accepted (well_task _ c.requires.accepted c.requires.may) c.in_ok-v.ensures.asked)))),
+        (
+          well_ask (well_is (ap (λ t. branch t yes no) c.if-holds.true)
+              (well_known _ _ _ c.truth-holds.ensures (well_is (chosen_is _ yes no)
+              (well_next c.requires.accepted (well_task _ c.requires.accepted c.requires.may) c.in_ok-v.ensures.asked)))),
+          c.of-two.ensures.first (nodes_of (checked_term c.args.engine.now).program (task_term c.args.yes.now))
+              (parts_at c.args.engine.now (task_term c.args.yes.now)) (parts_at c.args.engine.now (task_term c.args.no.now)) c.requires.parts,
+        ),
       ),
     )
 
@@ -268,10 +386,15 @@ if_form-returns-then-holds-clause-ran t c =
 pub if_form-names_after-after-requires : goal.if_form-names_after-after-requires
 if_form-names_after-after-requires t c =
     let w = within_types _ c.requires.may in
-    record { within = omega (arith, w) }
+    let first = c.of-two.ensures.nodes (nodes_of (checked_term c.args.engine.now).program (task_term c.args.yes.now))
+    (parts_at c.args.engine.now (task_term c.args.yes.now)) (parts_at c.args.engine.now (task_term c.args.no.now)) c.requires.parts in
+    record { within = omega (arith, w, first) }
 
 pub if_form-evaluate_at-requires-else-holds : goal.if_form-evaluate_at-requires-else-holds
 if_form-evaluate_at-requires-else-holds t c =
+    let after = c.names_after-after.ensures
+    ∙ ap (λ n. later_by n (names_term c.args.names.now)) (c.of-two.ensures.nodes (nodes_of (checked_term c.args.engine.now).program (task_term c.args.yes.now))
+    (parts_at c.args.engine.now (task_term c.args.yes.now)) (parts_at c.args.engine.now (task_term c.args.no.now)) c.requires.parts) in
     let yes = ask (evaluates (task_term c.args.yes.now) (names_term c.args.names.now) (map value_term c.args.store.now.list)) give in
     let no = ask (evaluates (task_term c.args.no.now)
     (later_by (nodes_of (checked_term c.args.engine.now).program (task_term c.args.yes.now)) (names_term c.args.names.now))
@@ -279,17 +402,24 @@ if_form-evaluate_at-requires-else-holds t c =
       search rules,
       (
         c.requires.accepted,
-        rw c.names_after-after.ensures (well_ask (well_is (ap (λ t. branch t yes no) c.if-holds.false)
-            (well_known _ _ _ c.truth-holds.ensures (well_is (chosen_is _ yes no)
-            (well_next c.requires.accepted (well_task _ c.requires.accepted c.requires.may) c.in_ok-v.ensures.asked))))),
+        (
+          rw after (well_ask (well_is (ap (λ t. branch t yes no) c.if-holds.false)
+              (well_known _ _ _ c.truth-holds.ensures (well_is (chosen_is _ yes no)
+              (well_next c.requires.accepted (well_task _ c.requires.accepted c.requires.may) c.in_ok-v.ensures.asked))))),
+          c.of-two.ensures.second (nodes_of (checked_term c.args.engine.now).program (task_term c.args.yes.now))
+              (parts_at c.args.engine.now (task_term c.args.yes.now)) (parts_at c.args.engine.now (task_term c.args.no.now)) c.requires.parts,
+        ),
       ),
     )
 
 pub if_form-returns-clause-ran : goal.if_form-returns-clause-ran
 if_form-returns-clause-ran t c =
+    let after = c.names_after-after.ensures
+    ∙ ap (λ n. later_by n (names_term c.args.names.now)) (c.of-two.ensures.nodes (nodes_of (checked_term c.args.engine.now).program (task_term c.args.yes.now))
+    (parts_at c.args.engine.now (task_term c.args.yes.now)) (parts_at c.args.engine.now (task_term c.args.no.now)) c.requires.parts) in
     ran_ask _ c.in_ok-v.ensures.asked
     (ran_chosen _ _ _ c.truth-holds.ensures
-    (rw c.if-holds.false (ran_last _ (rw c.names_after-after.ensures at c.evaluate_at-else-holds.ensures.asked))))
+    (rw c.if-holds.false (ran_last _ (rw after at c.evaluate_at-else-holds.ensures.asked))))
 
 pub case_form-host_value-requires : goal.case_form-host_value-requires
 case_form-host_value-requires t c =
@@ -310,12 +440,16 @@ case_form-evaluate_at-requires t c =
     let more = λ (head tail : ValueTerm). ask (evaluates (task_term c.args.more.now)
     (bound (bound (later_by (nodes_of (checked_term c.args.engine.now).program (task_term c.args.empty.now)) (names_term c.args.names.now))
     c.args.head.now (plain_slot head)) c.args.tail.now (plain_slot tail)) (map value_term c.args.store.now.list)) give in
-    let parts = rw c.in-None.is at c.in_ok-parts.ensures in (
+    let ends = rw c.in-None.is at c.in_ok-ends.ensures in (
       search rules,
       (
         c.requires.accepted,
-        well_ask (well_known _ (empty_or empty more) _ parts (well_is (matched_is _ empty more)
-            (well_next c.requires.accepted (well_task _ c.requires.accepted c.requires.may) c.in_ok-v.ensures.asked))),
+        (
+          well_ask (well_known _ (empty_or empty more) _ ends (well_is (matched_is _ empty more)
+              (well_next c.requires.accepted (well_task _ c.requires.accepted c.requires.may) c.in_ok-v.ensures.asked))),
+          c.of-two.ensures.first (nodes_of (checked_term c.args.engine.now).program (task_term c.args.empty.now))
+              (parts_at c.args.engine.now (task_term c.args.empty.now)) (parts_at c.args.engine.now (task_term c.args.more.now)) c.requires.parts,
+        ),
       ),
     )
 
@@ -325,44 +459,56 @@ case_form-returns-in-None-clause-ran t c =
     let more = λ (head tail : ValueTerm). ask (evaluates (task_term c.args.more.now)
     (bound (bound (later_by (nodes_of (checked_term c.args.engine.now).program (task_term c.args.empty.now)) (names_term c.args.names.now))
     c.args.head.now (plain_slot head)) c.args.tail.now (plain_slot tail)) (map value_term c.args.store.now.list)) give in
-    let parts = rw c.in-None.is at c.in_ok-parts.ensures in
-    ran_ask _ c.in_ok-v.ensures.asked (ran_matched _ empty more parts (ran_last _ c.evaluate_at.ensures.asked))
+    let ends = rw c.in-None.is at c.in_ok-ends.ensures in
+    ran_ask _ c.in_ok-v.ensures.asked (ran_matched _ empty more ends (ran_last _ c.evaluate_at.ensures.asked))
 
 pub case_form-names_after-after-requires : goal.case_form-names_after-after-requires
 case_form-names_after-after-requires t c =
     let w = within_types _ c.requires.may in
-    record { within = omega (arith, w) }
+    let first = c.of-two.ensures.nodes (nodes_of (checked_term c.args.engine.now).program (task_term c.args.empty.now))
+    (parts_at c.args.engine.now (task_term c.args.empty.now)) (parts_at c.args.engine.now (task_term c.args.more.now)) c.requires.parts in
+    record { within = omega (arith, w, first) }
 
 pub case_form-evaluate_at-requires-in-Some : goal.case_form-evaluate_at-requires-in-Some
 case_form-evaluate_at-requires-in-Some t c =
+    let after = c.names_after-after.ensures
+    ∙ ap (λ n. later_by n (names_term c.args.names.now)) (c.of-two.ensures.nodes (nodes_of (checked_term c.args.engine.now).program (task_term c.args.empty.now))
+    (parts_at c.args.engine.now (task_term c.args.empty.now)) (parts_at c.args.engine.now (task_term c.args.more.now)) c.requires.parts) in
     let empty = ask (evaluates (task_term c.args.empty.now) (names_term c.args.names.now) (map value_term c.args.store.now.list)) give in
     let more = λ (head tail : ValueTerm). ask (evaluates (task_term c.args.more.now)
     (bound (bound (later_by (nodes_of (checked_term c.args.engine.now).program (task_term c.args.empty.now)) (names_term c.args.names.now))
     c.args.head.now (plain_slot head)) c.args.tail.now (plain_slot tail)) (map value_term c.args.store.now.list)) give in
-    let inner = c.with-inner.ensures ∙ ap (λ (e : EnvTerm). bound e c.args.tail.now (plain_slot (value_term c.in-Some.parts.tail)))
-    (c.with-outer.ensures ∙ ap (λ (e : EnvTerm). bound e c.args.head.now (plain_slot (value_term c.in-Some.parts.head)))
-    c.names_after-after.ensures) in
-    let parts = rw c.in-Some.is at c.in_ok-parts.ensures in (
+    let inner = c.with-inner.ensures ∙ ap (λ (e : EnvTerm). bound e c.args.tail.now (plain_slot (value_term c.in-Some.ends.tail)))
+    (c.with-outer.ensures ∙ ap (λ (e : EnvTerm). bound e c.args.head.now (plain_slot (value_term c.in-Some.ends.head)))
+    after) in
+    let ends = rw c.in-Some.is at c.in_ok-ends.ensures in (
       search rules,
       (
         c.requires.accepted,
-        rw inner
-            (well_ask (well_known _ (empty_or empty more) _ parts (well_is (matched_is _ empty more)
-            (well_next c.requires.accepted (well_task _ c.requires.accepted c.requires.may) c.in_ok-v.ensures.asked)))),
+        (
+          rw inner
+              (well_ask (well_known _ (empty_or empty more) _ ends (well_is (matched_is _ empty more)
+              (well_next c.requires.accepted (well_task _ c.requires.accepted c.requires.may) c.in_ok-v.ensures.asked)))),
+          c.of-two.ensures.second (nodes_of (checked_term c.args.engine.now).program (task_term c.args.empty.now))
+              (parts_at c.args.engine.now (task_term c.args.empty.now)) (parts_at c.args.engine.now (task_term c.args.more.now)) c.requires.parts,
+        ),
       ),
     )
 
 pub case_form-returns-clause-ran : goal.case_form-returns-clause-ran
 case_form-returns-clause-ran t c =
+    let after = c.names_after-after.ensures
+    ∙ ap (λ n. later_by n (names_term c.args.names.now)) (c.of-two.ensures.nodes (nodes_of (checked_term c.args.engine.now).program (task_term c.args.empty.now))
+    (parts_at c.args.engine.now (task_term c.args.empty.now)) (parts_at c.args.engine.now (task_term c.args.more.now)) c.requires.parts) in
     let empty = ask (evaluates (task_term c.args.empty.now) (names_term c.args.names.now) (map value_term c.args.store.now.list)) give in
     let more = λ (head tail : ValueTerm). ask (evaluates (task_term c.args.more.now)
     (bound (bound (later_by (nodes_of (checked_term c.args.engine.now).program (task_term c.args.empty.now)) (names_term c.args.names.now))
     c.args.head.now (plain_slot head)) c.args.tail.now (plain_slot tail)) (map value_term c.args.store.now.list)) give in
-    let inner = c.with-inner.ensures ∙ ap (λ (e : EnvTerm). bound e c.args.tail.now (plain_slot (value_term c.in-Some.parts.tail)))
-    (c.with-outer.ensures ∙ ap (λ (e : EnvTerm). bound e c.args.head.now (plain_slot (value_term c.in-Some.parts.head)))
-    c.names_after-after.ensures) in
-    let parts = rw c.in-Some.is at c.in_ok-parts.ensures in
-    ran_ask _ c.in_ok-v.ensures.asked (ran_matched _ empty more parts
+    let inner = c.with-inner.ensures ∙ ap (λ (e : EnvTerm). bound e c.args.tail.now (plain_slot (value_term c.in-Some.ends.tail)))
+    (c.with-outer.ensures ∙ ap (λ (e : EnvTerm). bound e c.args.head.now (plain_slot (value_term c.in-Some.ends.head)))
+    after) in
+    let ends = rw c.in-Some.is at c.in_ok-ends.ensures in
+    ran_ask _ c.in_ok-v.ensures.asked (ran_matched _ empty more ends
     (rw (← inner) (ran_last _ c.evaluate_at-in-Some.ensures.asked)))
 
 -- ---- the store
@@ -379,8 +525,11 @@ new_form-evaluate_at-requires t c =
       search rules,
       (
         c.requires.accepted,
-        rw (inner, store)
-            (well_ask (well_next c.requires.accepted (well_task _ c.requires.accepted c.requires.may) c.in_ok-v.ensures.asked)),
+        (
+          rw (inner, store)
+              (well_ask (well_next c.requires.accepted (well_task _ c.requires.accepted c.requires.may) c.in_ok-v.ensures.asked)),
+          c.requires.parts,
+        ),
       ),
     )
 
@@ -426,9 +575,12 @@ put_form-evaluate_at-requires t c =
       search rules,
       (
         c.requires.accepted,
-        rw store (well_ask (well_next c.requires.accepted (well_known _ f _ c.place_named-place.ensures
-            (well_is (placed_is (names_term c.args.names.now) c.args.name.now f) (well_task _ c.requires.accepted c.requires.may)))
-            c.in_ok-v.ensures.asked)),
+        (
+          rw store (well_ask (well_next c.requires.accepted (well_known _ f _ c.place_named-place.ensures
+              (well_is (placed_is (names_term c.args.names.now) c.args.name.now f) (well_task _ c.requires.accepted c.requires.may)))
+              c.in_ok-v.ensures.asked)),
+          c.requires.parts,
+        ),
       ),
     )
 
@@ -462,13 +614,16 @@ call_form-call_at-requires t c = (
   search rules,
   (
     c.requires.accepted,
-    (well_call _ _ _ _ _ c.task_named-callee.ensures (well_task _ c.requires.accepted c.requires.may), task_paired c.requires.may),
+    (
+      well_call _ _ _ _ _ c.task_named-callee.ensures.named (well_task _ c.requires.accepted c.requires.may),
+      (task_paired c.requires.may, c.task_named-callee.ensures.parts),
+    ),
   ),
 )
 
 pub call_form-returns-clause-ran : goal.call_form-returns-clause-ran
 call_form-returns-clause-ran t c =
-    ran_call _ _ _ _ _ c.task_named-callee.ensures c.call_at.ensures.ran
+    ran_call _ _ _ _ _ c.task_named-callee.ensures.named c.call_at.ensures.ran
 
 pub call_at-argument_slots-requires : goal.call_at-argument_slots-requires
 call_at-argument_slots-requires t c =
@@ -479,8 +634,11 @@ call_at-evaluate_at-requires t c = (
   search rules,
   (
     c.requires.accepted,
-    rw (c.of_params-inner.ensures, c.as_slice.ensures)
-        (well_ask (well_after _ _ c.requires.accepted (well_unit c.requires.well) c.in_ok-slots.ensures.ran)),
+    (
+      rw (c.of_params-inner.ensures, c.as_slice.ensures)
+          (well_ask (well_after _ _ c.requires.accepted (well_unit c.requires.well) c.in_ok-slots.ensures.ran)),
+      c.requires.parts,
+    ),
   ),
 )
 

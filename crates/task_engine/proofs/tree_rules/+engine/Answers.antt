@@ -17,8 +17,9 @@ use Rattle.host_eval.proofs.RunLemmas.{ran_is, ran_known_ok}
 use Rattle.host_eval.proofs.WellLemmas.{well_is, well_found}
 use Rattle.typing_laws.proofs.CallLemmas.{well_rule, well_ask, well_next, well_first, well_after, well_known}
 use Rattle.task_engine.specs.Strides.{after_stride}
-use Rattle.task_engine.proofs.StrideLemmas.{may_fail, may_stride, well_fails, well_strides, may_stride_on, well_stride_on, sides_bind, then_binds, side_env, restored, same_store, fired_is, attempt_is, with_some, with_none, asked_judged, ran_kept, judged_none, judged_some, judged_keeps, none_moved, some_moved, none_is, valueless, calm_on, step_calm, ran_strode}
+use Rattle.task_engine.proofs.StrideLemmas.{may_fail, may_stride, well_fails, well_strides, may_stride_on, well_stride_on, sides_bind, then_binds, side_env, restored, same_store, fired_is, attempt_is, with_some, with_none, asked_judged, ran_kept, judged_none, judged_some, judged_keeps, none_moved, some_moved, none_is, ran_strode}
 use Rattle.task_engine.proofs.QuietLemmas.{quiet_runs}
+use Rattle.task_engine.proofs.ValuedLemmas.{share_valued, stays_in_and, stays_in_or}
 use Rattle.task_engine.proofs.tree_rules.+engine.Goals as goal
 
 -- ---- under a rule
@@ -42,13 +43,13 @@ normal_at-returns-clause-asked t c =
     asked_rule c.in_ok-enter.ensures.ok
     (c.leave.ensures ∙ ap (λ h. record c.normal_form.new.purse { height = h }) c.height_left-height.ensures) c.in_ok-u.ensures.ran
 
-pub stride_at-returns-in_err-u-clause-asked : goal.stride_at-returns-in_err-u-clause-asked
-stride_at-returns-in_err-u-clause-asked t c =
+pub strode_at-returns-in_err-u-clause-asked : goal.strode_at-returns-in_err-u-clause-asked
+strode_at-returns-in_err-u-clause-asked t c =
     rw (stopped _ c.in_err-u.field-0.0 c.from_residual-in_err-u.ensures.1)
     (asked_rule_stops c.in_ok-enter.ensures.ok c.in_err-u.ensures.ran)
 
-pub stride_at-returns-clause-asked : goal.stride_at-returns-clause-asked
-stride_at-returns-clause-asked t c =
+pub strode_at-returns-clause-asked : goal.strode_at-returns-clause-asked
+strode_at-returns-clause-asked t c =
     asked_rule c.in_ok-enter.ensures.ok
     (c.leave.ensures ∙ ap (λ h. record c.stride_form.new.purse { height = h }) c.height_left-height.ensures) c.in_ok-u.ensures.ran
 
@@ -197,6 +198,10 @@ pub side_fails-body_first-requires : goal.side_fails-body_first-requires
 side_fails-body_first-requires t c =
     well_found _ _ c.requires.well
 
+pub side_fails-parts_of_body-requires : goal.side_fails-parts_of_body-requires
+side_fails-parts_of_body-requires t c =
+    well_found _ _ c.requires.well
+
 pub side_fails-tested-requires : goal.side_fails-tested-requires
 side_fails-tested-requires t c =
     let slots = ap (map slot_term) (c.as_slice.ensures ∙ ap (λ (r : Rowed Slot). r.list) c.deref.ensures) in
@@ -205,7 +210,8 @@ side_fails-tested-requires t c =
     let f : BodyTerm → Plan Bool = λ b. ask (normal b.task
     (opened_env (checked_term c.args.engine.now) c.args.k.now.body b (delay_term c.args.k.now).slots)
     (map value_term c.args.store.now.list)) (λ s. ask (fails s) give) in
-    (search rules, (c.requires.accepted, rw env (well_known _ f _ c.body-own.ensures c.requires.well)))
+    let parts = rw c.body-own.ensures at c.parts_of_body.ensures in
+    (search rules, (c.requires.accepted, (rw env (well_known _ f _ c.body-own.ensures c.requires.well), parts)))
 
 pub side_fails-returns-clause-ran : goal.side_fails-returns-clause-ran
 side_fails-returns-clause-ran t c =
@@ -223,7 +229,7 @@ tested-returns-in_err-begin-clause-store t c =
 
 pub tested-normal_fails-failing-requires : goal.tested-normal_fails-failing-requires
 tested-normal_fails-failing-requires t c =
-    (search rules, (c.requires.accepted, rw c.in_ok-begin.ensures.list c.requires.well))
+    (search rules, (c.requires.accepted, (rw c.in_ok-begin.ensures.list c.requires.well, c.requires.parts)))
 
 pub tested-drop_layer-requires : goal.tested-drop_layer-requires
 tested-drop_layer-requires t c =
@@ -239,7 +245,7 @@ tested-returns-clause-ran t c =
 
 pub normal_fails-normal_at-requires : goal.normal_fails-normal_at-requires
 normal_fails-normal_at-requires t c =
-    (search rules, (c.requires.accepted, well_ask c.requires.well))
+    (search rules, (c.requires.accepted, (well_ask c.requires.well, c.requires.parts)))
 
 pub normal_fails-fails_at-requires : goal.normal_fails-fails_at-requires
 normal_fails-fails_at-requires t c =
@@ -251,7 +257,7 @@ normal_fails-returns-clause-ran t c =
 
 pub normal_form-evaluate_at-requires : goal.normal_form-evaluate_at-requires
 normal_form-evaluate_at-requires t c =
-    record { accepted = c.requires.accepted; may = well_ask c.requires.well }
+    record { accepted = c.requires.accepted; may = well_ask c.requires.well; parts = c.requires.parts }
 
 pub normal_form-stride_all-requires : goal.normal_form-stride_all-requires
 normal_form-stride_all-requires t c =
@@ -340,55 +346,55 @@ changing_by_rules-returns-clause-other t c =
 
 pub normal_at-normal_form-requires : goal.normal_at-normal_form-requires
 normal_at-normal_form-requires t c =
-    (search rules, (c.requires.accepted, well_rule c.requires.accepted c.requires.may))
+    (search rules, (c.requires.accepted, (well_rule c.requires.accepted c.requires.may, c.requires.parts)))
 
-pub stride_form-returns-in-Edit-clause-calm : goal.stride_form-returns-in-Edit-clause-calm
-stride_form-returns-in-Edit-clause-calm t c =
-    rw c.in-Edit.is (λ e. tt)
+pub stride_form-returns-in-Edit-clause-valued : goal.stride_form-returns-in-Edit-clause-valued
+stride_form-returns-in-Edit-clause-valued t c =
+    rw (c.in-Edit.is, c.still.ensures) refl
 
 pub stride_form-returns-in-Edit-clause-ran : goal.stride_form-returns-in-Edit-clause-ran
 stride_form-returns-in-Edit-clause-ran t c =
-    rw c.in-Edit.is (ran_give refl)
+    rw (c.in-Edit.is, c.still.ensures) (ran_give refl)
 
-pub stride_form-returns-in-Enter-clause-calm : goal.stride_form-returns-in-Enter-clause-calm
-stride_form-returns-in-Enter-clause-calm t c =
-    rw c.in-Enter.is (λ e. tt)
+pub stride_form-returns-in-Enter-clause-valued : goal.stride_form-returns-in-Enter-clause-valued
+stride_form-returns-in-Enter-clause-valued t c =
+    rw (c.in-Enter.is, c.still-in-Enter.ensures) refl
 
 pub stride_form-returns-in-Enter-clause-ran : goal.stride_form-returns-in-Enter-clause-ran
 stride_form-returns-in-Enter-clause-ran t c =
-    rw c.in-Enter.is (ran_give refl)
+    rw (c.in-Enter.is, c.still-in-Enter.ensures) (ran_give refl)
 
-pub stride_form-returns-in-Share-clause-calm : goal.stride_form-returns-in-Share-clause-calm
-stride_form-returns-in-Share-clause-calm t c =
-    rw c.in-Share.is (λ e. tt)
+pub stride_form-returns-in-Share-clause-valued : goal.stride_form-returns-in-Share-clause-valued
+stride_form-returns-in-Share-clause-valued t c =
+    rw (c.in-Share.is, c.still-in-Share.ensures) (share_valued _ _ (may_stride (ap tree_term c.in-Share.is) c.requires.may))
 
 pub stride_form-returns-in-Share-clause-ran : goal.stride_form-returns-in-Share-clause-ran
 stride_form-returns-in-Share-clause-ran t c =
-    rw c.in-Share.is (ran_give refl)
+    rw (c.in-Share.is, c.still-in-Share.ensures) (ran_give refl)
 
-pub stride_form-returns-in-Fail-clause-calm : goal.stride_form-returns-in-Fail-clause-calm
-stride_form-returns-in-Fail-clause-calm t c =
-    rw c.in-Fail.is (λ e. tt)
+pub stride_form-returns-in-Fail-clause-valued : goal.stride_form-returns-in-Fail-clause-valued
+stride_form-returns-in-Fail-clause-valued t c =
+    rw (c.in-Fail.is, c.still-in-Fail.ensures) refl
 
 pub stride_form-returns-in-Fail-clause-ran : goal.stride_form-returns-in-Fail-clause-ran
 stride_form-returns-in-Fail-clause-ran t c =
-    rw c.in-Fail.is (ran_give refl)
+    rw (c.in-Fail.is, c.still-in-Fail.ensures) (ran_give refl)
 
-pub stride_form-returns-in-Xor-clause-calm : goal.stride_form-returns-in-Xor-clause-calm
-stride_form-returns-in-Xor-clause-calm t c =
-    rw c.in-Xor.is (λ e. tt)
+pub stride_form-returns-in-Xor-clause-valued : goal.stride_form-returns-in-Xor-clause-valued
+stride_form-returns-in-Xor-clause-valued t c =
+    rw (c.in-Xor.is, c.still-in-Xor.ensures) refl
 
 pub stride_form-returns-in-Xor-clause-ran : goal.stride_form-returns-in-Xor-clause-ran
 stride_form-returns-in-Xor-clause-ran t c =
-    rw c.in-Xor.is (ran_give refl)
+    rw (c.in-Xor.is, c.still-in-Xor.ensures) (ran_give refl)
 
 pub stride_form-then_form-requires : goal.stride_form-then_form-requires
 stride_form-then_form-requires t c =
     (search rules, (c.requires.accepted, rw c.deref.ensures (may_stride (ap tree_term c.in-Then.is) c.requires.may)))
 
-pub stride_form-returns-in-Then-clause-calm : goal.stride_form-returns-in-Then-clause-calm
-stride_form-returns-in-Then-clause-calm t c =
-    rw c.in-Then.is (step_calm _)
+pub stride_form-returns-in-Then-clause-valued : goal.stride_form-returns-in-Then-clause-valued
+stride_form-returns-in-Then-clause-valued t c =
+    rw (c.in-Then.is, ← c.deref.ensures) c.then_form.ensures.valued
 
 pub stride_form-returns-in-Then-clause-ran : goal.stride_form-returns-in-Then-clause-ran
 stride_form-returns-in-Then-clause-ran t c =
@@ -398,9 +404,9 @@ pub stride_form-next_form-requires : goal.stride_form-next_form-requires
 stride_form-next_form-requires t c =
     (search rules, (c.requires.accepted, rw c.deref-in-Next.ensures (may_stride (ap tree_term c.in-Next.is) c.requires.may)))
 
-pub stride_form-returns-in-Next-clause-calm : goal.stride_form-returns-in-Next-clause-calm
-stride_form-returns-in-Next-clause-calm t c =
-    rw c.in-Next.is (step_calm _)
+pub stride_form-returns-in-Next-clause-valued : goal.stride_form-returns-in-Next-clause-valued
+stride_form-returns-in-Next-clause-valued t c =
+    rw (c.in-Next.is, ← c.deref-in-Next.ensures) c.next_form.ensures.valued
 
 pub stride_form-returns-in-Next-clause-ran : goal.stride_form-returns-in-Next-clause-ran
 stride_form-returns-in-Next-clause-ran t c =
@@ -410,9 +416,9 @@ pub stride_form-and_form-requires : goal.stride_form-and_form-requires
 stride_form-and_form-requires t c =
     (search rules, (c.requires.accepted, may_stride (ap tree_term c.in-And.is) c.requires.may))
 
-pub stride_form-returns-in-And-clause-calm : goal.stride_form-returns-in-And-clause-calm
-stride_form-returns-in-And-clause-calm t c =
-    rw c.in-And.is c.and_form.ensures.calm
+pub stride_form-returns-in-And-clause-valued : goal.stride_form-returns-in-And-clause-valued
+stride_form-returns-in-And-clause-valued t c =
+    rw c.in-And.is c.and_form.ensures.valued
 
 pub stride_form-returns-in-And-clause-ran : goal.stride_form-returns-in-And-clause-ran
 stride_form-returns-in-And-clause-ran t c =
@@ -422,28 +428,28 @@ pub stride_form-or_form-requires : goal.stride_form-or_form-requires
 stride_form-or_form-requires t c =
     (search rules, (c.requires.accepted, may_stride (ap tree_term c.in-Or.is) c.requires.may))
 
-pub stride_form-returns-in-Or-clause-calm : goal.stride_form-returns-in-Or-clause-calm
-stride_form-returns-in-Or-clause-calm t c =
-    rw c.in-Or.is c.or_form.ensures.calm
+pub stride_form-returns-in-Or-clause-valued : goal.stride_form-returns-in-Or-clause-valued
+stride_form-returns-in-Or-clause-valued t c =
+    rw c.in-Or.is c.or_form.ensures.valued
 
 pub stride_form-returns-in-Or-clause-ran : goal.stride_form-returns-in-Or-clause-ran
 stride_form-returns-in-Or-clause-ran t c =
     rw c.in-Or.is c.or_form.ensures.ran
 
-pub next_form-stride_at-requires : goal.next_form-stride_at-requires
-next_form-stride_at-requires t c =
+pub next_form-strode_at-requires : goal.next_form-strode_at-requires
+next_form-strode_at-requires t c =
     (search rules, (c.requires.accepted, well_ask (well_strides _ c.requires.accepted c.requires.may)))
 
 pub next_form-returns-clause-ran : goal.next_form-returns-clause-ran
 next_form-returns-clause-ran t c =
     ran_ask _ c.in_ok-strode.ensures.asked (ran_strode _ (c.in_ok-step_of.ensures.tree _))
 
-pub and_form-stride_at-requires : goal.and_form-stride_at-requires
-and_form-stride_at-requires t c =
+pub and_form-strode_at-requires : goal.and_form-strode_at-requires
+and_form-strode_at-requires t c =
     (search rules, (c.requires.accepted, rw c.deref.ensures (well_ask (well_strides _ c.requires.accepted c.requires.may))))
 
-pub and_form-stride_at-requires-2 : goal.and_form-stride_at-requires-2
-and_form-stride_at-requires-2 t c =
+pub and_form-strode_at-requires-2 : goal.and_form-strode_at-requires-2
+and_form-strode_at-requires-2 t c =
     let first = rw c.deref.ensures at c.in_ok-t.ensures.asked in (
       search rules,
       (
@@ -461,51 +467,36 @@ and_form-returns-in_err-u-clause-ran t c =
 pub and_form-returns-clause-ran : goal.and_form-returns-clause-ran
 and_form-returns-clause-ran t c =
     ran_ask _ (rw c.deref.ensures at c.in_ok-t.ensures.asked) (ran_ask _ (rw c.deref-2.ensures at c.in_ok-u.ensures.asked)
-    (ran_strode _ c.in_ok-pair_of.ensures.tree))
+    (ran_strode _ c.in_ok-and_of.ensures.tree))
 
-pub and_form-returns-clause-calm : goal.and_form-returns-clause-calm
-and_form-returns-clause-calm t c = λ e.
-    let none = c.in_ok-pair_of.ensures.none e in (
-      calm_on _ (c.in_ok-u.ensures.kept none.1) (rw c.deref.ensures at c.in_ok-t.ensures.calm none.0),
-      rw c.deref-2.ensures at c.in_ok-u.ensures.calm none.1,
-    )
+pub and_form-returns-clause-valued : goal.and_form-returns-clause-valued
+and_form-returns-clause-valued t c =
+    let first = rw c.deref.ensures at c.in_ok-t.ensures.asked in
+    let second = rw c.deref-2.ensures at c.in_ok-u.ensures.asked in
+    let stays = stays_in_and _ _ c.requires.accepted c.requires.may first second in
+    c.in_ok-and_of.ensures.valued _ ((rw c.deref.ensures at c.in_ok-t.ensures.valued) ∙ stays)
+    (rw c.deref-2.ensures at c.in_ok-u.ensures.valued)
 
-pub or_form-stride_at-requires : goal.or_form-stride_at-requires
-or_form-stride_at-requires t c =
+pub or_form-strode_at-requires : goal.or_form-strode_at-requires
+or_form-strode_at-requires t c =
     (search rules, (c.requires.accepted, rw c.deref.ensures (well_ask (well_strides _ c.requires.accepted c.requires.may))))
 
-pub or_form-strode_has_value-requires : goal.or_form-strode_has_value-requires
-or_form-strode_has_value-requires t c =
-    record { calm = rw c.deref-2.ensures (rw c.deref.ensures at c.in_ok-t.ensures.calm) }
-
-pub or_form-or_of-requires : goal.or_form-or_of-requires
-or_form-or_of-requires t c =
-    record { calm = rw c.deref-else-strode_has_value.ensures at c.in_ok-u.ensures.calm }
-
-pub or_form-returns-in_ok-or_of-clause-calm : goal.or_form-returns-in_ok-or_of-clause-calm
-or_form-returns-in_ok-or_of-clause-calm t c = λ e.
-    let none = c.in_ok-or_of.ensures.none e in
-    let left = none_is _ (sym (rw c.deref-2.ensures at c.strode_has_value.ensures) ∙ c.if-strode_has_value.false) in (
-      valueless _ none.0 (c.in_ok-u.ensures.kept none.1) left,
-      valueless _ none.1 refl (c.in_ok-or_of.ensures.valueless e),
-    )
-
-pub or_form-returns-in_ok-strode_tree-clause-ran : goal.or_form-returns-in_ok-strode_tree-clause-ran
-or_form-returns-in_ok-strode_tree-clause-ran t c =
+pub or_form-returns-in_ok-tree-clause-ran : goal.or_form-returns-in_ok-tree-clause-ran
+or_form-returns-in_ok-tree-clause-ran t c =
     ran_ask _ (rw c.deref.ensures at c.in_ok-t.ensures.asked) (ran_is (with_some
-    (value_of (after_stride (tree_term c.args.a.now.value) c.in_ok-t.t) (map value_term c.stride_at.new.store.list)) _ _
-    (sym (rw c.deref-2.ensures at c.strode_has_value.ensures) ∙ c.if-strode_has_value.true))
-    (ran_strode _ (rw c.deref-then-strode_has_value.ensures at c.in_ok-strode_tree.ensures)))
+    (value_of (after_stride (tree_term c.args.a.now.value) c.in_ok-t.t.tree) (map value_term c.strode_at.new.store.list)) _ _
+    (sym (rw c.deref.ensures at c.in_ok-t.ensures.valued) ∙ c.if-t.true))
+    (ran_strode _ (rw c.deref-then-t.ensures at c.in_ok-tree.ensures)))
 
-pub or_form-stride_at-requires-else-strode_has_value : goal.or_form-stride_at-requires-else-strode_has_value
-or_form-stride_at-requires-else-strode_has_value t c =
+pub or_form-strode_at-requires-else-t : goal.or_form-strode_at-requires-else-t
+or_form-strode_at-requires-else-t t c =
     let first = rw c.deref.ensures at c.in_ok-t.ensures.asked in (
       search rules,
       (
         c.requires.accepted,
-        rw c.deref-else-strode_has_value.ensures (well_ask (well_is (with_none
-            (value_of (after_stride (tree_term c.args.a.now.value) c.in_ok-t.t) (map value_term c.stride_at.new.store.list)) _ _
-            (sym (rw c.deref-2.ensures at c.strode_has_value.ensures) ∙ c.if-strode_has_value.false))
+        rw c.deref-else-t.ensures (well_ask (well_is (with_none
+            (value_of (after_stride (tree_term c.args.a.now.value) c.in_ok-t.t.tree) (map value_term c.strode_at.new.store.list)) _ _
+            (sym (rw c.deref.ensures at c.in_ok-t.ensures.valued) ∙ c.if-t.false))
             (well_next c.requires.accepted (well_strides _ c.requires.accepted c.requires.may) first))),
       ),
     )
@@ -514,20 +505,29 @@ pub or_form-returns-in_err-u-clause-ran : goal.or_form-returns-in_err-u-clause-r
 or_form-returns-in_err-u-clause-ran t c =
     rw (stopped _ c.in_err-u.field-0.0 c.from_residual-in_err-u.ensures.1)
     (ran_ask _ (rw c.deref.ensures at c.in_ok-t.ensures.asked) (ran_is (with_none
-    (value_of (after_stride (tree_term c.args.a.now.value) c.in_ok-t.t) (map value_term c.stride_at.new.store.list)) _ _
-    (sym (rw c.deref-2.ensures at c.strode_has_value.ensures) ∙ c.if-strode_has_value.false))
-    (ran_ask_stops _ (rw c.deref-else-strode_has_value.ensures at c.in_err-u.ensures.asked))))
+    (value_of (after_stride (tree_term c.args.a.now.value) c.in_ok-t.t.tree) (map value_term c.strode_at.new.store.list)) _ _
+    (sym (rw c.deref.ensures at c.in_ok-t.ensures.valued) ∙ c.if-t.false))
+    (ran_ask_stops _ (rw c.deref-else-t.ensures at c.in_err-u.ensures.asked))))
 
 pub or_form-returns-in_ok-or_of-clause-ran : goal.or_form-returns-in_ok-or_of-clause-ran
 or_form-returns-in_ok-or_of-clause-ran t c =
     ran_ask _ (rw c.deref.ensures at c.in_ok-t.ensures.asked) (ran_is (with_none
-    (value_of (after_stride (tree_term c.args.a.now.value) c.in_ok-t.t) (map value_term c.stride_at.new.store.list)) _ _
-    (sym (rw c.deref-2.ensures at c.strode_has_value.ensures) ∙ c.if-strode_has_value.false))
-    (ran_ask _ (rw c.deref-else-strode_has_value.ensures at c.in_ok-u.ensures.asked)
-    (ran_strode _ c.in_ok-or_of.ensures.tree)))
+    (value_of (after_stride (tree_term c.args.a.now.value) c.in_ok-t.t.tree) (map value_term c.strode_at.new.store.list)) _ _
+    (sym (rw c.deref.ensures at c.in_ok-t.ensures.valued) ∙ c.if-t.false))
+    (ran_ask _ (rw c.deref-else-t.ensures at c.in_ok-u.ensures.asked)
+    (ran_strode _ (c.in_ok-or_of.ensures.tree _ (rw c.deref-else-t.ensures at c.in_ok-u.ensures.valued)))))
 
-pub then_form-stride_at-requires : goal.then_form-stride_at-requires
-then_form-stride_at-requires t c =
+pub or_form-returns-in_ok-or_of-clause-valued : goal.or_form-returns-in_ok-or_of-clause-valued
+or_form-returns-in_ok-or_of-clause-valued t c =
+    let first = rw c.deref.ensures at c.in_ok-t.ensures.asked in
+    let second = rw c.deref-else-t.ensures at c.in_ok-u.ensures.asked in
+    let stays = stays_in_or _ _ c.requires.accepted c.requires.may first second in
+    c.in_ok-or_of.ensures.valued _
+    (none_is _ (sym stays ∙ sym (rw c.deref.ensures at c.in_ok-t.ensures.valued) ∙ c.if-t.false))
+    (rw c.deref-else-t.ensures at c.in_ok-u.ensures.valued)
+
+pub then_form-strode_at-requires : goal.then_form-strode_at-requires
+then_form-strode_at-requires t c =
     (search rules, (c.requires.accepted, well_ask (well_strides _ c.requires.accepted c.requires.may)))
 
 pub then_form-fired-requires : goal.then_form-fired-requires
@@ -538,7 +538,7 @@ then_form-fired-requires t c = (
     (
       well_next c.requires.accepted (well_strides _ c.requires.accepted c.requires.may)
           c.in_ok-strode.ensures.asked,
-      (then_binds _ _ c.requires.accepted c.requires.may, c.in_ok-strode.ensures.calm),
+      (then_binds _ _ c.requires.accepted c.requires.may, c.in_ok-strode.ensures.valued),
     ),
   ),
 )
@@ -548,24 +548,24 @@ then_form-returns-clause-ran t c =
     ran_ask _ c.in_ok-strode.ensures.asked c.fired.ensures.ran
 
 -- ---- a trial
-pub fired-returns-then-not-strode_has_value-clause-ran : goal.fired-returns-then-not-strode_has_value-clause-ran
-fired-returns-then-not-strode_has_value-clause-ran t c =
+pub fired-returns-then-not-strode-clause-ran : goal.fired-returns-then-not-strode-clause-ran
+fired-returns-then-not-strode-clause-ran t c =
     let fire : Option ValueTerm → Plan State = λ o. fired (checked_term c.args.engine.now) o (cont_term c.args.k.now)
-    (at (after_stride (tree_term c.args.left.now) c.args.strode) (map value_term c.args.store.now.list)) in
-    let is = none_is _ (sym c.strode_has_value.ensures ∙ c.if-not-strode_has_value.true) in
+    (at (after_stride (tree_term c.args.left.now) c.args.strode.tree) (map value_term c.args.store.now.list)) in
+    let is = none_is _ (sym c.requires.valued ∙ c.if-not-strode.true) in
     ran_is (ap fire is) (ran_strode _ (c.in_ok-step_of.ensures.tree _))
 
 pub fired-fired_at-requires : goal.fired-fired_at-requires
 fired-fired_at-requires t c =
     let fire : Option ValueTerm → Plan State = λ o. fired (checked_term c.args.engine.now) o (cont_term c.args.k.now)
-    (at (after_stride (tree_term c.args.left.now) c.args.strode) (map value_term c.args.store.now.list)) in
+    (at (after_stride (tree_term c.args.left.now) c.args.strode.tree) (map value_term c.args.store.now.list)) in
     let is = rw c.in-Some.is at c.in_ok-value.ensures in
     (search rules, (c.requires.accepted, (well_is (ap fire (sym is)) c.requires.well, c.requires.bound)))
 
 pub fired-returns-clause-ran : goal.fired-returns-clause-ran
 fired-returns-clause-ran t c =
     let fire : Option ValueTerm → Plan State = λ o. fired (checked_term c.args.engine.now) o (cont_term c.args.k.now)
-    (at (after_stride (tree_term c.args.left.now) c.args.strode) (map value_term c.args.store.now.list)) in
+    (at (after_stride (tree_term c.args.left.now) c.args.strode.tree) (map value_term c.args.store.now.list)) in
     let is = rw c.in-Some.is at c.in_ok-value.ensures in
     ran_is (ap fire (sym is)) c.fired_at.ensures.ran
 

@@ -14,8 +14,8 @@ use Rattle.task_engine.proofs.tree_rules.+engine.Given as goal
 abbrev pub decreases-fails_at : goal.decreases-fails_at
 decreases-fails_at l = 8 * l.purse.now.height
 
-abbrev pub decreases-stride_at : goal.decreases-stride_at
-decreases-stride_at l = 8 * l.purse.now.height
+abbrev pub decreases-strode_at : goal.decreases-strode_at
+decreases-strode_at l = 8 * l.purse.now.height
 
 abbrev pub decreases-normal_at : goal.decreases-normal_at
 decreases-normal_at l = 8 * l.purse.now.height
@@ -41,14 +41,17 @@ decreases-fired_at l = 8 * l.purse.now.height + 3
 abbrev pub decreases-fired : goal.decreases-fired
 decreases-fired l = 8 * l.purse.now.height + 4
 
+abbrev pub decreases-stride_at : goal.decreases-stride_at
+decreases-stride_at l = 8 * l.purse.now.height + 1
+
 abbrev pub decreases-changing_by_rules : goal.decreases-changing_by_rules
-decreases-changing_by_rules l = 8 * l.purse.now.height + 1
+decreases-changing_by_rules l = 8 * l.purse.now.height + 2
 
 abbrev pub decreases-changing : goal.decreases-changing
-decreases-changing l = 8 * l.purse.now.height + 2
+decreases-changing l = 8 * l.purse.now.height + 3
 
 abbrev pub decreases-stride_all : goal.decreases-stride_all
-decreases-stride_all l = 8 * l.purse.now.height + 3
+decreases-stride_all l = 8 * l.purse.now.height + 4
 
 abbrev pub decreases-both_fail : goal.decreases-both_fail
 decreases-both_fail l = 8 * l.purse.now.height + 4

@@ -23,6 +23,10 @@ pub body_first-requires : goal.body_first-requires
 body_first-requires c =
     well_found _ _ c.requires.well
 
+pub parts_of_body-requires : goal.parts_of_body-requires
+parts_of_body-requires c =
+    well_found _ _ c.requires.well
+
 pub binder_of-requires : goal.binder_of-requires
 binder_of-requires c =
     c.requires.bound _ c.body-own.ensures
@@ -35,6 +39,10 @@ evaluate_at-requires-clause-may c =
     let f : BodyTerm → Plan State = λ b. ask (evaluates b.task (opened_env (checked_term c.args.engine.now) c.args.k.now.body b
     ((cont_term c.args.k.now).slots ++ plain_slot (value_term c.args.v) ∷ [])) (map value_term c.args.store.now.list)) give in
     rw env (well_ask (well_known _ f _ c.body-own.ensures c.requires.well))
+
+pub evaluate_at-requires-clause-parts : goal.evaluate_at-requires-clause-parts
+evaluate_at-requires-clause-parts c =
+    rw c.body-own.ensures at c.parts_of_body.ensures
 
 pub returns-clause-ran : goal.returns-clause-ran
 returns-clause-ran c =
