@@ -1,7 +1,7 @@
 -- Where the rows of a tree and of its parts stand, and what a walk adds, by the parts.
-use Rattle.std.proofs.Common.{◌≡◌, ◌↔◌, ◌≤◌, ℕ, suc, ◌+◌, Bool, true, false, List, [], ◌∷◌, ◌++◌, length, map, Option, None, Some, refl, sym, ap, ◌∙◌, subst, append_assoc, arith}
-use Rattle.std.specs.Prelude.{take, drop}
-use Rattle.std.proofs.lemmas.List.{length-map, map-append}
+use Rattle.std.proofs.Common.{◌≡◌, ◌↔◌, ◌<◌, ◌≤◌, ℕ, suc, ◌+◌, Bool, true, false, List, [], ◌∷◌, ◌++◌, length, length-append, map, Option, None, Some, refl, sym, ap, ◌∙◌, subst, append_assoc, arith}
+use Rattle.std.specs.Prelude.{take, drop, slice_index}
+use Rattle.std.proofs.lemmas.List.{append-nil, get_or_at, length-map, map-append}
 use Rattle.task_model.specs.Terms.Value.{ValueTerm}
 use Rattle.task_model.specs.Terms.Tree.{TreeTerm, edit_tree, enter_tree, share_tree, then_tree, next_tree, fail_tree, and_tree, or_tree, xor_tree, at}
 use Rattle.task_model.specs.Running.Checked.{CheckedTerm}
@@ -19,12 +19,13 @@ use Rattle.kept_nodes.specs.KeptMarks.{told, TellsKept}
 use Rattle.kept_nodes.specs.NodeParts.{left_part_of, first_part_of, second_part_of, leaf_parts, step_parts, pair_parts, node_parts}
 use Rattle.kept_nodes.specs.declared.marks.Marks.{Marks}
 use Rattle.kept_nodes.proofs.MarkLemmas.{in_left, in_first, in_second, not_step, not_pair, pair_step, step_same, pair_first, pair_second, tells_part}
-use Rattle.node_rows.specs.Rows.{RowsTerm, no_rows, AreRows, rows_of, row_of, rows_append, rows_part, widget_signs}
+use Rattle.node_rows.specs.Rows.{RowsTerm, no_rows, AreRows, rows_of, row_of, rows_append, rows_closed, rows_part, widget_signs}
 use Rattle.node_rows.specs.declared.signs.Signs.{Signs}
-use Rattle.node_rows.specs.TreeNodes.{tree_nodes}
+use Rattle.node_rows.specs.TreeNodes.{tree_nodes, sizes_of}
 use Rattle.node_rows.proofs.CountLemmas.{one_each}
+use Rattle.node_rows.proofs.SizeLemmas.{closed, sizes_long, sizes_split}
 use Rattle.kept_rows.specs.Shapes.{IsShape}
-use Rattle.kept_rows.specs.Follows.{RowsFollow, RootFollows, PartsFollow, StandsFrom, RowsStand, FormerStand, FormerIsTold, former_nodes, former_root}
+use Rattle.kept_rows.specs.Follows.{RowsFollow, RootFollows, PartsFollow, StandsFrom, RowsStand, FormerStand, FormerIsTold, FormerSize, former_nodes, former_root}
 use Rattle.kept_rows.proofs.PlaceLemmas.{stands_within, stands_taken, stands_rest, stands_first, stands_second, stands_whole, stands_same}
 
 -- ---- by the parts of a tree
@@ -129,12 +130,14 @@ module _ (c : CheckedTerm) (budget : ℕ) (σ : List ValueTerm) (p : List Turn) 
     own = s.are.0;
     are = s.are.1;
     signs = node_left widget_signs rows.signs from s.own s.are.0 then_shape s.are.2 s.signs;
+    sizes = stands_rest rows.sizes from (tree_nodes (then_tree t k)) (sizes_of t) s.sizes;
     fragments = node_left fragment_of rows.fragments from s.own s.are.0 then_shape s.are.2 s.fragments;
   })
   stand_left (Some (next_tree t k)) from s = subst (λ n. RowsStand c budget t σ p n rows) (one_more from) (record {
     own = s.are.1;
     are = s.are.3;
     signs = node_left widget_signs rows.signs from s.own s.are.1 (step_shape s.are.0) s.are.4 s.signs;
+    sizes = stands_rest rows.sizes from (tree_nodes (next_tree t k)) (sizes_of t) s.sizes;
     fragments = node_left fragment_of rows.fragments from s.own s.are.1 (step_shape s.are.0) s.are.4 s.fragments;
   })
   stand_left (Some (edit_tree b v)) from s = tt
@@ -152,12 +155,16 @@ module _ (c : CheckedTerm) (budget : ℕ) (σ : List ValueTerm) (p : List Turn) 
     own = s.are.0;
     are = s.are.2;
     signs = node_first widget_signs rows.signs from s.own s.are.0 s.are.1 and_shape s.are.4 s.signs;
+    sizes = stands_first rows.sizes (suc from) (sizes_of t) (sizes_of u)
+        (stands_rest rows.sizes from (tree_nodes (and_tree t u)) (sizes_of t ++ sizes_of u) s.sizes);
     fragments = node_first fragment_of rows.fragments from s.own s.are.0 s.are.1 and_shape s.are.4 s.fragments;
   })
   stand_first (Some (or_tree t u)) from s = subst (λ n. RowsStand c budget t σ (p ++ turns.First ∷ []) n rows) (one_more from) (record {
     own = s.are.0;
     are = s.are.2;
     signs = node_first widget_signs rows.signs from s.own s.are.0 s.are.1 or_shape s.are.4 s.signs;
+    sizes = stands_first rows.sizes (suc from) (sizes_of t) (sizes_of u)
+        (stands_rest rows.sizes from (tree_nodes (or_tree t u)) (sizes_of t ++ sizes_of u) s.sizes);
     fragments = node_first fragment_of rows.fragments from s.own s.are.0 s.are.1 or_shape s.are.4 s.fragments;
   })
   stand_first (Some (edit_tree b v)) from s = tt
@@ -179,6 +186,8 @@ module _ (c : CheckedTerm) (budget : ℕ) (σ : List ValueTerm) (p : List Turn) 
         own = s.are.1;
         are = s.are.3;
         signs = node_second widget_signs rows.signs from s.own s.are.0 s.are.1 and_shape t s.are.2 s.are.4 s.signs;
+        sizes = stands_second rows.sizes (suc from) (tree_nodes t) (sizes_of t) (sizes_of u)
+            (stands_rest rows.sizes from (tree_nodes (and_tree t u)) (sizes_of t ++ sizes_of u) s.sizes) (sizes_long t);
         fragments = node_second fragment_of rows.fragments from s.own s.are.0 s.are.1 and_shape t s.are.2 s.are.4 s.fragments;
       })
   stand_second (Some (or_tree t u)) from s =
@@ -186,6 +195,8 @@ module _ (c : CheckedTerm) (budget : ℕ) (σ : List ValueTerm) (p : List Turn) 
         own = s.are.1;
         are = s.are.3;
         signs = node_second widget_signs rows.signs from s.own s.are.0 s.are.1 or_shape t s.are.2 s.are.4 s.signs;
+        sizes = stands_second rows.sizes (suc from) (tree_nodes t) (sizes_of t) (sizes_of u)
+            (stands_rest rows.sizes from (tree_nodes (or_tree t u)) (sizes_of t ++ sizes_of u) s.sizes) (sizes_long t);
         fragments = node_second fragment_of rows.fragments from s.own s.are.0 s.are.1 or_shape t s.are.2 s.are.4 s.fragments;
       })
   stand_second (Some (edit_tree b v)) from s = tt
@@ -202,6 +213,28 @@ module _ (c : CheckedTerm) (budget : ℕ) (σ : List ValueTerm) (p : List Turn) 
       let long = each_long widget_signs p t s.own s.are in
       let within = stands_within rows.signs from _ s.signs in
       omega (arith, long, within)
+
+  pub sizes_within : (t : TreeTerm) (from : ℕ) → RowsStand c budget t σ p from rows → from + tree_nodes t ≤ length rows.sizes
+  sizes_within t from s =
+      let long = sizes_long t in
+      let within = stands_within rows.sizes from (sizes_of t) s.sizes in
+      omega (arith, long, within)
+
+  -- the first row tells how many
+  pub size_stands : (t : TreeTerm) (from : ℕ) → RowsStand c budget t σ p from rows → FormerSize (Some t) from rows
+  size_stands t from s =
+      let within = sizes_within t from s in
+      let long = sizes_long t in
+      let some = ap length (sizes_split t) in
+      let below = drop 1 (sizes_of t) ++ s.sizes.back in (
+        omega (arith, within, long, some),
+        ap (λ z. slice_index z from) (s.sizes.split ∙ ap (λ z. s.sizes.front ++ (z ++ s.sizes.back)) (sizes_split t))
+            ∙ get_or_at s.sizes.front (tree_nodes t) below 0 from s.sizes.at,
+      )
+
+  pub former_size : (o : Option TreeTerm) (from : ℕ) → FormerStand c budget o σ p from rows → FormerSize o from rows
+  former_size None from s = tt
+  former_size (Some t) from s = size_stands t from s
 
   pub fragments_within : (t : TreeTerm) (from : ℕ) → RowsStand c budget t σ p from rows → from + tree_nodes t ≤ length rows.fragments
   fragments_within t from s =
@@ -262,20 +295,50 @@ module _ (c : CheckedTerm) (budget : ℕ) (τ : List ValueTerm) (p : List Turn) 
   abbrev RowAdded : ShapeTerm → RowsTerm → Type 0
   RowAdded s after = after ≡ rows_append before (row_of (widget_below p (here s)))
 
+  none_more : (middle after : RowsTerm) → after ≡ middle → after.sizes ≡ middle.sizes ++ []
+  none_more middle after e = ap (λ (r : RowsTerm). r.sizes) e ∙ sym (append-nil middle.sizes)
+
+  -- the sizes that the parts of a node add
+  parts_sizes : (t : TreeTerm) (middle after : RowsTerm) → PartsFollow c budget (node_parts t) τ p middle after
+      → after.sizes ≡ middle.sizes ++ drop 1 (sizes_of t)
+  parts_sizes (edit_tree b v) middle after f = none_more middle after f
+  parts_sizes (enter_tree b) middle after f = none_more middle after f
+  parts_sizes (share_tree b n) middle after f = none_more middle after f
+  parts_sizes fail_tree middle after f = none_more middle after f
+  parts_sizes (xor_tree j k) middle after f = none_more middle after f
+  parts_sizes (then_tree l k) middle after f = f.sizes
+  parts_sizes (next_tree l k) middle after f = f.sizes
+  parts_sizes (and_tree x y) middle after f =
+      (f.2).sizes ∙ ap (λ z. z ++ sizes_of y) (f.1).sizes ∙ append_assoc middle.sizes (sizes_of x) (sizes_of y)
+  parts_sizes (or_tree x y) middle after f =
+      (f.2).sizes ∙ ap (λ z. z ++ sizes_of y) (f.1).sizes ∙ append_assoc middle.sizes (sizes_of x) (sizes_of y)
+
+  abbrev Closed : RowsTerm → RowsTerm
+  Closed after = rows_closed (length before.sizes) after
+
+  -- and then the size of its root
+  root_sizes : (t : TreeTerm) (middle after : RowsTerm) → RootFollows c budget t τ p before middle
+      → PartsFollow c budget (node_parts t) τ p middle after → (Closed after).sizes ≡ before.sizes ++ sizes_of t
+  root_sizes t middle after r f =
+      closed before.sizes t after.sizes (length before.sizes) refl
+      (parts_sizes t middle after f ∙ ap (λ (z : RowsTerm). z.sizes ++ drop 1 (sizes_of t)) r.row)
+
   leaf : (t : TreeTerm) (s : ShapeTerm) (after : RowsTerm) → AreWidgets c budget t τ (here s ∷ []) → RowAdded s after
-      → RowsFollow c budget t τ p before after
-  leaf t s after w e = record {
+      → (Closed after).sizes ≡ before.sizes ++ sizes_of t → RowsFollow c budget t τ p before (Closed after)
+  leaf t s after w e sizes = record {
     own = here s ∷ [];
     are = w;
     signs = ap (λ (r : RowsTerm). r.signs) e;
+    sizes = sizes;
     fragments = ap (λ (r : RowsTerm). r.fragments) e;
   }
 
   -- a node with those of its parts behind it
   node : (t : TreeTerm) (s : ShapeTerm) (us : List WidgetTerm) (middle after : RowsTerm) → AreWidgets c budget t τ (here s ∷ us)
       → RowAdded s middle → after.signs ≡ middle.signs ++ map widget_signs (map (widget_below p) us)
-      → after.fragments ≡ middle.fragments ++ map fragment_of (map (widget_below p) us) → RowsFollow c budget t τ p before after
-  node t s us middle after w e signs fragments =
+      → after.fragments ≡ middle.fragments ++ map fragment_of (map (widget_below p) us)
+      → (Closed after).sizes ≡ before.sizes ++ sizes_of t → RowsFollow c budget t τ p before (Closed after)
+  node t s us middle after w e signs fragments sizes =
       let one = ap (λ (r : RowsTerm). r.signs) e in
       let two = ap (λ (r : RowsTerm). r.fragments) e in
       record {
@@ -283,6 +346,7 @@ module _ (c : CheckedTerm) (budget : ℕ) (τ : List ValueTerm) (p : List Turn) 
         are = w;
         signs = signs ∙ ap (λ z. z ++ map widget_signs (map (widget_below p) us)) one
             ∙ append_assoc before.signs (widget_signs (widget_below p (here s)) ∷ []) (map widget_signs (map (widget_below p) us));
+        sizes = sizes;
         fragments = fragments ∙ ap (λ z. z ++ map fragment_of (map (widget_below p) us)) two
             ∙ append_assoc before.fragments (fragment_of (widget_below p (here s)) ∷ []) (map fragment_of (map (widget_below p) us));
       }
@@ -300,20 +364,28 @@ module _ (c : CheckedTerm) (budget : ℕ) (τ : List ValueTerm) (p : List Turn) 
       (map (widget_below (p ++ turns.Second ∷ [])) ys)))
       ∙ ap (λ z. start ++ map f z) (sym (widgets_of_both p xs ys))
 
-  -- a tree's root with its parts
-  pub follow_node : (t : TreeTerm) (middle after : RowsTerm) → RootFollows c budget t τ p before middle
-      → PartsFollow c budget (node_parts t) τ p middle after → RowsFollow c budget t τ p before after
-  follow_node (edit_tree b v) middle after r f = leaf (edit_tree b v) r.shape after (ap (λ z. here z ∷ []) r.is) (f ∙ r.row)
-  follow_node (enter_tree b) middle after r f = leaf (enter_tree b) r.shape after (ap (λ z. here z ∷ []) r.is) (f ∙ r.row)
-  follow_node (share_tree b n) middle after r f = leaf (share_tree b n) r.shape after (ap (λ z. here z ∷ []) r.is) (f ∙ r.row)
-  follow_node fail_tree middle after r f = leaf fail_tree r.shape after (ap (λ z. here z ∷ []) r.is) (f ∙ r.row)
+  -- a tree's root with its parts, and then its size
+  follow_node : (t : TreeTerm) (middle after : RowsTerm) → RootFollows c budget t τ p before middle
+      → PartsFollow c budget (node_parts t) τ p middle after → RowsFollow c budget t τ p before (Closed after)
+  follow_node (edit_tree b v) middle after r f =
+      leaf (edit_tree b v) r.shape after (ap (λ z. here z ∷ []) r.is) (f ∙ r.row) (root_sizes (edit_tree b v) middle after r f)
+  follow_node (enter_tree b) middle after r f =
+      leaf (enter_tree b) r.shape after (ap (λ z. here z ∷ []) r.is) (f ∙ r.row) (root_sizes (enter_tree b) middle after r f)
+  follow_node (share_tree b n) middle after r f =
+      leaf (share_tree b n) r.shape after (ap (λ z. here z ∷ []) r.is) (f ∙ r.row) (root_sizes (share_tree b n) middle after r f)
+  follow_node fail_tree middle after r f =
+      leaf fail_tree r.shape after (ap (λ z. here z ∷ []) r.is) (f ∙ r.row) (root_sizes fail_tree middle after r f)
   follow_node (xor_tree j k) middle after r f =
-      let i = r.is in leaf (xor_tree j k) r.shape after (i.0, i.1, i.2, i.3, ap (λ z. here z ∷ []) i.4) (f ∙ r.row)
+      let i = r.is in
+      leaf (xor_tree j k) r.shape after (i.0, i.1, i.2, i.3, ap (λ z. here z ∷ []) i.4) (f ∙ r.row)
+      (root_sizes (xor_tree j k) middle after r f)
   follow_node (then_tree l k) middle after r f =
       node (then_tree l k) r.shape f.own middle after (f.own, f.are, ap (λ z. here z ∷ f.own) r.is) r.row f.signs f.fragments
+      (root_sizes (then_tree l k) middle after r f)
   follow_node (next_tree l k) middle after r f =
       let i = r.is in
       node (next_tree l k) r.shape f.own middle after (i.0, f.own, i.1, f.are, ap (λ z. here z ∷ f.own) i.2) r.row f.signs f.fragments
+      (root_sizes (next_tree l k) middle after r f)
   follow_node (and_tree x y) middle after r f =
       let one = f.1 in
       let two = f.2 in
@@ -321,6 +393,7 @@ module _ (c : CheckedTerm) (budget : ℕ) (τ : List ValueTerm) (p : List Turn) 
       (one.own, two.own, one.are, two.are, ap (λ z. here z ∷ both_widgets one.own two.own) r.is) r.row
       (both widget_signs one.own two.own middle.signs (f.0).signs after.signs one.signs two.signs)
       (both fragment_of one.own two.own middle.fragments (f.0).fragments after.fragments one.fragments two.fragments)
+      (root_sizes (and_tree x y) middle after r f)
   follow_node (or_tree x y) middle after r f =
       let one = f.1 in
       let two = f.2 in
@@ -328,6 +401,23 @@ module _ (c : CheckedTerm) (budget : ℕ) (τ : List ValueTerm) (p : List Turn) 
       (one.own, two.own, one.are, two.are, ap (λ z. here z ∷ both_widgets one.own two.own) r.is) r.row
       (both widget_signs one.own two.own middle.signs (f.0).signs after.signs one.signs two.signs)
       (both fragment_of one.own two.own middle.fragments (f.0).fragments after.fragments one.fragments two.fragments)
+      (root_sizes (or_tree x y) middle after r f)
+
+  -- what the parts of a node add stands behind its row
+  pub root_within : (t : TreeTerm) (middle after : RowsTerm) (number : ℕ) → number ≡ length before.sizes
+      → RootFollows c budget t τ p before middle → PartsFollow c budget (node_parts t) τ p middle after → number < length after.sizes
+  root_within t middle after number at r f =
+      let all = ap length (parts_sizes t middle after f ∙ ap (λ (z : RowsTerm). z.sizes ++ drop 1 (sizes_of t)) r.row) in
+      let one = length-append before.sizes (1 ∷ []) in
+      let two = length-append (before.sizes ++ 1 ∷ []) (drop 1 (sizes_of t)) in
+      omega (arith, all, one, two, at)
+
+  -- the same where it is closed by the number of its row
+  pub follow_closed : (t : TreeTerm) (middle after end : RowsTerm) (number : ℕ) → number ≡ length before.sizes → end ≡ rows_closed number after
+      → RootFollows c budget t τ p before middle → PartsFollow c budget (node_parts t) τ p middle after
+      → RowsFollow c budget t τ p before end
+  follow_closed t middle after end number at e r f =
+      subst (RowsFollow c budget t τ p before) (sym (e ∙ ap (λ n. rows_closed n after) at)) (follow_node t middle after r f)
 
 some_same : {A : Type 0} {x y : A} → Some x ≡ Some y → x ≡ y
 some_same e = cc
@@ -351,20 +441,31 @@ module _ (c : CheckedTerm) (budget : ℕ) (o : Option TreeTerm) (t : TreeTerm) (
   pub stood : RowsStand c budget t d.values p from rows
   stood = subst (λ z. FormerStand c budget z d.values p from rows) was d.stand
 
+  -- the first of its rows tells how many they are
+  pub first_size : FormerSize (Some t) from rows
+  first_size = size_stands c budget d.values p rows t from stood
+
+  pub behind_taken : from + slice_index rows.sizes from ≡ from + former_nodes o
+  behind_taken = ap (λ n. from + n) (first_size.1 ∙ ap former_nodes (sym was))
+
   pub follow_taken : ((c : CheckedTerm) (budget : ℕ) (t : TreeTerm) (σ τ : List ValueTerm) → AgreeOn (foot t) σ τ → (ws : List WidgetTerm)
       → AreWidgets c budget t σ ws ↔ AreWidgets c budget t τ ws) → (before after : RowsTerm)
-      → after ≡ rows_append before (rows_part from (tree_nodes t) rows) → RowsFollow c budget t τ p before after
+      → after ≡ rows_append before (rows_part from (slice_index rows.sizes from) rows) → RowsFollow c budget t τ p before after
   follow_taken frame before after e =
       let agree = subst (λ z. AgreeOn (foot z) d.values τ) same kept.agree in
+      let count = slice_index rows.sizes from in
+      let many = sym first_size.1 in
       let one = ap (λ (r : RowsTerm). r.signs) e in
+      let sizes = ap (λ (r : RowsTerm). r.sizes) e in
       let two = ap (λ (r : RowsTerm). r.fragments) e in
       record {
         own = stood.own;
         are = (frame c budget t d.values τ agree stood.own).0 stood.are;
-        signs = one ∙ ap (λ z. before.signs ++ z) (stands_taken rows.signs from (tree_nodes t) _ stood.signs
-            (each_long c budget d.values p rows widget_signs p t stood.own stood.are));
-        fragments = two ∙ ap (λ z. before.fragments ++ z) (stands_taken rows.fragments from (tree_nodes t) _ stood.fragments
-            (each_long c budget d.values p rows fragment_of p t stood.own stood.are));
+        signs = one ∙ ap (λ z. before.signs ++ z) (stands_taken rows.signs from count _ stood.signs
+            (each_long c budget d.values p rows widget_signs p t stood.own stood.are ∙ many));
+        sizes = sizes ∙ ap (λ z. before.sizes ++ z) (stands_taken rows.sizes from count (sizes_of t) stood.sizes (sizes_long t ∙ many));
+        fragments = two ∙ ap (λ z. before.fragments ++ z) (stands_taken rows.fragments from count _ stood.fragments
+            (each_long c budget d.values p rows fragment_of p t stood.own stood.are ∙ many));
       }
 
 -- ---- the whole tree
@@ -379,14 +480,15 @@ told_root c budget old new σ τ p rows m root r tells =
         are = r.1;
         signs = stands_same rows.signs 0 _ _ (ap (λ (z : RowsTerm). z.signs) r.2 ∙ ap (map widget_signs) (sym each))
             (stands_whole rows.signs);
+        sizes = stands_same rows.sizes 0 _ _ (ap (λ (z : RowsTerm). z.sizes) r.2) (stands_whole rows.sizes);
         fragments = stands_same rows.fragments 0 _ _ (ap (λ (z : RowsTerm). z.fragments) r.2 ∙ ap (map fragment_of) (sym each))
             (stands_whole rows.fragments);
       };
       marks = tells;
     }
 
-abbrev rows_with : List Signs → List FragmentTerm → RowsTerm
-rows_with xs ys = record { signs = xs; fragments = ys }
+abbrev rows_with : List Signs → List ℕ → List FragmentTerm → RowsTerm
+rows_with xs ns ys = record { signs = xs; sizes = ns; fragments = ys }
 
 pub follow_root : (c : CheckedTerm) (budget : ℕ) (t : TreeTerm) (τ : List ValueTerm) (p : List Turn) (before after : RowsTerm) → p ≡ []
     → before ≡ no_rows → RowsFollow c budget t τ p before after → AreRows c budget t τ after
@@ -394,15 +496,16 @@ follow_root c budget t τ p before after root none f =
     let each = ap (λ q. map (widget_below q) f.own) root ∙ widgets_at_root f.own in
     let signs = f.signs ∙ ap (λ (r : RowsTerm). r.signs ++ map widget_signs (map (widget_below p) f.own)) none
     ∙ ap (map widget_signs) each in
+    let sizes = f.sizes ∙ ap (λ (r : RowsTerm). r.sizes ++ sizes_of t) none in
     let fragments = f.fragments ∙ ap (λ (r : RowsTerm). r.fragments ++ map fragment_of (map (widget_below p) f.own)) none
     ∙ ap (map fragment_of) each in (
       f.own,
       f.are,
-      ap (λ z. rows_with z after.fragments) signs ∙ ap (rows_with (map widget_signs f.own)) fragments,
+      ap (λ z. rows_with z after.sizes after.fragments) signs ∙ ap (λ z. rows_with (map widget_signs f.own) z after.fragments) sizes
+          ∙ ap (rows_with (map widget_signs f.own) (sizes_of t)) fragments,
     )
 
 -- a row for each node
 pub rows_long : (c : CheckedTerm) (budget : ℕ) (t : TreeTerm) (σ : List ValueTerm) (rows : RowsTerm) → AreRows c budget t σ rows
-    → length rows.fragments ≡ tree_nodes t
-rows_long c budget t σ rows r =
-    ap (λ (z : RowsTerm). length z.fragments) r.2 ∙ length-map r.0 fragment_of ∙ one_each c budget σ t r.0 r.1
+    → length rows.sizes ≡ tree_nodes t
+rows_long c budget t σ rows r = ap (λ (z : RowsTerm). length z.sizes) r.2 ∙ sizes_long t

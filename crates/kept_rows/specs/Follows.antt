@@ -1,5 +1,5 @@
 -- Where the rows of a tree stand among others.
-use Rattle.std.specs.Prelude.{◌≡◌, ℕ, ◌+◌, ◌≤◌, List, [], ◌∷◌, ◌++◌, map, length, Option, None, Some}
+use Rattle.std.specs.Prelude.{◌≡◌, ℕ, ◌+◌, ◌<◌, ◌≤◌, List, [], ◌∷◌, ◌++◌, map, length, slice_index, Option, None, Some}
 use Rattle.std.specs.Option.{option_map}
 use Rattle.task_model.specs.Terms.Value.{ValueTerm}
 use Rattle.task_model.specs.Terms.Tree.{TreeTerm, tree_term}
@@ -14,7 +14,7 @@ use Rattle.kept_nodes.specs.KeptMarks.{TellsKept}
 use Rattle.kept_nodes.specs.NodeParts.{NodePartsTerm, leaf_parts, step_parts, pair_parts}
 use Rattle.kept_nodes.specs.declared.marks.Marks.{Marks}
 use Rattle.node_rows.specs.Rows.{RowsTerm, row_of, rows_append, widget_signs}
-use Rattle.node_rows.specs.TreeNodes.{tree_nodes}
+use Rattle.node_rows.specs.TreeNodes.{tree_nodes, sizes_of}
 use Rattle.kept_rows.specs.Shapes.{IsShape}
 use Rattle.kept_rows.specs.declared.former.Former.{Former}
 
@@ -24,6 +24,7 @@ pub record RowsFollow (c : CheckedTerm) (budget : ℕ) (t : TreeTerm) (σ : List
     pub own : List WidgetTerm
     pub are : AreWidgets c budget t σ own
     pub signs : after.signs ≡ before.signs ++ map widget_signs (map (widget_below p) own)
+    pub sizes : after.sizes ≡ before.sizes ++ sizes_of t
     pub fragments : after.fragments ≡ before.fragments ++ map fragment_of (map (widget_below p) own)
 
 -- the row of a tree's root, which stands at a path, stands behind these
@@ -55,12 +56,18 @@ pub record RowsStand (c : CheckedTerm) (budget : ℕ) (t : TreeTerm) (σ : List 
     pub own : List WidgetTerm
     pub are : AreWidgets c budget t σ own
     pub signs : StandsFrom rows.signs from (map widget_signs (map (widget_below p) own))
+    pub sizes : StandsFrom rows.sizes from (sizes_of t)
     pub fragments : StandsFrom rows.fragments from (map fragment_of (map (widget_below p) own))
 
 -- the rows of what stood in a place, if anything did
 abbrev pub FormerStand : CheckedTerm → ℕ → Option TreeTerm → List ValueTerm → List Turn → ℕ → RowsTerm → Type 0
 FormerStand c budget None σ p from rows = Unit {0}
 FormerStand c budget (Some t) σ p from rows = RowsStand c budget t σ p from rows
+
+-- of what stood in a place, if anything did, these rows tell at the number of its first one how many nodes it has
+abbrev pub FormerSize : Option TreeTerm → ℕ → RowsTerm → Type 0
+FormerSize None from rows = Unit {0}
+FormerSize (Some t) from rows = (from < length rows.sizes) × (slice_index rows.sizes from ≡ tree_nodes t)
 
 -- how many nodes stood in a place
 abbrev pub former_nodes : Option TreeTerm → ℕ

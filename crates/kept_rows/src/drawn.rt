@@ -1,4 +1,4 @@
-ghost use Rattle.std.specs.Prelude.{◌≡◌, ◌+◌, ◌≤◌, [], length, map, IfOk, OnOk};
+ghost use Rattle.std.specs.Prelude.{◌≡◌, ◌+◌, ◌<◌, ◌≤◌, [], length, map, slice_index, IfOk, OnOk};
 ghost use Rattle.task_model.specs.Terms.Value.{value_term};
 ghost use Rattle.task_model.specs.Terms.Tree.{tree_term, at};
 ghost use Rattle.task_model.specs.Running.Checked.{checked_term};
@@ -6,10 +6,8 @@ ghost use Rattle.task_model.specs.Checking.Fits.{Fits};
 ghost use Rattle.task_model.specs.Showing.Widget.{here, shape_term};
 ghost use Rattle.task_tree.specs.Below.{widget_below};
 ghost use Rattle.node_rows.specs.Rows.{no_rows, row_of, rows_append, rows_part};
-ghost use Rattle.node_rows.specs.TreeNodes.{tree_nodes};
 ghost use Rattle.kept_rows.specs.Follows.{RootFollows};
 
-use crate::counting::count_nodes;
 use crate::shapes::shape_of;
 use node_rows::NodeRows;
 use shared_store::Store;
@@ -74,21 +72,18 @@ impl Drawn {
         self.rows.draw(alloc, &Widget { path, shape }, steps)
     }
 
-    /// Takes over the rows of a part from a number on, and answers the number behind them: nothing is tested and nothing drawn.
-    pub(crate) fn take_over(
-        &mut self,
-        rows: &NodeRows,
-        from: usize,
-        t: &Tree,
-    ) -> Result<usize, OutOfMemory>
-        requires room { from + tree_nodes (tree_term t.now) ≤ usize.MAX }
-        requires signs { from + tree_nodes (tree_term t.now) ≤ length rows.now.signs }
-        requires fragments { from + tree_nodes (tree_term t.now) ≤ length rows.now.fragments }
+    /// Takes over the rows of the part whose first one has this number, and answers the number behind them: nothing is tested and nothing drawn.
+    pub(crate) fn take_over(&mut self, rows: &NodeRows, from: usize) -> Result<usize, OutOfMemory>
+        requires number { from < length rows.now.sizes }
+        requires room { from + slice_index rows.now.sizes from ≤ usize.MAX }
+        requires signs { from + slice_index rows.now.sizes from ≤ length rows.now.signs }
+        requires sizes { from + slice_index rows.now.sizes from ≤ length rows.now.sizes }
+        requires fragments { from + slice_index rows.now.sizes from ≤ length rows.now.fragments }
         ensures trail { self.new.trail ≡ self.old.trail }
-        ensures behind { IfOk result (λ n. n ≡ from + tree_nodes (tree_term t.now)) }
-        ensures rows { OnOk result (self.new.rows ≡ rows_append self.old.rows (rows_part from (tree_nodes (tree_term t.now)) rows.now)) }
+        ensures behind { IfOk result (λ n. n ≡ from + slice_index rows.now.sizes from) }
+        ensures rows { OnOk result (self.new.rows ≡ rows_append self.old.rows (rows_part from (slice_index rows.now.sizes from) rows.now)) }
     {
-        let count = count_nodes(t);
+        let count = rows.size_at(from);
         self.rows.take_over(rows, from, count)?;
         Ok(from + count)
     }

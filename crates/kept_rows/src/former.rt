@@ -2,10 +2,10 @@ ghost use Rattle.std.specs.Prelude.{◌≡◌, ◌+◌, ◌≤◌, ◌∷◌};
 ghost use Rattle.task_model.specs.Running.Address.{Address, into_first, into_left, into_second};
 ghost use Rattle.kept_nodes.specs.KeptMarks.{told};
 ghost use Rattle.kept_nodes.specs.NodeParts.{first_part_of, left_part_of, second_part_of};
-ghost use Rattle.kept_rows.specs.Follows.{former_nodes, former_root, tree_in};
+ghost use Rattle.kept_rows.specs.Follows.{former_nodes, former_root, tree_in, FormerSize};
 
-use crate::counting::count_nodes;
 use kept_nodes::{Marks, first_part, left_part, second_part};
+use node_rows::NodeRows;
 use task_model::Tree;
 
 /// What stood in the place of a part: a tree, if any did, the number of its first row, and what is kept of it there.
@@ -59,38 +59,41 @@ impl<'f> Former<'f> {
     }
 
     /// The number of the first row behind those of what stood there.
-    pub(crate) fn behind(&self) -> usize
-        requires { self.now.from + former_nodes (tree_in self.now) ≤ usize.MAX }
+    pub(crate) fn behind(&self, rows: &NodeRows) -> usize
+        requires room { self.now.from + former_nodes (tree_in self.now) ≤ usize.MAX }
+        requires size { FormerSize (tree_in self.now) self.now.from rows.now }
         ensures { result ≡ self.now.from + former_nodes (tree_in self.now) }
     {
         match self.tree {
-            Some(t) => self.from + count_nodes(t),
+            Some(_) => self.from + rows.size_at(self.from),
             None => self.from,
         }
     }
 
     /// The same, where the rows in the place of the left part of a step end before a number.
-    pub(crate) fn behind_left(&self, left: usize) -> usize
+    pub(crate) fn behind_left(&self, rows: &NodeRows, left: usize) -> usize
         requires room { self.now.from + former_nodes (tree_in self.now) ≤ usize.MAX }
+        requires size { FormerSize (tree_in self.now) self.now.from rows.now }
         requires left { left ≡ (self.now.from + former_root (tree_in self.now)) + former_nodes (left_part_of (tree_in self.now)) }
         ensures { result ≡ self.now.from + former_nodes (tree_in self.now) }
     {
         match left_part(self.tree) {
             Some(_) => left,
-            None => self.behind(),
+            None => self.behind(rows),
         }
     }
 
     /// The same, where the rows in the place of the second part of a pair or a choice end before a number.
-    pub(crate) fn behind_second(&self, second: usize) -> usize
+    pub(crate) fn behind_second(&self, rows: &NodeRows, second: usize) -> usize
         requires room { self.now.from + former_nodes (tree_in self.now) ≤ usize.MAX }
+        requires size { FormerSize (tree_in self.now) self.now.from rows.now }
         requires second { second ≡ ((self.now.from + former_root (tree_in self.now)) + former_nodes (first_part_of (tree_in self.now)))
             + former_nodes (second_part_of (tree_in self.now)) }
         ensures { result ≡ self.now.from + former_nodes (tree_in self.now) }
     {
         match second_part(self.tree) {
             Some(_) => second,
-            None => self.behind(),
+            None => self.behind(rows),
         }
     }
 

@@ -2,7 +2,6 @@
 //! most twice and drawn once.
 #![tactic(auto)]
 
-mod counting;
 mod drawn;
 mod former;
 mod shapes;

@@ -84,10 +84,13 @@ fn add_rows<L: Ledger>(
 {
     if former.marks.is_whole() {
         foot_frames_offers_and_widgets();
-        return drawn.take_over(rows, former.from, new);
+        return drawn.take_over(rows, former.from);
     }
+    let number = drawn.rows.len();
     drawn.add_root(engine, new, store, budget, steps)?;
-    add_parts(drawn, engine, former, rows, new, store, budget, steps)
+    let behind = add_parts(drawn, engine, former, rows, new, store, budget, steps)?;
+    drawn.rows.close(number);
+    Ok(behind)
 }
 
 // Adds the rows of the parts of a node that isn't kept.
@@ -115,11 +118,11 @@ fn add_parts<L: Ledger>(
         drawn.old.trail drawn.old.rows drawn.new.rows) }
 {
     match parts_of(new) {
-        Parts::Leaf => Ok(former.behind()),
+        Parts::Leaf => Ok(former.behind(rows)),
         Parts::Step(part) => {
             let there = former.left();
             let left = add_rows(drawn, engine, &there, rows, part, store, budget, steps)?;
-            Ok(former.behind_left(left))
+            Ok(former.behind_left(rows, left))
         }
         Parts::Pair(a, b) => {
             let there = former.first();
@@ -146,7 +149,7 @@ fn add_parts<L: Ledger>(
                 budget,
                 steps,
             )?;
-            Ok(former.behind_second(second))
+            Ok(former.behind_second(rows, second))
         }
     }
 }

@@ -1,5 +1,5 @@
 -- The rows of a tree: what is observed of each of its nodes.
-use Rattle.std.specs.Prelude.{◌≡◌, ℕ, List, [], ◌∷◌, ◌++◌, map, take, drop}
+use Rattle.std.specs.Prelude.{◌≡◌, ℕ, ◌-◌, List, [], ◌∷◌, ◌++◌, length, map, take, drop, slice_set}
 use Rattle.task_model.specs.Terms.Value.{ValueTerm}
 use Rattle.task_model.specs.Terms.Tree.{TreeTerm}
 use Rattle.task_model.specs.Running.Checked.{CheckedTerm}
@@ -7,12 +7,14 @@ use Rattle.task_model.specs.Showing.Widget.{ShapeTerm, step_shape, pick_shape, W
 use Rattle.task_model.specs.declared.widget.Sign.{Sign}
 use Rattle.task_model.specs.declared.widget.Sign.TheVariants as signs
 use Rattle.html_pages.specs.Fragments.{FragmentTerm, fragment_of}
+use Rattle.node_rows.specs.TreeNodes.{sizes_of}
 use Rattle.node_rows.specs.declared.signs.Signs.{Signs}
 use Rattle.node_rows.specs.declared.signs.Signs.TheVariants as signed
 
--- rows: the signs of each node's tests, and its fragment
+-- rows: the signs of each node's tests, how many nodes its part of the tree has, and its fragment
 pub record RowsTerm : Type 0 where
   pub signs : List Signs
+  pub sizes : List ℕ
   pub fragments : List FragmentTerm
 
 -- the signs that a shape shows
@@ -38,26 +40,42 @@ abbrev pub right_sign : Signs → Sign
 right_sign (signed.Pick s z) = z
 right_sign other = signs.No
 
--- the rows of these widgets
-abbrev pub rows_of : List WidgetTerm → RowsTerm
-rows_of ws = record { signs = map widget_signs ws; fragments = map fragment_of ws }
+-- the rows of these widgets, whose nodes have parts of these sizes
+abbrev pub rows_sized : List ℕ → List WidgetTerm → RowsTerm
+rows_sized ns ws = record { signs = map widget_signs ws; sizes = ns; fragments = map fragment_of ws }
 
--- the row of one widget
+-- the rows of a tree that has these widgets
+abbrev pub rows_of : TreeTerm → List WidgetTerm → RowsTerm
+rows_of t ws = rows_sized (sizes_of t) ws
+
+-- the row of one widget, whose node has no parts as yet
 abbrev pub row_of : WidgetTerm → RowsTerm
-row_of w = rows_of (w ∷ [])
+row_of w = rows_sized (1 ∷ []) (w ∷ [])
 
 -- no rows
 abbrev pub no_rows : RowsTerm
-no_rows = record { signs = []; fragments = [] }
+no_rows = rows_sized [] []
 
 -- rows, and others behind them
 abbrev pub rows_append : RowsTerm → RowsTerm → RowsTerm
-rows_append r s = record { signs = r.signs ++ s.signs; fragments = r.fragments ++ s.fragments }
+rows_append r s = record { signs = r.signs ++ s.signs; sizes = r.sizes ++ s.sizes; fragments = r.fragments ++ s.fragments }
 
 -- so many of these rows, from a number on
 abbrev pub rows_part : ℕ → ℕ → RowsTerm → RowsTerm
-rows_part from count r = record { signs = take count (drop from r.signs); fragments = take count (drop from r.fragments) }
+rows_part from count r = record {
+  signs = take count (drop from r.signs);
+  sizes = take count (drop from r.sizes);
+  fragments = take count (drop from r.fragments);
+}
 
--- these are the rows of a tree over a store: those of its widgets
+-- sizes where the part of the node of this number is all from there on
+abbrev pub sizes_closed : ℕ → List ℕ → List ℕ
+sizes_closed number ns = slice_set ns number (length ns - number)
+
+-- rows where the part of the node of this number is all from there on
+abbrev pub rows_closed : ℕ → RowsTerm → RowsTerm
+rows_closed number r = record { signs = r.signs; sizes = sizes_closed number r.sizes; fragments = r.fragments }
+
+-- these are the rows of a tree over a store: those of its widgets, with the sizes of its parts
 abbrev pub AreRows : CheckedTerm → ℕ → TreeTerm → List ValueTerm → RowsTerm → Type 0
-AreRows c budget t σ rows = (ws : List WidgetTerm) × AreWidgets c budget t σ ws × (rows ≡ rows_of ws)
+AreRows c budget t σ rows = (ws : List WidgetTerm) × AreWidgets c budget t σ ws × (rows ≡ rows_of t ws)

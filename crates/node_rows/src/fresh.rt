@@ -5,10 +5,11 @@ ghost use Rattle.task_model.specs.Running.Checked.{checked_term};
 ghost use Rattle.task_model.specs.Checking.Fits.{Fits};
 ghost use Rattle.task_model.specs.Showing.Widget.{widget_term};
 ghost use Rattle.observe_inputs.specs.TestsIn.{tests_in};
-ghost use Rattle.node_rows.specs.Rows.{AreRows, rows_of};
+ghost use Rattle.node_rows.specs.Rows.{AreRows, rows_sized};
 ghost use Rattle.node_rows.specs.TreeNodes.{tree_nodes};
 
 use crate::rows::NodeRows;
+use crate::sizes::tree_sizes;
 use interface::widgets;
 use observe_inputs::offers;
 use shared_store::Store;
@@ -34,21 +35,23 @@ pub fn fresh_rows<L: Ledger>(
     let alloc = engine.alloc();
     let offers = offers(engine, t, store, budget, steps)?;
     let shown = widgets(alloc, t, &*store, offers.as_slice())?;
-    drawn(alloc, shown.as_slice(), steps)
+    let sizes = tree_sizes(alloc, t)?;
+    drawn(alloc, sizes, shown.as_slice(), steps)
 }
 
-// The rows of widgets, in order.
+// The rows of widgets, in order, whose nodes have parts of these sizes.
 fn drawn<L: Ledger>(
     alloc: Global,
+    sizes: Vec<usize>,
     widgets: &[Widget],
     steps: &mut Steps<L>,
 ) -> Result<NodeRows, OutOfMemory>
-    ensures rows { IfOk result (λ rows. rows ≡ rows_of (map widget_term widgets.now)) }
+    ensures rows { IfOk result (λ rows. rows ≡ rows_sized sizes.items (map widget_term widgets.now)) }
     ensures steps { OnOk result (steps.new ≡ steps.old + length widgets.now) }
 {
-    let mut rows = NodeRows::new(alloc);
+    let mut rows = NodeRows::of_sizes(alloc, sizes);
     for widget in widgets {
-        rows.draw(alloc, widget, steps)?;
+        rows.show(alloc, widget, steps)?;
     }
     Ok(rows)
 }

@@ -1,18 +1,22 @@
-ghost use Rattle.std.specs.Prelude.{◌≡◌, ◌+◌, ◌≤◌, length, OnOk};
+ghost use Rattle.std.specs.Prelude.{◌≡◌, ◌+◌, ◌<◌, ◌≤◌, [], ◌∷◌, ◌++◌, length, slice_index, OnOk};
 ghost use Rattle.task_model.specs.Showing.Widget.{widget_term};
-ghost use Rattle.node_rows.specs.Rows.{no_rows, row_of, rows_append, rows_part};
+ghost use Rattle.html_pages.specs.Fragments.{fragment_of};
+ghost use Rattle.node_rows.specs.Rows.{no_rows, row_of, rows_append, rows_closed, rows_part, rows_sized, widget_signs};
 
 use crate::signs::Signs;
+use crate::sizes::close;
 use html_pages::{Fragments, draw_node};
 use std::alloc::Global;
 use std::marker::Model;
 use std::sync::ledger::Ledger;
-use task_model::{OutOfMemory, Row, Steps, Widget};
+use task_model::{OutOfMemory, Steps, Widget};
 
-/// Rows of nodes, in pre-order. Contracts see the list of the signs and that of the fragments.
+/// Rows of nodes, in pre-order. Contracts see the list of the signs, that of the sizes and that of the fragments.
 #[derive(Drop)]
 pub struct NodeRows {
-    signs: Row<Signs>,
+    signs: Vec<Signs>,
+    // How many nodes the part of each one has.
+    sizes: Vec<usize>,
     fragments: Fragments,
 }
 
@@ -21,7 +25,7 @@ impl Model for NodeRows {
 
     ghost Value = { RowsTerm };
 
-    ghost view = { λ r. record { signs = r.signs.list; fragments = r.fragments } };
+    ghost view = { λ r. record { signs = r.signs.items; sizes = r.sizes.items; fragments = r.fragments } };
 }
 
 impl NodeRows {
@@ -29,13 +33,39 @@ impl NodeRows {
     pub fn new(alloc: Global) -> NodeRows
         ensures { result ≡ no_rows }
     {
+        NodeRows::of_sizes(alloc, Vec::new(alloc))
+    }
+
+    /// The sizes of a tree's parts, before any of its nodes is shown.
+    pub(crate) fn of_sizes(alloc: Global, sizes: Vec<usize>) -> NodeRows
+        ensures { result ≡ rows_sized sizes.items [] }
+    {
         NodeRows {
-            signs: Row::new(alloc),
+            signs: Vec::new(alloc),
+            sizes,
             fragments: Fragments::new(alloc),
         }
     }
 
-    /// Draws a widget, and puts its row behind the others. It counts one step.
+    /// Draws a widget, and puts its signs and its fragment behind the others. It counts one step.
+    pub(crate) fn show<L: Ledger>(
+        &mut self,
+        alloc: Global,
+        widget: &Widget,
+        steps: &mut Steps<L>,
+    ) -> Result<(), OutOfMemory>
+        ensures signs { OnOk result (self.new.signs ≡ self.old.signs ++ widget_signs (widget_term widget.now) ∷ []) }
+        ensures sizes { self.new.sizes ≡ self.old.sizes }
+        ensures fragments { OnOk result (self.new.fragments ≡ self.old.fragments ++ fragment_of (widget_term widget.now) ∷ []) }
+        ensures steps { steps.new ≡ steps.old + 1 }
+    {
+        let fragment = draw_node(alloc, widget, steps)?;
+        self.fragments.push(fragment)?;
+        self.signs.push(Signs::of(&widget.shape))?;
+        Ok(())
+    }
+
+    /// Draws a widget, and puts its row behind the others: its node has no parts as yet. It counts one step.
     pub fn draw<L: Ledger>(
         &mut self,
         alloc: Global,
@@ -45,9 +75,17 @@ impl NodeRows {
         ensures row { OnOk result (self.new ≡ rows_append self.old (row_of (widget_term widget.now))) }
         ensures steps { steps.new ≡ steps.old + 1 }
     {
-        let fragment = draw_node(alloc, widget, steps)?;
-        self.fragments.push(fragment)?;
-        self.signs.push(Signs::of(&widget.shape))
+        self.show(alloc, widget, steps)?;
+        self.sizes.push(1)?;
+        Ok(())
+    }
+
+    /// The part of the node of this number is all from there on.
+    pub fn close(&mut self, number: usize)
+        requires { number < length self.old.sizes }
+        ensures { self.new ≡ rows_closed number self.old }
+    {
+        close(&mut self.sizes, number);
     }
 
     /// Puts so many rows of others, from a number on, behind these: nothing is drawn.
@@ -58,22 +96,31 @@ impl NodeRows {
         count: usize,
     ) -> Result<(), OutOfMemory>
         requires signs { from + count ≤ length others.now.signs }
+        requires sizes { from + count ≤ length others.now.sizes }
         requires fragments { from + count ≤ length others.now.fragments }
         ensures { OnOk result (self.new ≡ rows_append self.old (rows_part from count others.now)) }
     {
         self.fragments.take_over(&others.fragments, from, count)?;
-        self.signs.reserve(count)?;
-        for signs in &others.signs.as_slice()[from..from + count] {
-            self.signs.push(*signs)?;
-        }
+        self.signs
+            .extend_from_slice(&others.signs[from..from + count])?;
+        self.sizes
+            .extend_from_slice(&others.sizes[from..from + count])?;
         Ok(())
     }
 
     /// How many rows there are.
     pub fn len(&self) -> usize
-        ensures { result ≡ length self.now.fragments }
+        ensures { result ≡ length self.now.sizes }
     {
-        self.fragments.len()
+        self.sizes.len()
+    }
+
+    /// How many nodes the part of the node of this number has.
+    pub fn size_at(&self, number: usize) -> usize
+        requires { number < length self.now.sizes }
+        ensures { result ≡ slice_index self.now.sizes number }
+    {
+        self.sizes[number]
     }
 
     /// The signs of each node's tests.

@@ -1,4 +1,5 @@
 use Rattle.std.proofs.Common.{◌≡◌, ◌+◌, ◌*◌, ◌≤◌, [], ◌∷◌, ◌++◌, map, refl, sym, ap, ◌∙◌, subst, arith}
+use Rattle.std.specs.Prelude.{slice_index}
 use Rattle.std.proofs.lemmas.Result.{IfOk-weaker, on_ok_weaker}
 use Rattle.task_model.specs.Terms.Value.{value_term}
 use Rattle.task_model.specs.Terms.Tree.{tree_term}
@@ -7,7 +8,7 @@ use Rattle.task_model.specs.declared.input.Turn.TheVariants as turns
 use Rattle.kept_nodes.proofs.CountLemmas.{step_fewer, pair_fewer, untold_step, untold_pair}
 use Rattle.kept_rows.specs.Follows.{former_nodes, former_root, tree_in}
 use Rattle.kept_rows.proofs.CountLemmas.{left_within, both_within}
-use Rattle.kept_rows.proofs.RowLemmas.{fits_step, fits_pair, signs_within, fragments_within, told_left, told_first, told_second, follow_node, was, stood, follow_taken}
+use Rattle.kept_rows.proofs.RowLemmas.{fits_step, fits_pair, signs_within, sizes_within, former_size, fragments_within, told_left, told_first, told_second, root_within, follow_closed, stood, first_size, behind_taken, follow_taken}
 use Rattle.kept_rows.proofs.walk.+rows.Goals as goal
 
 -- ---- a part that is kept
@@ -15,20 +16,28 @@ pub add_rows-take_over-requires : goal.add_rows-take_over-requires
 add_rows-take_over-requires g t c =
     let whole = sym c.is_whole.ensures ∙ c.if-is_whole.true in
     let there = stood _ _ _ _ _ _ _ _ _ c.requires.told whole in
-    let nodes = ap former_nodes (was _ _ _ _ _ _ _ _ _ c.requires.told whole) in
+    let behind = behind_taken _ _ _ _ _ _ _ _ _ c.requires.told whole in
     let room = c.requires.room in
+    let first = first_size _ _ _ _ _ _ _ _ _ c.requires.told whole in
+    let size = first.1 in
+    let signs = signs_within _ _ _ _ _ (tree_term c.args.new.now) _ there in
+    let sizes = sizes_within _ _ _ _ _ (tree_term c.args.new.now) _ there in
+    let fragments = fragments_within _ _ _ _ _ (tree_term c.args.new.now) _ there in
     record {
-      room = omega (arith, nodes, room);
-      signs = signs_within _ _ _ _ _ (tree_term c.args.new.now) _ there;
-      fragments = fragments_within _ _ _ _ _ (tree_term c.args.new.now) _ there;
+      number = first.0;
+      room = omega (arith, behind, room);
+      signs = omega (arith, signs, size);
+      sizes = omega (arith, sizes, size);
+      fragments = omega (arith, fragments, size);
     }
 
 pub add_rows-returns-then-is_whole-clause-behind : goal.add_rows-returns-then-is_whole-clause-behind
 add_rows-returns-then-is_whole-clause-behind g t c =
     let whole = sym c.is_whole.ensures ∙ c.if-is_whole.true in
-    IfOk-weaker c.take_over.result _ _
-    (λ n e. e ∙ ap (λ o. c.args.former.now.from + former_nodes o) (sym (was _ _ _ _ _ _ _ _ _ c.requires.told whole)))
-    c.take_over.ensures.behind
+    let from = c.args.former.now.from in
+    IfOk-weaker c.take_over.result (λ n. n ≡ from + slice_index c.args.rows.now.sizes from)
+    (λ n. n ≡ from + former_nodes (tree_in c.args.former.now))
+    (λ n e. e ∙ behind_taken _ _ _ _ _ _ _ _ _ c.requires.told whole) c.take_over.ensures.behind
 
 pub add_rows-returns-then-is_whole-clause-rows : goal.add_rows-returns-then-is_whole-clause-rows
 add_rows-returns-then-is_whole-clause-rows g t c =
@@ -38,13 +47,28 @@ add_rows-returns-then-is_whole-clause-rows g t c =
     c.take_over.ensures.rows
 
 -- ---- any other node
+pub add_rows-close-requires : goal.add_rows-close-requires
+add_rows-close-requires g t c =
+    let root = c.in_ok-add_root.ensures in
+    root_within _ _ _ _ _ (tree_term c.args.new.now) _ _ _ c.len-number.ensures root.root
+    (rw (root.store, root.trail) at c.in_ok-behind.ensures.rows)
+
 pub add_rows-returns-clause-rows : goal.add_rows-returns-clause-rows
 add_rows-returns-clause-rows g t c =
     let root = c.in_ok-add_root.ensures in
-    on_ok_weaker c.add_parts.result
-    (λ f. follow_node _ _ _ _ _ (tree_term c.args.new.now) _ _ root.root (rw (root.store, root.trail) at f)) c.add_parts.ensures.rows
+    follow_closed _ _ _ _ _ (tree_term c.args.new.now) _ _ _ _ c.len-number.ensures c.close.ensures root.root
+    (rw (root.store, root.trail) at c.in_ok-behind.ensures.rows)
 
 -- ---- the parts of a node
+pub add_parts-behind-requires-clause-size : goal.add_parts-behind-requires-clause-size
+add_parts-behind-requires-clause-size g t c = former_size _ _ _ _ _ (tree_in c.args.former.now) _ c.requires.told.stand
+
+pub add_parts-behind_left-requires-clause-size : goal.add_parts-behind_left-requires-clause-size
+add_parts-behind_left-requires-clause-size g t c = former_size _ _ _ _ _ (tree_in c.args.former.now) _ c.requires.told.stand
+
+pub add_parts-behind_second-requires-clause-size : goal.add_parts-behind_second-requires-clause-size
+add_parts-behind_second-requires-clause-size g t c = former_size _ _ _ _ _ (tree_in c.args.former.now) _ c.requires.told.stand
+
 pub add_parts-add_rows-requires : goal.add_parts-add_rows-requires
 add_parts-add_rows-requires g t c κs within =
     let new = tree_term c.args.new.now in
