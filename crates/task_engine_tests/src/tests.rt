@@ -5,7 +5,6 @@
 //! behind the lines above it. It is tried with just that work, and with a unit and a rule less, where it has to be over; one that answers
 //! `over` with that work alone. A test takes units alone. Behind `clear` the bench is as it was new.
 
-use crate::Bench;
 use answering::{Answer, answered, done, is_test};
 use showing::{layers_text, state_text};
 use std::alloc::Global;
@@ -14,6 +13,7 @@ use std::sync::ledger::Ledger;
 use std::test::Fail;
 use std::thread;
 use task_model::{OutOfMemory, Steps};
+use testing_engine::Bench;
 use testing_programs::{BlockTest, accepted, is_right, repeated, table_differences};
 
 mod answering;

@@ -1,10 +1,10 @@
 //! Calls on a bench, and what they answer in words.
 use super::showing::{layers_text, state_text};
-use crate::Bench;
 use literal_text::read_any;
 use std::alloc::Global;
 use std::sync::ledger::Ledger;
 use task_model::{OutOfMemory, Purse, Sign, Steps, Stop, Value};
+use testing_engine::Bench;
 
 /// What a call answers: a word, the state behind it with the layers, and what is left of the purse.
 #[derive(Drop)]

@@ -1,9 +1,9 @@
 //! Trees and stores as text.
 
-use crate::Bench;
 use literal_text::print_value;
 use std::alloc::Global;
 use task_model::{OutOfMemory, Value};
+use testing_engine::Bench;
 use testing_programs::tree_text;
 
 fn push_values(alloc: Global, text: &mut String, values: &[Value]) -> Result<(), OutOfMemory> {

@@ -3,8 +3,8 @@
 use literal_text::print_basic;
 use std::alloc::Global;
 use std::sync::ledger::Ledger;
-use task_engine_tests::Bench;
 use task_model::{Answer, Offer, OfferKind, OutOfMemory, Purse, Row, Steps, Turn};
+use testing_engine::Bench;
 use testing_programs::accepted;
 
 fn push_path(text: &mut String, turns: &[Turn]) -> Result<(), OutOfMemory> {

@@ -4,8 +4,8 @@ use Rattle.task_model.specs.Terms.Tree.{cont_term, tree_term, at}
 use Rattle.task_model.specs.declared.tree.Tree.{Tree}
 use Rattle.task_model.specs.Running.Checked.{checked_term}
 use Rattle.task_model.specs.Checking.Fits.{Fits}
-use Rattle.task_engine_tests.proofs.FitLemmas.{led, applied_fits}
-use Rattle.task_engine_tests.proofs.runs.applied.Goals as goal
+use Rattle.testing_engine.proofs.FitLemmas.{led, applied_fits}
+use Rattle.testing_engine.proofs.runs.applied.Goals as goal
 
 pub returns : goal.returns
 returns c =

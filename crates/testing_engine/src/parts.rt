@@ -5,7 +5,7 @@ ghost use Rattle.task_model.specs.Terms.Value.{ValueTerm};
 ghost use Rattle.task_model.specs.Terms.Tree.{cont_term, tree_term, at};
 ghost use Rattle.task_model.specs.Running.Checked.{CheckedTerm};
 ghost use Rattle.task_model.specs.Checking.Fits.{Fits, TreeHas};
-ghost use Rattle.task_engine_tests.specs.StepFits.{StepFits};
+ghost use Rattle.testing_engine.specs.StepFits.{StepFits};
 
 use task_model::{Basic, Cont, Tree};
 

@@ -4,8 +4,8 @@ use Rattle.task_model.specs.Terms.Program.{param_term, def_body_term, def_term}
 use Rattle.task_model.specs.declared.program.Program.{Program}
 use Rattle.task_model.specs.Running.Checked.{checked_term}
 use Rattle.host_eval.proofs.ListLemmas.{empty}
-use Rattle.task_engine_tests.proofs.StartLemmas.{first_there, first_may}
-use Rattle.task_engine_tests.proofs.runs.first_task.Goals as goal
+use Rattle.testing_engine.proofs.StartLemmas.{first_there, first_may}
+use Rattle.testing_engine.proofs.runs.first_task.Goals as goal
 
 pub returns-in-Task : goal.returns-in-Task
 returns-in-Task c =

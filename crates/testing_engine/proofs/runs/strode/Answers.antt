@@ -3,8 +3,8 @@ use Rattle.task_model.specs.Terms.Value.{value_term}
 use Rattle.task_model.specs.Terms.Tree.{tree_term, at}
 use Rattle.task_model.specs.Running.Checked.{checked_term}
 use Rattle.typing_laws.proofs.CallLemmas.{fits_strides}
-use Rattle.task_engine_tests.proofs.FitLemmas.{strode_fits}
-use Rattle.task_engine_tests.proofs.runs.strode.Goals as goal
+use Rattle.testing_engine.proofs.FitLemmas.{strode_fits}
+use Rattle.testing_engine.proofs.runs.strode.Goals as goal
 
 pub stride-requires : goal.stride-requires
 stride-requires c = record { may = fits_strides c.requires }

@@ -19,7 +19,7 @@ pub struct Bench {
 }
 
 impl Model for Bench {
-    ghost use Rattle.task_engine_tests.specs.Standing.{Standing};
+    ghost use Rattle.testing_engine.specs.Standing.{Standing};
 
     ghost Value = { Unit {0} };
 

@@ -1,5 +1,5 @@
 use Rattle.typing_laws.proofs.CallLemmas.{fits_fails}
-use Rattle.task_engine_tests.proofs.bench.Bench.failing.Goals as goal
+use Rattle.testing_engine.proofs.bench.Bench.failing.Goals as goal
 
 pub failing-requires : goal.failing-requires
 failing-requires c = record { may = fits_fails (rw c.in-Some.is at c.self.invariant) }

@@ -5,8 +5,8 @@ use Rattle.task_model.specs.declared.tree.Tree.{Tree}
 use Rattle.task_model.specs.Running.Checked.{checked_term}
 use Rattle.task_model.specs.Checking.Fits.{Fits}
 use Rattle.typing_laws.proofs.CallLemmas.{fits_settles}
-use Rattle.task_engine_tests.proofs.FitLemmas.{led, settled_fits}
-use Rattle.task_engine_tests.proofs.runs.settled.Goals as goal
+use Rattle.testing_engine.proofs.FitLemmas.{led, settled_fits}
+use Rattle.testing_engine.proofs.runs.settled.Goals as goal
 
 pub settle-requires : goal.settle-requires
 settle-requires c = record { may = fits_settles c.requires }

@@ -1,9 +1,9 @@
 use Rattle.std.proofs.Common.{sym, map, subst}
 use Rattle.task_model.specs.Terms.Value.{value_term}
 use Rattle.task_model.specs.Running.Checked.{checked_term}
-use Rattle.task_engine_tests.specs.Standing.{Standing}
-use Rattle.task_engine_tests.proofs.StepLemmas.{cont_fits}
-use Rattle.task_engine_tests.proofs.bench.Bench.test_next.Goals as goal
+use Rattle.testing_engine.specs.Standing.{Standing}
+use Rattle.testing_engine.proofs.StepLemmas.{cont_fits}
+use Rattle.testing_engine.proofs.bench.Bench.test_next.Goals as goal
 
 pub test_next-requires : goal.test_next-requires
 test_next-requires g c = record {

@@ -3,8 +3,8 @@ use Rattle.task_model.specs.Terms.Value.{value_term}
 use Rattle.task_model.specs.Terms.Task.{task_term}
 use Rattle.task_model.specs.Running.Checked.{checked_term}
 use Rattle.host_eval.specs.NamesTerm.{names_term}
-use Rattle.task_engine_tests.proofs.StartLemmas.{main_may}
-use Rattle.task_engine_tests.proofs.runs.main_started.Goals as goal
+use Rattle.testing_engine.proofs.StartLemmas.{main_may}
+use Rattle.testing_engine.proofs.runs.main_started.Goals as goal
 
 pub started-requires : goal.started-requires
 started-requires c =

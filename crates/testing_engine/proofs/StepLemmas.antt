@@ -6,7 +6,7 @@ use Rattle.task_model.specs.Terms.Tree.{LaterTerm, TreeTerm, then_tree, next_tre
 use Rattle.task_model.specs.Running.Checked.{CheckedTerm}
 use Rattle.task_model.specs.Checking.Fits.{Fits, TreeHas, LaterHas}
 use Rattle.task_engine.specs.Fitting.{ContFits}
-use Rattle.task_engine_tests.specs.StepFits.{StepFits}
+use Rattle.testing_engine.specs.StepFits.{StepFits}
 
 -- the editor of a tree has this type
 abbrev pub IsTyped : TreeTerm → BasicTerm → Type 0

@@ -6,8 +6,8 @@ use Rattle.task_model.specs.Running.Checked.{checked_term}
 use Rattle.task_model.specs.Checking.Fits.{Fits}
 use Rattle.task_model.specs.Terms.Task.{task_term}
 use Rattle.host_eval.specs.NamesTerm.{names_term}
-use Rattle.task_engine_tests.proofs.FitLemmas.{led, evaluated_fits, normal_fits}
-use Rattle.task_engine_tests.proofs.runs.started.Goals as goal
+use Rattle.testing_engine.proofs.FitLemmas.{led, evaluated_fits, normal_fits}
+use Rattle.testing_engine.proofs.runs.started.Goals as goal
 
 pub returns-then-is_normal : goal.returns-then-is_normal
 returns-then-is_normal c =
