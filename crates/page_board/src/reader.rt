@@ -78,9 +78,9 @@ impl BoardReader {
         }
     }
 
-    /// Shows the newest moment to `look`. It stands for the list that is then seen, which goes on from the one before. It takes no lock
-    /// and waits for nobody, and while `look` runs it stands in no copy that the writer would wait for. Where the board refuses the entry the
-    /// list stays, `look` isn't called, and the count of refusals rises.
+    /// Shows the newest moment to `look`. It stands for the list that is then seen, which goes on from the one before. It takes no lock and
+    /// waits for nobody, and the writer waits for `look` only where no owner more of the moment can be counted. Where the board refuses the
+    /// entry the list stays, `look` isn't called, and the count of refusals rises.
     pub fn read<A, F: FnOnce(&Moment) -> A>(&mut self, look: F) -> Result<A, NoEntry>
         requires { F.IsAlwaysCallable look }
         ensures shown { IfOk result (λ a. (x : Moment) × StandsForItems x self.new.list × FnOnceReturnsAt F.FnOnce look x a) }
