@@ -25,15 +25,17 @@ pub(crate) struct Drawn {
 }
 
 impl Drawn {
-    /// At the root, with no row.
-    pub(crate) fn new(alloc: Global) -> Drawn
-        ensures trail { result.trail ≡ [] }
-        ensures rows { result.rows ≡ no_rows }
+    /// At the root, with no row and room for so many.
+    pub(crate) fn with_room(alloc: Global, count: usize) -> Result<Drawn, OutOfMemory>
+        ensures trail { IfOk result (λ d. d.trail ≡ []) }
+        ensures rows { IfOk result (λ d. d.rows ≡ no_rows) }
     {
-        Drawn {
+        let mut rows = NodeRows::new(alloc);
+        rows.reserve(count)?;
+        Ok(Drawn {
             trail: Trail::new(alloc),
-            rows: NodeRows::new(alloc),
-        }
+            rows,
+        })
     }
 
     /// Tests the root of a part at most once, or twice at an external choice, and draws it once. The store stays.

@@ -47,14 +47,14 @@ pub fn next_rows<L: Ledger>(
         → steps.new ≤ steps.old + 3 * n) }
 {
     marks_count();
-    // As many rows as there are fit a number.
-    let _length = rows.len();
+    // An event seldom makes a tree much larger.
+    let length = rows.len();
     let former = Former {
         tree: Some(old),
         from: 0,
         marks,
     };
-    let mut drawn = Drawn::new(engine.alloc());
+    let mut drawn = Drawn::with_room(engine.alloc(), length)?;
     let _behind = add_rows(&mut drawn, engine, &former, rows, new, store, budget, steps)?;
     Ok(drawn.rows)
 }

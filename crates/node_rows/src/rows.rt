@@ -47,6 +47,15 @@ impl NodeRows {
         }
     }
 
+    /// Makes room for the signs and sizes of so many rows more.
+    pub fn reserve(&mut self, count: usize) -> Result<(), OutOfMemory>
+        ensures { self.new ≡ self.old }
+    {
+        self.signs.reserve(count)?;
+        self.sizes.reserve(count)?;
+        Ok(())
+    }
+
     /// Draws a widget, and puts its signs and its fragment behind the others. It counts one step.
     pub(crate) fn show<L: Ledger>(
         &mut self,

@@ -11,7 +11,7 @@ use Rattle.kept_rows.proofs.walk.next_rows.Goals as goal
 pub add_rows-requires-clause-told : goal.add_rows-requires-clause-told
 add_rows-requires-clause-told g c =
     let layer = first_of c.args.store.now.layers c.requires.layer in
-    told_root _ _ (tree_term c.args.old.now) (tree_term c.args.new.now) (map value_term layer.0) _ _ _ _ c.new-drawn.ensures.trail
+    told_root _ _ (tree_term c.args.old.now) (tree_term c.args.new.now) (map value_term layer.0) _ _ _ _ c.in_ok-drawn.ensures.trail
     (c.requires.rows layer.0 layer.1) (c.requires.marks layer.0 layer.1)
 
 pub add_rows-requires-clause-room : goal.add_rows-requires-clause-room
@@ -24,7 +24,7 @@ add_rows-requires-clause-room g c =
 
 pub returns-clause-rows : goal.returns-clause-rows
 returns-clause-rows g c =
-    follow_root _ _ (tree_term c.args.new.now) _ _ _ _ c.new-drawn.ensures.trail c.new-drawn.ensures.rows c.in_ok-_behind.ensures.rows
+    follow_root _ _ (tree_term c.args.new.now) _ _ _ _ c.in_ok-drawn.ensures.trail c.in_ok-drawn.ensures.rows c.in_ok-_behind.ensures.rows
 
 pub returns-clause-most : goal.returns-clause-most
 returns-clause-most g c =
