@@ -19,28 +19,38 @@ use Rattle.task_model.specs.declared.tree.Tree.{Tree}
 use Rattle.task_model.specs.declared.value.Value.{Value}
 use Rattle.task_laws.proofs.OutcomeLemmas.{none_lacks, lacks_none}
 use Rattle.task_engine.proofs.SignLemmas.{ran_spends}
-use Rattle.handle_input.specs.Answers.{plan_answer, TellsOutcome}
+use Rattle.handle_input.specs.Answers.{plan_answer, told_tree, TellsOutcome}
+use Rattle.handle_input.specs.declared.led.Led.{Led}
 
-abbrev pub over : List Value → Option Tree → Option State
-over τ = option_map (λ u. at (tree_term u) (map value_term τ))
+module _ {X : Type 0} (f : X → Tree) where
+  abbrev pub over : List Value → Option X → Option State
+  over τ = option_map (λ x. at (tree_term (f x)) (map value_term τ))
 
--- what is answered at the end of the layer
-pub ran_ended : {c : CheckedTerm} {p : Plan (Option State)} {old new : Left} (τ τ' : List Value) (r : Result Tree ActStop)
-    (answer : Result (Option Tree) Stop) → plan_answer r ≡ answer → OnOk r (τ' ≡ τ) → RunsPlan c p (over τ) old new answer
-    → RunsPlan c p (over τ') old new (plan_answer r)
-ran_ended {c = c} {p = p} {old = old} {new = new} τ τ' (Ok t) answer e same a =
-    subst (λ z. RunsPlan c p (over z) old new (Ok (Some t))) (sym same) (subst (RunsPlan c p (over τ) old new) (sym e) a)
-ran_ended {c = c} {p = p} {old = old} {new = new} τ τ' (Err acts.NotOffered) answer e same a =
-    record { runs = (subst (RunsPlan c p (over τ) old new) (sym e) a).runs }
-ran_ended {c = c} {p = p} {old = old} {new = new} τ τ' (Err acts.Over) answer e same a =
-    record { runs = (subst (RunsPlan c p (over τ) old new) (sym e) a).runs }
-ran_ended τ τ' (Err acts.Memory) answer e same a = record { runs = tt }
+  -- what is answered at the end of the layer
+  pub ran_ended : {c : CheckedTerm} {p : Plan (Option State)} {old new : Left} (τ τ' : List Value) (r : Result X ActStop)
+      (answer : Result (Option X) Stop) → plan_answer r ≡ answer → OnOk r (τ' ≡ τ) → RunsPlan c p (over τ) old new answer
+      → RunsPlan c p (over τ') old new (plan_answer r)
+  ran_ended {c = c} {p = p} {old = old} {new = new} τ τ' (Ok t) answer e same a =
+      subst (λ z. RunsPlan c p (over z) old new (Ok (Some t))) (sym same) (subst (RunsPlan c p (over τ) old new) (sym e) a)
+  ran_ended {c = c} {p = p} {old = old} {new = new} τ τ' (Err acts.NotOffered) answer e same a =
+      record { runs = (subst (RunsPlan c p (over τ) old new) (sym e) a).runs }
+  ran_ended {c = c} {p = p} {old = old} {new = new} τ τ' (Err acts.Over) answer e same a =
+      record { runs = (subst (RunsPlan c p (over τ) old new) (sym e) a).runs }
+  ran_ended τ τ' (Err acts.Memory) answer e same a = record { runs = tt }
 
--- what holds where an input led to a tree holds where that tree is told
-pub held_ended : (P : Type 0) (r : Result Tree ActStop) (answer : Result (Option Tree) Stop) → plan_answer r ≡ answer
-    → IfOk answer (λ o. IfSome o (λ t. P)) → OnOk r P
-held_ended P (Ok t) answer e h = subst (λ z. IfOk z (λ o. IfSome o (λ t. P))) (sym e) h
+-- what holds of what an input led to holds of what is told
+pub each_ended : {X : Type 0} (P : X → Type 0) (r : Result X ActStop) (answer : Result (Option X) Stop) → plan_answer r ≡ answer
+    → IfOk answer (λ o. IfSome o P) → IfOk r P
+each_ended P (Ok x) answer e h = subst (λ z. IfOk z (λ o. IfSome o P)) (sym e) h
+each_ended P (Err s) answer e h = tt
+
+pub held_ended : {X : Type 0} (P : Type 0) (r : Result X ActStop) (answer : Result (Option X) Stop) → plan_answer r ≡ answer
+    → IfOk answer (λ o. IfSome o (λ x. P)) → OnOk r P
+held_ended P (Ok x) answer e h = subst (λ z. IfOk z (λ o. IfSome o (λ x. P))) (sym e) h
 held_ended P (Err s) answer e h = tt
+
+abbrev tree_led : Led → Tree
+tree_led led = led.tree
 
 module _ (c : CheckedTerm) (budget : ℕ) (s : State) (i : InputTerm) (old new : Left) (units : old.units ≡ budget)
     (height : old.height ≡ 1000) where
@@ -48,8 +58,8 @@ module _ (c : CheckedTerm) (budget : ℕ) (s : State) (i : InputTerm) (old new :
   within n h le e = record { units = omega (arith, units, e); height = omega (arith, height, le) }
 
   -- the outcome that an answer within the budget tells
-  outcome_told : (τ : List Value) (r : Result Tree ActStop) → Spends (Interacts c s i) (over τ) old new (plan_answer r)
-      → TellsOutcome c budget s i (map value_term τ) r
+  outcome_told : (τ : List Value) (r : Result Led ActStop) → Spends (Interacts c s i) (over tree_led τ) old new (plan_answer r)
+      → TellsOutcome c budget s i (map value_term τ) (told_tree r)
   outcome_told τ (Ok t) q = (q.0, q.1, q.2, within q.0 q.1 q.3 q.4)
   outcome_told τ (Err acts.NotOffered) q = none_lacks c budget s i q.0 q.1 q.2 (within q.0 q.1 q.3 q.4)
   outcome_told τ (Err acts.Over) q = (
@@ -60,6 +70,7 @@ module _ (c : CheckedTerm) (budget : ℕ) (s : State) (i : InputTerm) (old new :
   )
   outcome_told τ (Err acts.Memory) q = tt
 
-  pub outcome_ended : (τ τ' : List Value) (r : Result Tree ActStop) (answer : Result (Option Tree) Stop) → plan_answer r ≡ answer
-      → OnOk r (τ' ≡ τ) → RunsPlan c (interacts c s i) (over τ) old new answer → TellsOutcome c budget s i (map value_term τ') r
-  outcome_ended τ τ' r answer e same a = outcome_told τ' r (ran_spends (ran_ended τ τ' r answer e same a))
+  pub outcome_ended : (τ τ' : List Value) (r : Result Led ActStop) (answer : Result (Option Led) Stop) → plan_answer r ≡ answer
+      → OnOk r (τ' ≡ τ) → RunsPlan c (interacts c s i) (over tree_led τ) old new answer
+      → TellsOutcome c budget s i (map value_term τ') (told_tree r)
+  outcome_ended τ τ' r answer e same a = outcome_told τ' r (ran_spends (ran_ended tree_led τ τ' r answer e same a))

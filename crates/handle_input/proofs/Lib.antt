@@ -1,3 +1,4 @@
 pub mod FitLemmas
 pub mod HandledLemmas
 pub mod EndLemmas
+pub mod AlongLemmas

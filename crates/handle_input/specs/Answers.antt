@@ -10,10 +10,11 @@ use Rattle.task_model.specs.declared.purse.Stop.TheVariants as stops
 use Rattle.task_model.specs.declared.stops.ActStop.{ActStop}
 use Rattle.task_model.specs.declared.stops.ActStop.TheVariants as acts
 use Rattle.task_model.specs.declared.tree.Tree.{Tree}
+use Rattle.handle_input.specs.declared.led.Led.{Led}
 
 -- the answer of the plan that handles an input: it answers none where the input isn't offered
-abbrev pub plan_answer : Result Tree ActStop → Result (Option Tree) Stop
-plan_answer (Ok t) = Ok (Some t)
+abbrev pub plan_answer : {X : Type 0} → Result X ActStop → Result (Option X) Stop
+plan_answer (Ok x) = Ok (Some x)
 plan_answer (Err acts.NotOffered) = Ok None
 plan_answer (Err acts.Over) = Err stops.Over
 plan_answer (Err acts.Memory) = Err stops.Memory
@@ -24,3 +25,8 @@ TellsOutcome c budget s i σ (Ok t) = IsOutcome c budget s i (taken (at (tree_te
 TellsOutcome c budget s i σ (Err acts.NotOffered) = IsOutcome c budget s i not_offered
 TellsOutcome c budget s i σ (Err acts.Over) = IsOutcome c budget s i over_budget
 TellsOutcome c budget s i σ (Err acts.Memory) = Unit {0}
+
+-- the answer with the tree alone
+abbrev pub told_tree : Result Led ActStop → Result Tree ActStop
+told_tree (Ok led) = Ok led.tree
+told_tree (Err stop) = Err stop

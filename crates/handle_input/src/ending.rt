@@ -3,13 +3,13 @@ ghost use Rattle.task_model.specs.declared.value.Value as values;
 ghost use Rattle.handle_input.specs.Answers.{plan_answer};
 
 use shared_store::Store;
-use task_model::{ActStop, Stop, Tree, Value};
+use task_model::{ActStop, Stop, Value};
 
 /// The end of an input's layer: it is kept where the input was taken, and else what was written is undone.
-pub(crate) fn ended(
-    answer: Result<Option<Tree>, Stop>,
+pub(crate) fn ended<T: Drop>(
+    answer: Result<Option<T>, Stop>,
     store: &mut Store<Value>,
-) -> Result<Tree, ActStop>
+) -> Result<T, ActStop>
     requires { 0 < length store.old.layers }
     ensures answer { plan_answer result ≡ answer }
     ensures layers { (σ : List values.Value) (below : List (List values.Value)) → store.old.layers ≡ σ ∷ below → store.new.layers ≡ below }

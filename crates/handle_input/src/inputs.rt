@@ -1,4 +1,4 @@
-ghost use Rattle.std.specs.Prelude.{◌≡◌, map, IfOk, IfSome, OnErr, OnOk, Some};
+ghost use Rattle.std.specs.Prelude.{◌≡◌, ◌↔◌, true, suc, map, IfOk, IfSome, IsTrue, OnErr, OnOk, Some};
 ghost use Rattle.std.specs.Option.{option_map};
 ghost use Rattle.task_model.specs.Terms.Value.{value_term};
 ghost use Rattle.task_model.specs.Terms.Tree.{tree_term, at};
@@ -11,12 +11,15 @@ ghost use Rattle.task_model.specs.Checking.Fits.{Fits};
 ghost use Rattle.task_model.specs.Running.Spends.{Spends};
 ghost use Rattle.task_model.specs.Syntax.Calls.{RunsPlan};
 ghost use Rattle.typing_laws.specs.Well.{Well};
-ghost use Rattle.handle_input.specs.Answers.{plan_answer, TellsOutcome};
+ghost use Rattle.kept_nodes.specs.Along.{DiffersAlong};
+ghost use Rattle.handle_input.specs.Answers.{plan_answer, told_tree, TellsOutcome};
 
 use crate::ending::ended;
 use crate::handling::handled;
+use crate::led::Led;
 use shared_store::Store;
 use task_engine::{Engine, settle};
+use task_laws::inputs_act_at_their_address;
 use task_model::{ActStop, Input, Purse, Stop, Tree, Value};
 
 /// Handles an input: the tree that it leads to, over the values that it leaves in the store. `NotOffered` comes where the input is
@@ -52,13 +55,14 @@ pub fn interact(
     store: &mut Store<Value>,
     input: &Input,
     budget: u32,
-) -> Result<Tree, ActStop>
+) -> Result<Led, ActStop>
     requires fits { Fits (checked_term engine.now) (at (tree_term t.now) (map value_term store.old.list)) }
     ensures layers { store.new.layers ≡ store.old.layers }
     ensures refused { OnErr result (store.new.list ≡ store.old.list) }
     ensures held { OnOk result (IsHeldAct (input_term input.now).act) }
     ensures outcome { TellsOutcome (checked_term engine.now) budget (at (tree_term t.now) (map value_term store.old.list))
-        (input_term input.now) (map value_term store.new.list) result }
+        (input_term input.now) (map value_term store.new.list) (told_tree result) }
+    ensures along { IfOk result (λ led. led.along_path ≡ true → DiffersAlong (input_term input.now).path (tree_term t.now) (tree_term led.tree)) }
 {
     // The program of an engine is accepted.
     let _accepted = engine.checked().program();
@@ -74,15 +78,18 @@ fn interacted(
     store: &mut Store<Value>,
     input: &Input,
     purse: &mut Purse,
-) -> Result<Option<Tree>, Stop>
+) -> Result<Option<Led>, Stop>
     requires accepted { IsAccepted (checked_term engine.now) }
     requires fits { Fits (checked_term engine.now) (at (tree_term t.now) (map value_term store.old.list)) }
-    ensures held { IfOk result (λ o. IfSome o (λ t. IsHeldAct (input_term input.now).act)) }
+    ensures held { IfOk result (λ o. IfSome o (λ led. IsHeldAct (input_term input.now).act)) }
     ensures layers { store.new.layers ≡ store.old.layers }
     ensures ran { RunsPlan (checked_term engine.now)
         (model.interacts (checked_term engine.now) (at (tree_term t.now) (map value_term store.old.list)) (input_term input.now))
-        (option_map (λ u. at (tree_term u) (map value_term store.new.list))) purse.old purse.new result }
+        (option_map (λ led. at (tree_term led.tree) (map value_term store.new.list))) purse.old purse.new result }
+    ensures along { IfOk result (λ o. IfSome o
+        (λ led. led.along_path ≡ true → DiffersAlong (input_term input.now).path (tree_term t.now) (tree_term led.tree))) }
 {
+    inputs_act_at_their_address();
     let turns = input.path.turns.as_slice();
     let led = handled(engine, t, store, turns, &input.act, purse)?;
     match led {
@@ -91,17 +98,28 @@ fn interacted(
     }
 }
 
+// The state settles. Where that takes one unit its one stride changes nothing.
 fn settled(
     engine: &Engine,
     t: Tree,
     store: &mut Store<Value>,
     purse: &mut Purse,
-) -> Result<Option<Tree>, Stop>
+) -> Result<Option<Led>, Stop>
     requires { Well (checked_term engine.now) (model.settled (Some (at (tree_term t) (map value_term store.old.list)))) }
     ensures layers { store.new.layers ≡ store.old.layers }
     ensures ran { RunsPlan (checked_term engine.now) (model.settled (Some (at (tree_term t) (map value_term store.old.list))))
-        (option_map (λ u. at (tree_term u) (map value_term store.new.list))) purse.old purse.new result }
+        (option_map (λ led. at (tree_term led.tree) (map value_term store.new.list))) purse.old purse.new result }
+    ensures same { IfOk result (λ o. IfSome o (λ led. led.along_path ≡ true → tree_term led.tree ≡ tree_term t)) }
 {
-    let u = settle(engine, t, store, purse)?;
-    Ok(Some(u))
+    let units = purse.units_left();
+    let tree = settle(engine, t, store, purse)?;
+    let along_path = is_one(units, purse.units_left());
+    Ok(Some(Led { tree, along_path }))
+}
+
+// Whether so many units are one more than those that are left.
+fn is_one(units: u32, left: u32) -> bool
+    ensures { IsTrue result ↔ (units ≡ suc left) }
+{
+    units.checked_sub(left) == Some(1)
 }

@@ -6,6 +6,8 @@ mod editing;
 mod ending;
 mod handling;
 mod inputs;
+mod led;
 mod rebuilding;
 
 pub use inputs::{handle, interact};
+pub use led::Led;

@@ -126,7 +126,7 @@ module _ (agreeing : (t : TreeTerm) (σ τ : List ValueTerm)
     whole : (n : ℕ) → slice_get (take (length σ) τ) n ≡ slice_get τ n
     whole n = ap (λ z. slice_get z n) (ap (λ k. take k τ) long ∙ take-length τ)
 
-    same_unchanged : (ns : List ℕ) → AreUnchanged c ns → All Same ns
+    pub same_unchanged : (ns : List ℕ) → AreUnchanged c ns → All Same ns
     same_unchanged [] h = All-nil Same
     same_unchanged (n ∷ ns) h = All-cons Same n ns ((changes.places n).0 h.0 ∙ whole n) (same_unchanged ns h.1)
 

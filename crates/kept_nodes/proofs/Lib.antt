@@ -3,3 +3,4 @@ pub mod AloneLemmas
 pub mod MarkLemmas
 pub mod CountLemmas
 pub mod NumberLemmas
+pub mod AlongLemmas

@@ -4,6 +4,7 @@ ghost use Rattle.task_model.specs.Terms.Value.{value_term};
 ghost use Rattle.task_model.specs.declared.value.Value.{Value};
 ghost use Rattle.shared_store.specs.Log.{rewound};
 ghost use Rattle.kept_nodes.specs.Changed.{AreChanges};
+ghost use Rattle.kept_nodes.specs.Along.{ChangesNothing};
 ghost use Rattle.kept_nodes.specs.There.{IsThere};
 
 use shared_store::{Overwritten, Store};
@@ -24,6 +25,13 @@ impl Changed {
         ensures { result ≡ self.now.grown }
     {
         self.grown
+    }
+
+    /// Whether no place is changed, and none was added.
+    pub(crate) fn is_none(&self) -> bool
+        ensures { IsTrue result ↔ ChangesNothing self.now }
+    {
+        !self.grown && self.places.is_empty()
     }
 
     /// Whether a place is among the changed ones.

@@ -1,8 +1,9 @@
-//! What an event leaves as it was: the places of the store whose values it changed, and, by one walk over the tree before and the tree
-//! after, the nodes that are kept, node by node.
+//! What an event leaves as it was: the places of the store whose values it changed, and the nodes that are kept, node by node: by one walk
+//! over the tree before and the tree after, or, where no place changed, along the path alone on which they differ.
 #![tactic(auto)]
 
 mod alone;
+mod along;
 mod changed;
 mod laws;
 mod marks;
@@ -10,6 +11,7 @@ mod numbers;
 mod parts;
 mod walk;
 
+pub use along::kept_along;
 pub use changed::{Changed, changed_places};
 pub use laws::{kept_nodes_look_alike, marks_count};
 pub use marks::Marks;

@@ -1,21 +1,28 @@
 -- What contracts see of a tree with its table.
-use Rattle.std.specs.Prelude.{ℕ, ◌*◌, Bool, true, false, List, Option, None, Some, Result, Ok, Err}
+use Rattle.std.specs.Prelude.{◌≡◌, ℕ, ◌*◌, Bool, true, false, List, Option, None, Some, Result, Ok, Err}
 use Rattle.task_model.specs.Terms.Value.{ValueTerm}
 use Rattle.task_model.specs.Terms.Tree.{TreeTerm, tree_term}
 use Rattle.task_model.specs.Running.Checked.{CheckedTerm}
+use Rattle.task_model.specs.declared.input.Turn.{Turn}
 use Rattle.task_model.specs.declared.tree.Tree.{Tree}
 use Rattle.task_model.specs.declared.stops.ActStop.{ActStop}
+use Rattle.kept_nodes.specs.Along.{DiffersAlong}
 use Rattle.node_rows.specs.Rows.{RowsTerm, AreRows}
 use Rattle.node_rows.specs.TreeNodes.{tree_nodes}
 
--- a tree, and the rows of its table, if they were made
+-- a tree, the rows of its table, if they were made, and the path along which alone it differs from the tree before, where that is told
 pub record SeenLive : Type 0 where
   pub tree : Tree
   pub rows : Option RowsTerm
+  pub along : Option (List Turn)
 
--- a tree whose table wasn't made
+-- a tree whose table wasn't made, and of which no tree before is told
 abbrev pub bare_tree : Tree → SeenLive
-bare_tree t = record { tree = t; rows = None }
+bare_tree t = record { tree = t; rows = None; along = None }
+
+-- it differs from a tree along the path that is told, if one is
+abbrev pub DiffersAsTold : TreeTerm → SeenLive → Type 0
+DiffersAsTold before live = (path : List Turn) → live.along ≡ Some path → DiffersAlong path before (tree_term live.tree)
 
 -- rows, if there are any, are those of a tree over these values
 abbrev pub AreRowsIfMade : CheckedTerm → ℕ → TreeTerm → List ValueTerm → Option RowsTerm → Type 0

@@ -1,4 +1,4 @@
-ghost use Rattle.std.specs.Prelude.{◌≡◌, ◌+◌, ◌*◌, ◌<◌, ◌≤◌, ℕ, List, ◌∷◌, length, map, slice_get, IfOk, IsSome, None, OnErr, OnOk, Some};
+ghost use Rattle.std.specs.Prelude.{◌≡◌, ◌+◌, ◌*◌, ◌<◌, ◌≤◌, ℕ, true, List, ◌∷◌, length, map, slice_get, IfOk, IsSome, None, OnErr, OnOk, Some};
 ghost use Rattle.std.specs.Option.{is_some, option_map};
 ghost use Rattle.task_model.specs.Terms.Value.{ValueTerm, value_term};
 ghost use Rattle.task_model.specs.Terms.Tree.{tree_term, at};
@@ -8,18 +8,22 @@ ghost use Rattle.task_model.specs.Running.Checked.{CheckedTerm, checked_term};
 ghost use Rattle.task_model.specs.Running.Offer.{offer_term, AreOffers};
 ghost use Rattle.task_model.specs.Showing.Widget.{widget_term, AreWidgets};
 ghost use Rattle.task_model.specs.Checking.Fits.{Fits};
+ghost use Rattle.task_model.specs.declared.input.Turn.{Turn};
 ghost use Rattle.task_model.specs.declared.value.Value.{Value};
 ghost use Rattle.handle_input.specs.Answers.{TellsOutcome};
 ghost use Rattle.kept_nodes.specs.Kept.{IsRedrawn};
+ghost use Rattle.kept_nodes.specs.KeptMarks.{TellsKept};
+ghost use Rattle.kept_nodes.specs.Changed.{AreChanges};
+ghost use Rattle.kept_nodes.specs.Along.{DiffersAlong};
 ghost use Rattle.node_rows.specs.Rows.{AreRows};
 ghost use Rattle.node_rows.specs.TreeNodes.{tree_nodes};
-ghost use Rattle.live_tree.specs.Live.{IsLive, bare_tree, led_tree, most_steps};
+ghost use Rattle.live_tree.specs.Live.{DiffersAsTold, IsLive, bare_tree, led_tree, most_steps};
 
 use crate::counting::count_nodes;
-use handle_input::interact;
+use handle_input::{Led, interact};
 use html_pages::Fragments;
 use interface::widgets;
-use kept_nodes::{changed_places, kept};
+use kept_nodes::{Changed, Marks, changed_places, kept, kept_along};
 use kept_rows::next_rows;
 use node_rows::{NodeRows, fresh_rows};
 use shared_store::Store;
@@ -27,7 +31,9 @@ use std::alloc::Global;
 use std::marker::Model;
 use std::sync::ledger::Ledger;
 use task_engine::Engine;
-use task_model::{ActStop, Input, Offer, OutOfMemory, Reads, Row, Steps, Tree, Value, Widget};
+use task_model::{
+    ActStop, Input, Offer, OutOfMemory, Reads, Row, Steps, Tree, Turns, Value, Widget,
+};
 
 /// A tree with its table, which is made where it is asked for. What its rows were observed over, a store's values and a budget, stands in the
 /// contracts of its calls.
@@ -35,6 +41,8 @@ use task_model::{ActStop, Input, Offer, OutOfMemory, Reads, Row, Steps, Tree, Va
 pub struct LiveTree {
     tree: Tree,
     rows: Option<NodeRows>,
+    // The path along which alone it differs from the tree that it was led from, where that is known and that tree's table was made.
+    along: Option<Turns>,
 }
 
 impl Model for LiveTree {
@@ -46,7 +54,7 @@ impl Model for LiveTree {
 
     ghost coded = { Prim.hlevel (codes, trees.the_row.coded) };
 
-    ghost view = { λ t. record { tree = t.tree; rows = t.rows } };
+    ghost view = { λ t. record { tree = t.tree; rows = t.rows; along = t.along } };
 }
 
 impl LiveTree {
@@ -54,7 +62,11 @@ impl LiveTree {
     pub fn of(tree: Tree) -> LiveTree
         ensures { result ≡ bare_tree tree }
     {
-        LiveTree { tree, rows: None }
+        LiveTree {
+            tree,
+            rows: None,
+            along: None,
+        }
     }
 
     /// The tree that an input leads to within a budget, beside this one: over values that stand above those of before, which are a layer
@@ -73,6 +85,7 @@ impl LiveTree {
         ensures outcome { TellsOutcome (checked_term engine.now) budget (at (tree_term self.now.tree) (map value_term store.old.list))
             (input_term input.now) (map value_term store.new.list) (led_tree result) }
         ensures bare { IfOk result (λ t. t.rows ≡ None) }
+        ensures along { IfOk result (DiffersAsTold (tree_term self.now.tree)) }
     {
         store.begin()?;
         match self.led(engine, store, input, budget) {
@@ -98,9 +111,15 @@ impl LiveTree {
         ensures outcome { TellsOutcome (checked_term engine.now) budget (at (tree_term self.now.tree) (map value_term store.old.list))
             (input_term input.now) (map value_term store.new.list) (led_tree result) }
         ensures bare { IfOk result (λ t. t.rows ≡ None) }
+        ensures along { IfOk result (DiffersAsTold (tree_term self.now.tree)) }
     {
-        let tree = interact(engine, self.tree(), store, input, budget)?;
-        Ok(LiveTree { tree, rows: None })
+        let Led { tree, along_path } = interact(engine, self.tree(), store, input, budget)?;
+        let along = path_told(engine.alloc(), input, along_path && self.rows.is_some())?;
+        Ok(LiveTree {
+            tree,
+            rows: None,
+            along,
+        })
     }
 
     /// Makes the table by at most two tests and one drawing for each node. Where it was made, nothing is tested or drawn again. The tree and
@@ -142,8 +161,10 @@ impl LiveTree {
         requires layer { 0 < length store.old.layers }
         requires before { (σ : List Value) → slice_get store.old.layers 0 ≡ Some σ
             → IsLive (checked_term engine.now) budget (map value_term σ) before.now }
+        requires along { DiffersAsTold (tree_term before.now.tree) self.old }
         ensures store { store.new ≡ store.old }
         ensures tree { self.new.tree ≡ self.old.tree }
+        ensures along { self.new.along ≡ self.old.along }
         ensures live { IsLive (checked_term engine.now) budget (map value_term store.old.list) self.new }
         ensures drawn { OnOk result (IsSome self.new.rows) }
         ensures steps { OnOk result (steps.new ≤ steps.old + most_steps (is_some self.old.rows) (tree_term self.old.tree)) }
@@ -172,6 +193,7 @@ impl LiveTree {
         requires layer { 0 < length store.old.layers }
         requires before { (σ : List Value) → slice_get store.old.layers 0 ≡ Some σ
             → IsLive (checked_term engine.now) budget (map value_term σ) before.now }
+        requires along { DiffersAsTold (tree_term before.now.tree) self.now }
         ensures store { store.new ≡ store.old }
         ensures rows { IfOk result (AreRows (checked_term engine.now) budget (tree_term self.now.tree) (map value_term store.old.list)) }
         ensures steps { OnOk result (steps.new ≤ steps.old + 3 * tree_nodes (tree_term self.now.tree)) }
@@ -184,7 +206,7 @@ impl LiveTree {
             Some(rows) => {
                 let alloc = engine.alloc();
                 let changed = changed_places(alloc, store)?;
-                let marks = kept(alloc, Some(&before.tree), &self.tree, &changed)?;
+                let marks = kept_marks(alloc, &before.tree, &self.tree, &self.along, &changed)?;
                 next_rows(
                     engine,
                     &before.tree,
@@ -244,5 +266,34 @@ impl LiveTree {
             None => unreachable!(),
             Some(rows) => rows.fragments(),
         }
+    }
+}
+
+// The path of an input, where it is told.
+fn path_told(alloc: Global, input: &Input, is_told: bool) -> Result<Option<Turns>, OutOfMemory>
+    ensures { IfOk result (λ o. (path : List Turn) → o ≡ Some path → (is_told ≡ true) × (path ≡ (input_term input.now).path)) }
+{
+    if is_told {
+        Ok(Some(Turns::of(alloc, input.path.turns.as_slice())?))
+    } else {
+        Ok(None)
+    }
+}
+
+// What is kept of a tree from the one before, of which it differs along a path alone, if there is one here, and since when these places changed.
+fn kept_marks(
+    alloc: Global,
+    before: &Tree,
+    tree: &Tree,
+    along: &Option<Turns>,
+    changed: &Changed,
+) -> Result<Marks, OutOfMemory>
+    requires { (path : List Turn) → along.now ≡ Some path → DiffersAlong path (tree_term before.now) (tree_term tree.now) }
+    ensures { IfOk result (λ m. (σ τ : List ValueTerm) → AreChanges σ τ changed.now
+        → TellsKept σ τ (Some (tree_term before.now)) (tree_term tree.now) m) }
+{
+    match along {
+        None => kept(alloc, Some(before), tree, changed),
+        Some(turns) => kept_along(alloc, before, tree, turns.as_slice(), changed),
     }
 }

@@ -21,11 +21,12 @@ use Rattle.task_model.specs.declared.stops.ActStop.TheVariants as acts
 use Rattle.shared_store.specs.Layered.{Layered}
 use Rattle.handle_input.specs.Answers.{TellsOutcome}
 use Rattle.kept_nodes.specs.Kept.{IsRedrawn}
+use Rattle.kept_nodes.specs.Along.{DiffersAlong}
 use Rattle.world_core.specs.World.{SeenWorld, WorldTerm, NextTerm, next_term, world_term, drawn_as, IsStanding, at_rest, with_item, with_prepared, Prepares, Commits}
 use Rattle.task_model.specs.declared.widget.Face.{Face}
 use Rattle.html_pages.specs.Fragments.{FragmentTerm, PageTerm, fragment_of}
 use Rattle.node_rows.specs.Rows.{RowsTerm}
-use Rattle.live_tree.specs.Live.{SeenLive, AreRowsIfMade, IsLive}
+use Rattle.live_tree.specs.Live.{SeenLive, AreRowsIfMade, IsLive, DiffersAsTold}
 use Rattle.world_core.specs.Pages.{AreStateFragments, AreFragments, IsNextVersion, IsStatePage, IsWorldPage}
 use Rattle.world_core.specs.Inside.{newest_layer, seen_next, next_made, seen_world, FieldsAgree}
 use Rattle.world_core.specs.declared.prepared.Prepared.{Prepared}
@@ -76,7 +77,7 @@ module _ (c : SeenChecked) (budget : ℕ) (h : Rowed Item) (live : SeenLive) (s 
     pub drawn_world : (next : Option Prepared) → seen_world c budget h.list live' s' next
         ≡ drawn_as (is_some live'.rows) (next_made next) (seen_world c budget h.list live s next)
     drawn_world next =
-        ap (λ (t : Tree). seen_world c budget h.list (record { tree = t; rows = live'.rows }) s' next) tree
+        ap (λ (t : Tree). seen_world c budget h.list (record { tree = t; rows = live'.rows; along = live'.along }) s' next) tree
         ∙ ap (λ (z : Layered Value). drawn_as (is_some live'.rows) (next_made next) (seen_world c budget h.list live z next)) same
 
     pub drawn_kept : (next : Option Prepared) → next ≡ None → IsLive (checked_term c) budget (map value_term s.list) live'
@@ -86,6 +87,7 @@ module _ (c : SeenChecked) (budget : ℕ) (h : Rowed Item) (live : SeenLive) (s 
       room = ap (λ (z : Layered Value). z.layers) same ∙ k.room;
       rows = subst (λ (z : Layered Value). IsLive (checked_term c) budget (map value_term z.list) live') (sym same) rows;
       next_rows = tt;
+      next_differs = tt;
     }
     drawn_kept (Some p) e rows k = absurd cc
 
@@ -122,6 +124,7 @@ module _ (c : SeenChecked) (budget : ℕ) (h : Rowed Item) (live : SeenLive) (s 
     room = ap (λ (z : Layered Value). z.layers) q ∙ k.room;
     rows = subst (λ (z : Layered Value). IsLive (checked_term c) budget (map value_term z.list) live) (sym q) k.rows;
     next_rows = tt;
+    next_differs = tt;
   }
   same_kept h' s' (Some p) e f q k = absurd cc
 
@@ -171,17 +174,18 @@ module _ (c : SeenChecked) (budget : ℕ) (h : Rowed Item) (live : SeenLive) (s 
     pub prepared_kept : (next : Option Prepared) (e : EntryTerm) → next ≡ None → item_term p.item ≡ took e → IsEntry e → 0 < h'.spare
         → TellsOutcome (checked_term c) budget (at (tree_term live.tree) (map value_term s.list)) e.input (map value_term s'.list)
         (Ok p.live.tree)
-        → IsLive (checked_term c) budget (map value_term s'.list) p.live
+        → IsLive (checked_term c) budget (map value_term s'.list) p.live → DiffersAsTold (tree_term live.tree) p.live
         → FieldsAgree c budget h live s next → FieldsAgree c budget h' live s' (Some p)
-    prepared_kept None e r is entry spare o rows k = record {
+    prepared_kept None e r is entry spare o rows differs k = record {
       standing = subst IsStanding (sym (prepared_is e is))
           (standing_next (world None) (Some (record { item = took e; state = prepared_state })) k.standing
           (record { entry = e; is = refl; valid = entry; taken = o }));
       room = (spare, layers ∙ ap (λ ls. s.list ∷ ls) k.room ∙ ap (λ σ. σ ∷ []) (sym (ap newest_layer layers)));
       rows = subst (λ σ. IsLive (checked_term c) budget (map value_term σ) live) (sym (ap newest_layer layers)) k.rows;
       next_rows = rows;
+      next_differs = differs;
     }
-    prepared_kept (Some n) e r is entry spare o rows k = absurd cc
+    prepared_kept (Some n) e r is entry spare o rows differs k = absurd cc
 
   -- ---- what is prepared is taken, or given up
   module _ (p : Prepared) (k : FieldsAgree c budget h live s (Some p)) where
@@ -214,12 +218,13 @@ module _ (c : SeenChecked) (budget : ℕ) (h : Rowed Item) (live : SeenLive) (s 
       next_drawn_world =
           ap (λ (t : Tree). seen_world c budget h.list live s' (Some (record {
             item = p.item;
-            live = record { tree = t; rows = live'.rows };
+            live = record { tree = t; rows = live'.rows; along = live'.along };
           }))) tree
           ∙ ap (λ (z : Layered Value). drawn_as (is_some live.rows) (is_some live'.rows) (seen_world c budget h.list live z (Some p))) same
 
-      pub next_drawn_kept : IsLive (checked_term c) budget (map value_term s.list) live' → FieldsAgree c budget h live s' (Some drawn_next)
-      next_drawn_kept rows = record {
+      pub next_drawn_kept : live'.along ≡ p.live.along → IsLive (checked_term c) budget (map value_term s.list) live'
+          → FieldsAgree c budget h live s' (Some drawn_next)
+      next_drawn_kept along rows = record {
         standing = subst (λ w. IsStanding (world_term w)) (sym next_drawn_world) k.standing;
         room = (
           k.room.0,
@@ -228,6 +233,8 @@ module _ (c : SeenChecked) (budget : ℕ) (h : Rowed Item) (live : SeenLive) (s 
         );
         rows = subst (λ (z : Layered Value). IsLive (checked_term c) budget (map value_term (newest_layer z.layers)) live) (sym same) k.rows;
         next_rows = subst (λ (z : Layered Value). IsLive (checked_term c) budget (map value_term z.list) live') (sym same) rows;
+        next_differs = λ path e. subst (λ (t : Tree). DiffersAlong path (tree_term live.tree) (tree_term t)) (sym tree)
+            (k.next_differs path (sym along ∙ e));
       }
 
     -- the present values are the one layer
@@ -287,6 +294,7 @@ module _ (c : SeenChecked) (budget : ℕ) (h : Rowed Item) (live : SeenLive) (s 
         room = e ∙ ap (drop 1) k.room.1;
         rows = subst (λ σ. IsLive (checked_term c) budget (map value_term σ) p.live) (sym same) k.next_rows;
         next_rows = tt;
+        next_differs = tt;
       }
 
       pub commits : (next next' : Option Prepared) (n : ℕ) → next ≡ Some p → next' ≡ None → s'.layers ≡ drop 1 s.layers
@@ -316,6 +324,7 @@ module _ (c : SeenChecked) (budget : ℕ) (h : Rowed Item) (live : SeenLive) (s 
         room = sym (ap (drop 1) (sym k.room.1 ∙ dropped));
         rows = subst (λ σ. IsLive (checked_term c) budget (map value_term σ) live) (ap newest_layer dropped) k.rows;
         next_rows = tt;
+        next_differs = tt;
       }
 
   -- the version once what is prepared is committed

@@ -2,11 +2,12 @@
 use Rattle.std.specs.Prelude.{◌≡◌, ℕ, ◌<◌, Bool, false, List, [], ◌∷◌, map, Option, None, Some, is_some}
 use Rattle.task_model.specs.Terms.Rowed.{Rowed}
 use Rattle.task_model.specs.Terms.Value.{value_term}
+use Rattle.task_model.specs.Terms.Tree.{tree_term}
 use Rattle.task_model.specs.Running.Checked.{SeenChecked, CheckedTerm, checked_term}
 use Rattle.task_model.specs.declared.value.Value.{Value}
 use Rattle.task_model.specs.declared.item.Item.{Item}
 use Rattle.shared_store.specs.Layered.{Layered}
-use Rattle.live_tree.specs.Live.{SeenLive, IsLive}
+use Rattle.live_tree.specs.Live.{SeenLive, IsLive, DiffersAsTold}
 use Rattle.world_core.specs.World.{SeenNext, SeenWorld, world_term, IsStanding}
 use Rattle.world_core.specs.declared.prepared.Prepared.{Prepared}
 
@@ -52,6 +53,11 @@ abbrev pub NextIsLive : CheckedTerm → ℕ → Option Prepared → List Value �
 NextIsLive c budget None σ = Unit {0}
 NextIsLive c budget (Some p) σ = IsLive c budget (map value_term σ) p.live
 
+-- the tree of what is prepared, if anything is, differs from the present one along the path that it tells, if it tells one
+abbrev pub NextDiffers : Option Prepared → SeenLive → Type 0
+NextDiffers None live = Unit {0}
+NextDiffers (Some p) live = DiffersAsTold (tree_term live.tree) p.live
+
 -- what the fields of every world keep: the rows are those of the present state
 pub record FieldsAgree (c : SeenChecked) (budget : ℕ) (history : Rowed Item) (live : SeenLive) (store : Layered Value)
     (next : Option Prepared) : Type 0 where
@@ -59,3 +65,4 @@ pub record FieldsAgree (c : SeenChecked) (budget : ℕ) (history : Rowed Item) (
   pub room : HasRoom next history store
   pub rows : IsLive (checked_term c) budget (map value_term (present_values next store)) live
   pub next_rows : NextIsLive (checked_term c) budget next store.list
+  pub next_differs : NextDiffers next live

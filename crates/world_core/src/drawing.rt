@@ -6,7 +6,7 @@ ghost use Rattle.task_model.specs.Running.Checked.{checked_term};
 ghost use Rattle.task_model.specs.Checking.Fits.{Fits};
 ghost use Rattle.task_model.specs.declared.value.Value.{Value};
 ghost use Rattle.kept_nodes.specs.Kept.{IsRedrawn};
-ghost use Rattle.live_tree.specs.Live.{IsLive, most_steps};
+ghost use Rattle.live_tree.specs.Live.{DiffersAsTold, IsLive, most_steps};
 ghost use Rattle.world_core.specs.Pages.{AreStateFragments, IsStatePage};
 
 use html_pages::{Fragments, Page, frame_behind_room};
@@ -64,8 +64,10 @@ pub(crate) fn next_drawn_fragments<L: Ledger>(
     requires layer { 0 < length store.old.layers }
     requires before { (σ : List Value) → slice_get store.old.layers 0 ≡ Some σ
         → IsLive (checked_term engine.now) budget (map value_term σ) before.now }
+    requires along { DiffersAsTold (tree_term before.now.tree) live.old }
     ensures store { store.new ≡ store.old }
     ensures tree { live.new.tree ≡ live.old.tree }
+    ensures along { live.new.along ≡ live.old.along }
     ensures live { IsLive (checked_term engine.now) budget (map value_term store.old.list) live.new }
     ensures fragments { IfOk result (AreStateFragments (checked_term engine.now) budget
         (at (tree_term live.old.tree) (map value_term store.old.list))) }

@@ -1,5 +1,6 @@
 use Rattle.std.proofs.Common.{◌∙◌, arith}
 use Rattle.task_engine.proofs.SignLemmas.{ran_spends}
+use Rattle.task_model.specs.declared.tree.Tree.{Tree}
 use Rattle.handle_input.proofs.EndLemmas.{ran_ended, held_ended}
 use Rattle.handle_input.proofs.inputs.handle.Goals as goal
 
@@ -20,5 +21,5 @@ returns-clause-held c = held_ended _ _ _ c.ended.ensures.answer c.handled-answer
 
 pub returns-clause-handles : goal.returns-clause-handles
 returns-clause-handles c =
-    ran_spends (ran_ended _ _ _ _ c.ended.ensures.answer c.ended.ensures.kept
+    ran_spends (ran_ended (λ (t : Tree). t) _ _ _ _ c.ended.ensures.answer c.ended.ensures.kept
     (rw (c.in_ok-begin.ensures.list, c.as_slice-turns.ensures) at c.handled-answer.ensures.ran))

@@ -3,7 +3,7 @@ use Rattle.task_model.specs.Terms.Value.{value_term}
 use Rattle.task_model.specs.Terms.Tree.{tree_term, at}
 use Rattle.task_model.specs.Terms.Input.{input_term}
 use Rattle.task_model.specs.Running.Checked.{checked_term}
-use Rattle.handle_input.proofs.EndLemmas.{outcome_ended, held_ended}
+use Rattle.handle_input.proofs.EndLemmas.{outcome_ended, held_ended, each_ended}
 use Rattle.handle_input.proofs.inputs.interact.Goals as goal
 
 pub interacted-answer-requires-clause-fits : goal.interacted-answer-requires-clause-fits
@@ -26,3 +26,6 @@ returns-clause-outcome c =
     outcome_ended (checked_term c.args.engine.now) c.args.budget (at (tree_term c.args.t.now) (map value_term c.args.store.now.list))
     (input_term c.args.input.now) _ _ c.new.ensures.units c.new.ensures.height _ _ _ _ c.ended.ensures.answer c.ended.ensures.kept
     (rw c.in_ok-begin.ensures.list at c.interacted-answer.ensures.ran)
+
+pub returns-clause-along : goal.returns-clause-along
+returns-clause-along c = each_ended _ _ _ c.ended.ensures.answer c.interacted-answer.ensures.along

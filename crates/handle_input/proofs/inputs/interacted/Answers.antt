@@ -1,8 +1,15 @@
-use Rattle.std.proofs.Common.{refl}
+use Rattle.std.proofs.Common.{Option, Some, refl, map}
+use Rattle.std.specs.Option.{option_map}
+use Rattle.task_model.specs.Terms.Value.{value_term}
+use Rattle.task_model.specs.Terms.Tree.{tree_term, at}
+use Rattle.task_model.specs.declared.tree.Tree.{Tree}
 use Rattle.task_model.specs.Terms.Input.{input_term}
+use Rattle.task_model.specs.Running.Checked.{checked_term}
 use Rattle.task_model.specs.Running.Handling.{settled}
 use Rattle.task_laws.proofs.RanLemmas.{stopped, ran_give, ran_after, ran_after_stops}
+use Rattle.task_engine.proofs.SignLemmas.{ran_spends}
 use Rattle.handle_input.proofs.FitLemmas.{settling_well}
+use Rattle.handle_input.proofs.AlongLemmas.{handled_along, along_led}
 use Rattle.handle_input.proofs.inputs.interacted.Goals as goal
 
 pub returns-in_err-led-clause-ran : goal.returns-in_err-led-clause-ran
@@ -20,3 +27,16 @@ settled-requires c =
 pub returns-in-Some-clause-ran : goal.returns-in-Some-clause-ran
 returns-in-Some-clause-ran c = ran_after settled (rw c.as_slice-turns.ensures at c.in_ok-led.ensures.ran)
     (rw c.in-Some.is c.settled.ensures.ran)
+
+pub returns-in-Some-clause-along : goal.returns-in-Some-clause-along
+returns-in-Some-clause-along c =
+    let law = c.inputs_act_at_their_address.ensures in
+    let old = tree_term c.args.t.now in
+    let σ = map value_term c.args.store.now.list in
+    let led = tree_term c.in-Some.u in
+    let i = input_term c.args.input.now in
+    let ran = rw (c.as_slice-turns.ensures, c.in-Some.is) at c.in_ok-led.ensures.ran in
+    let view = option_map (λ (u : Tree). at (tree_term u) (map value_term c.handled.new.store.list)) in
+    along_led _ i.path old led (handled_along law.acts law.lacking law.turns (checked_term c.args.engine.now) old led σ
+    (map value_term c.handled.new.store.list) i {X = Option Tree} view c.args.purse.now c.handled.new.purse {x = Some c.in-Some.u} refl
+    (ran_spends ran)) c.settled.ensures.same

@@ -1,9 +1,10 @@
-use Rattle.std.proofs.Common.{map, ap, arith}
+use Rattle.std.proofs.Common.{◌≡◌, Some, map, sym, ap, subst, arith}
 use Rattle.std.proofs.lemmas.Result.{on_ok_weaker}
 use Rattle.task_model.specs.Terms.Value.{value_term}
 use Rattle.task_model.specs.Terms.Tree.{tree_term}
 use Rattle.node_rows.specs.TreeNodes.{tree_nodes}
 use Rattle.node_rows.proofs.CountLemmas.{two_each}
+use Rattle.kept_nodes.specs.Along.{DiffersAlong}
 use Rattle.live_tree.specs.Live.{SeenLive}
 use Rattle.live_tree.proofs.tree.LiveTree.rows_from.Goals as goal
 
@@ -12,3 +13,9 @@ returns-in-None-clause-steps g c =
     let few = two_each (tree_term c.self.inside.tree) (map value_term c.args.store.now.list) in
     let same = ap (λ (t : SeenLive). tree_nodes (tree_term t.tree)) c.self.view_is in
     on_ok_weaker c.fresh_rows.result (λ counted. omega (arith, few, counted, same)) c.fresh_rows.ensures.steps
+
+pub kept_marks-requires : goal.kept_marks-requires
+kept_marks-requires g c = λ path e.
+    subst (λ (w : SeenLive). DiffersAlong path (tree_term w.tree) (tree_term c.self.inside.tree)) (sym c.before-2.view_is)
+    (subst (λ (w : SeenLive). w.along ≡ Some path → DiffersAlong path (tree_term c.args.before.now.tree) (tree_term w.tree)) (sym c.self.view_is)
+    (c.requires.along path) e)

@@ -22,6 +22,7 @@ next_drawn_fragments-fragments-requires g c =
           c.in-Some.prepared kept;
       before = layer_live c.self.inside.engine c.self.inside.budget c.self.inside.history c.self.inside.live c.self.inside.store
           c.in-Some.prepared kept;
+      along = kept.next_differs;
     }
 
 pub invariant_of-self : goal.invariant_of-self
@@ -31,7 +32,8 @@ invariant_of-self g c =
     c.self.invariant in
     next_drawn_kept c.self.inside.engine c.self.inside.budget c.self.inside.history c.self.inside.live c.self.inside.store
     c.in-Some.prepared kept c.next_drawn_fragments-fragments.new.live c.next_drawn_fragments-fragments.new.store c.next_drawn_fragments-fragments.ensures.tree
-    c.next_drawn_fragments-fragments.ensures.store c.next_drawn_fragments-fragments.ensures.live
+    c.next_drawn_fragments-fragments.ensures.store c.next_drawn_fragments-fragments.ensures.along
+    c.next_drawn_fragments-fragments.ensures.live
 
 pub returns-clause-world : goal.returns-clause-world
 returns-clause-world g c =

@@ -1,0 +1,94 @@
+-- What an input leads to where no stride changes anything differs along its path alone.
+use Rattle.std.proofs.Common.{◌≡◌, ◌↔◌, ◌≤◌, ℕ, zero, suc, true, List, Option, None, Some, Result, Ok, Err, refl, sym, ap, ◌∙◌, subst, arith}
+use Rattle.std.specs.Prelude.{IfOk, IfSome}
+use Rattle.task_model.specs.Terms.Left.{Left}
+use Rattle.task_model.specs.Terms.Value.{ValueTerm}
+use Rattle.task_model.specs.Terms.Tree.{TreeTerm, tree_term, State, at}
+use Rattle.task_model.specs.Terms.Input.{ActTerm, InputTerm}
+use Rattle.task_model.specs.Running.Address.{Address, address_turns, address_of, with_node}
+use Rattle.task_model.specs.Running.Checked.{CheckedTerm}
+use Rattle.task_model.specs.Running.Handling.{Handled, rebuilt}
+use Rattle.task_model.specs.Running.Judgements.{Settles}
+use Rattle.task_model.specs.Running.Plan.{settles, derives_at, StrideList, last_stride, more_strides}
+use Rattle.task_model.specs.Running.Rules.{rule_of}
+use Rattle.task_model.specs.Running.Spends.{Spends}
+use Rattle.task_model.specs.Running.Work.{Work, gives}
+use Rattle.task_model.specs.declared.input.Turn.{Turn}
+use Rattle.task_model.specs.declared.purse.Stop.{Stop}
+use Rattle.task_model.specs.declared.tree.Tree.{Tree}
+use Rattle.task_laws.specs.ActsAt.{ActsAt}
+use Rattle.kept_nodes.specs.Along.{DiffersAlong}
+use Rattle.handle_input.specs.declared.led.Led.{Led}
+
+-- ---- settling in one unit
+paid : (one : State → Work State) (s t : State) (n h : ℕ) → StrideList one s t n h → 1 ≤ n
+paid one s t n h (last_stride _ _ n1 _ _ d same e) = omega (arith, e)
+paid one s t n h (more_strides _ s1 _ n1 m1 _ h1 g1 _ d other rest e f) = omega (arith, e)
+
+one_stride : (one : State → Work State) (s t : State) (n h : ℕ) → StrideList one s t n h → n ≡ 1 → t ≡ s
+one_stride one s t n h (last_stride _ _ n1 _ _ d same e) is = same
+one_stride one s t n h (more_strides _ s1 _ n1 m1 _ h1 g1 _ d other rest e f) is =
+    let more = paid one s1 t m1 g1 rest in absurd (omega (arith, more, e, is))
+
+settles_once : (c : CheckedTerm) (s t : State) (k n h : ℕ) → derives_at (rule_of c) k (settles s) t n h → n ≡ 1 → t ≡ s
+settles_once c s t zero n h d is = absurd d
+settles_once c s t (suc k) n h d is =
+    let all = d.part in
+    let none = all.two.units in
+    let sum = all.units in
+    all.two.value ∙ one_stride _ s all.middle all.n1 all.h1 all.one (omega (arith, none, sum, is))
+
+pub settled_same : (c : CheckedTerm) (s : State) (view : Tree → State) (old new : Left) (u : Tree)
+    → Spends (Settles c s) view old new (Ok u) → old.units ≡ suc new.units → view u ≡ s
+settled_same c s view old new u q one =
+    let spent = q.4 in settles_once c s (view u) q.2.0 q.0 q.1 q.2.1 (omega (arith, spent, one))
+
+-- ---- handling
+some_same : {s t : State} → Some s ≡ Some t → s ≡ t
+some_same e = cc
+
+some_tree : {s t : State} → Some s ≡ Some t → s.tree ≡ t.tree
+some_tree e = ap (λ (z : State). z.tree) (some_same e)
+
+some_none : {s : State} → Some s ≡ None → ⊥
+some_none e = cc
+
+module _ (acts : (c : CheckedTerm) (t : TreeTerm) (σ : List ValueTerm) (path : List Turn) (act : ActTerm) (a : Address)
+    → address_of t σ path act ≡ Some a → ActsAt c t σ path act a)
+    (lacking : (c : CheckedTerm) (t : TreeTerm) (σ : List ValueTerm) (path : List Turn) (act : ActTerm) → address_of t σ path act ≡ None
+    → (r : Option State) (n h : ℕ) → Handled c (at t σ) (record { path = path; act = act }) r n h ↔ gives None r n h)
+    (turned : (t : TreeTerm) (σ : List ValueTerm) (path : List Turn) (act : ActTerm) (a : Address) → address_of t σ path act ≡ Some a
+    → address_turns a ≡ path)
+    (c : CheckedTerm) (t u : TreeTerm) (σ τ : List ValueTerm) (i : InputTerm) where
+  at_address : (a : Address) → address_of t σ i.path i.act ≡ Some a → ActsAt c t σ i.path i.act a → (m : Option State)
+      → Some (at u τ) ≡ rebuilt (λ w. with_node t a w) m → DiffersAlong i.path t u
+  at_address a e it None is = absurd (some_none is)
+  at_address a e it (Some s) is = record {
+    address = a;
+    turns = turned t σ i.path i.act a e;
+    before = it.node;
+    there = it.there;
+    after = s.tree;
+    replaced = some_tree is;
+  }
+
+  by_address : (n h : ℕ) → Handled c (at t σ) i (Some (at u τ)) n h → (o : Option Address) → address_of t σ i.path i.act ≡ o
+      → DiffersAlong i.path t u
+  by_address n h d None e = absurd (some_none ((lacking c t σ i.path i.act e (Some (at u τ)) n h).0 d).value)
+  by_address n h d (Some a) e =
+      let it = acts c t σ i.path i.act a e in
+      let q = (it.acts (Some (at u τ)) n h).0 d in
+      at_address a e it q.0 q.2
+
+  pub handled_along : {X : Type 0} (view : X → Option State) (old new : Left) {x : X} → view x ≡ Some (at u τ)
+      → Spends (Handled c (at t σ) i) view old new (Ok x) → DiffersAlong i.path t u
+  handled_along view old new e q =
+      by_address q.0 q.1 (subst (λ r. Handled c (at t σ) i r q.0 q.1) e q.2) (address_of t σ i.path i.act) refl
+
+-- where nothing changed behind that
+pub along_led : (r : Result (Option Led) Stop) (path : List Turn) (t u : TreeTerm) → DiffersAlong path t u
+    → IfOk r (λ o. IfSome o (λ led. led.along_path ≡ true → tree_term led.tree ≡ u))
+    → IfOk r (λ o. IfSome o (λ led. led.along_path ≡ true → DiffersAlong path t (tree_term led.tree)))
+along_led (Ok None) path t u d h = tt
+along_led (Ok (Some led)) path t u d h = λ e. subst (DiffersAlong path t) (sym (h e)) d
+along_led (Err stop) path t u d h = tt

@@ -1,0 +1,108 @@
+use Rattle.std.proofs.Common.{◌≡◌, ◌∷◌, true, Some, refl, sym, ap, ◌∙◌, subst, arith}
+use Rattle.task_model.specs.Terms.Tree.{tree_term}
+use Rattle.task_model.specs.declared.input.Turn.TheVariants as turns
+use Rattle.kept_nodes.specs.KeptMarks.{TellsKept}
+use Rattle.kept_nodes.specs.declared.marks.Marks as marks
+use Rattle.kept_nodes.proofs.MarkLemmas.{ok_two, ok_three, tells_step_parts, tells_pair_parts}
+use Rattle.kept_nodes.proofs.CountLemmas.{step_fewer, pair_fewer}
+use Rattle.kept_nodes.proofs.AlongLemmas.{stays_beside, whole_beside, left_is, both_are, step_along, pair_along}
+use Rattle.kept_nodes.proofs.along.+marks_along.Goals as goal
+
+-- ---- at a step
+pub marks_along-requires : goal.marks_along-requires
+marks_along-requires t c =
+    let here = c.in_default-Step-Step in
+    let left = tree_term here.left.now in
+    let fewer = step_fewer (tree_term c.args.new.now) left (sym here.ensures') in
+    let was = c.decreases in
+    let parts = step_along c.args.path.now c.in-Some.turn.now c.in-Some.rest.now c.in-Some.ensures.cases.0 (tree_term c.args.old.now)
+    (tree_term c.args.new.now) c.requires.along (tree_term here.was.now) left here.ensures here.ensures' in
+    (omega (arith, fewer, was), (c.requires.none, parts.0))
+
+pub returns-in_ok-part-in_default-Step-Step : goal.returns-in_ok-part-in_default-Step-Step
+returns-in_ok-part-in_default-Step-Step t c =
+    let here = c.in_default-Step-Step in
+    let old = tree_term c.args.old.now in
+    let new = tree_term c.args.new.now in
+    let left = tree_term here.left.now in
+    let n = c.in_ok-part-in_default-Step-Step.part in
+    let parts = step_along c.args.path.now c.in-Some.turn.now c.in-Some.rest.now c.in-Some.ensures.cases.0 old new c.requires.along
+    (tree_term here.was.now) left here.ensures here.ensures' in
+    ok_two c.of_step.result _ _ _ (λ m own below σ τ changes. tells_step_parts c.foot_is_in_order.ensures.agreeing σ τ
+    c.args.changed.now c.requires.none.grown changes old true new left m n (sym here.ensures')
+    (stays_beside c.args.changed.now c.requires.none old new parts.1)
+    (subst (λ o. TellsKept σ τ o left n) (sym (left_is old (tree_term here.was.now) here.ensures))
+    (c.in_ok-part-in_default-Step-Step.ensures σ τ changes)) own below)
+    c.of_step.ensures.own c.of_step.ensures.left
+
+-- ---- into the first part of a pair
+pub marks_along-requires-in-First-Pair-Pair : goal.marks_along-requires-in-First-Pair-Pair
+marks_along-requires-in-First-Pair-Pair t c =
+    let here = c.in-First-Pair-Pair in
+    let a = tree_term here.was.now in
+    let b = tree_term here.field-1-1.now in
+    let part = tree_term here.part.now in
+    let other = tree_term here.field-1-2.now in
+    let fewer = pair_fewer (tree_term c.args.new.now) part other (sym here.ensures') in
+    let was = c.decreases in
+    let way = c.in-Some.ensures.cases.0 ∙ ap (λ z. z ∷ c.in-Some.rest.now) here.is-0 in
+    let parts = pair_along c.args.path.now turns.First c.in-Some.rest.now way (tree_term c.args.old.now)
+    (tree_term c.args.new.now) c.requires.along a b part other here.ensures here.ensures' in
+    (omega (arith, fewer, was), (c.requires.none, parts.0.0))
+
+pub returns-in_ok-first-in-First-Pair-Pair : goal.returns-in_ok-first-in-First-Pair-Pair
+returns-in_ok-first-in-First-Pair-Pair t c =
+    let here = c.in-First-Pair-Pair in
+    let old = tree_term c.args.old.now in
+    let new = tree_term c.args.new.now in
+    let a = tree_term here.was.now in
+    let b = tree_term here.field-1-1.now in
+    let part = tree_term here.part.now in
+    let other = tree_term here.field-1-2.now in
+    let n = c.in_ok-first-in-First-Pair-Pair.first in
+    let way = c.in-Some.ensures.cases.0 ∙ ap (λ z. z ∷ c.in-Some.rest.now) here.is-0 in
+    let parts = pair_along c.args.path.now turns.First c.in-Some.rest.now way old new c.requires.along a b part other here.ensures here.ensures' in
+    let stood = both_are old a b here.ensures in
+    ok_three c.of_pair.result _ _ _ _ (λ m own first second σ τ changes. tells_pair_parts c.foot_is_in_order.ensures.agreeing σ τ
+    c.args.changed.now c.requires.none.grown changes old true new part other m n marks.Whole (sym here.ensures')
+    (stays_beside c.args.changed.now c.requires.none old new parts.1)
+    (subst (λ o. TellsKept σ τ o part n) (sym stood.0) (c.in_ok-first-in-First-Pair-Pair.ensures σ τ changes))
+    (whole_beside c.foot_is_in_order.ensures.agreeing σ τ c.args.changed.now c.requires.none changes _ other
+    (stood.1 ∙ ap Some (sym parts.0.1))) own first second)
+    c.of_pair.ensures.own c.of_pair.ensures.first c.of_pair.ensures.second
+
+-- ---- and into the second one
+pub marks_along-requires-in-Second-Pair-Pair : goal.marks_along-requires-in-Second-Pair-Pair
+marks_along-requires-in-Second-Pair-Pair t c =
+    let here = c.in-Second-Pair-Pair in
+    let a = tree_term here.field-0-1.now in
+    let b = tree_term here.was.now in
+    let other = tree_term here.field-0-2.now in
+    let part = tree_term here.part.now in
+    let fewer = pair_fewer (tree_term c.args.new.now) other part (sym here.ensures') in
+    let was = c.decreases in
+    let way = c.in-Some.ensures.cases.0 ∙ ap (λ z. z ∷ c.in-Some.rest.now) here.is-0 in
+    let parts = pair_along c.args.path.now turns.Second c.in-Some.rest.now way (tree_term c.args.old.now)
+    (tree_term c.args.new.now) c.requires.along a b other part here.ensures here.ensures' in
+    (omega (arith, fewer, was), (c.requires.none, parts.0.0))
+
+pub returns-in_ok-second-in-Second-Pair-Pair : goal.returns-in_ok-second-in-Second-Pair-Pair
+returns-in_ok-second-in-Second-Pair-Pair t c =
+    let here = c.in-Second-Pair-Pair in
+    let old = tree_term c.args.old.now in
+    let new = tree_term c.args.new.now in
+    let a = tree_term here.field-0-1.now in
+    let b = tree_term here.was.now in
+    let other = tree_term here.field-0-2.now in
+    let part = tree_term here.part.now in
+    let n = c.in_ok-second-in-Second-Pair-Pair.second in
+    let way = c.in-Some.ensures.cases.0 ∙ ap (λ z. z ∷ c.in-Some.rest.now) here.is-0 in
+    let parts = pair_along c.args.path.now turns.Second c.in-Some.rest.now way old new c.requires.along a b other part here.ensures here.ensures' in
+    let stood = both_are old a b here.ensures in
+    ok_three c.of_pair-in-Second-Pair-Pair.result _ _ _ _ (λ m own first second σ τ changes. tells_pair_parts
+    c.foot_is_in_order.ensures.agreeing σ τ c.args.changed.now c.requires.none.grown changes old true new other part m marks.Whole n
+    (sym here.ensures') (stays_beside c.args.changed.now c.requires.none old new parts.1)
+    (whole_beside c.foot_is_in_order.ensures.agreeing σ τ c.args.changed.now c.requires.none changes _ other
+    (stood.0 ∙ ap Some (sym parts.0.1)))
+    (subst (λ o. TellsKept σ τ o part n) (sym stood.1) (c.in_ok-second-in-Second-Pair-Pair.ensures σ τ changes)) own first second)
+    c.of_pair-in-Second-Pair-Pair.ensures.own c.of_pair-in-Second-Pair-Pair.ensures.first c.of_pair-in-Second-Pair-Pair.ensures.second
