@@ -9,7 +9,16 @@ use Rattle.task_model.proofs.row.Row.TheSendSync as rows
 use Rattle.task_model.specs.contracts.item.Item as item
 use Rattle.task_model.specs.contracts.value.Value as value
 use Rattle.shared_store.specs.contracts.store.Store as store
+use Rattle.task_model.specs.contracts.tree.Tree as tree
+use Rattle.task_model.proofs.text.TaskText.TheSendSync as texts
+use Rattle.task_model.proofs.basic.Basic.TheLaws.TheKnot as basics
+use Rattle.task_model.proofs.value.Value.TheLaws.TheKnot as values
+use Rattle.task_model.proofs.tree.Tree.TheLaws.TheKnot as trees
+use Rattle.task_model.specs.contracts.turns.Turns as turns
+use Rattle.task_model.proofs.turns.Turns.TheSendSync as turns_send
+use Rattle.node_rows.specs.contracts.rows.NodeRows as node_rows
 use Rattle.live_tree.specs.contracts.tree.LiveTree as live_tree
+use Rattle.live_tree.specs.contracts.tree.LiveTree.TheInside as live_inside
 use Rattle.world_core.specs.contracts.prepared.Prepared as prepared
 use Rattle.world_core.specs.contracts.world.World as world
 use Rattle.world_core.specs.contracts.world.World.TheInside as within
@@ -44,6 +53,15 @@ engine_send d =
       ),
     )
     in view_send _ _ _ _ _ (declared_send inside.the_type parts)
+
+tree_send : IsSend (as_row tree.the_field)
+tree_send = search (as_row_send, texts.the_send, texts.the_sync, rows.the_send, rows.the_sync, crosses, basics.crosses_both, values.crosses_both, trees.crosses_both, sendable) depth 60 fits 20000
+
+pub live_tree_send : IsSend node_rows.the_row → IsSend live_tree.the_row
+live_tree_send r =
+    let parts : FieldsHave IsSend live_inside.the_type.parts =
+    (tree_send, (options.the_send node_rows.the_row r, (options.the_send turns.the_row turns_send.the_send, tt)))
+    in view_send _ _ _ _ _ (declared_send live_inside.the_type parts)
 
 pub world_send :
     IsSend engine.the_row → IsSend item.the_row → IsSend live_tree.the_row → IsSend (store.the_row value.the_row) → IsSend world.the_row

@@ -13,7 +13,7 @@ ghost use Rattle.live_tree.specs.contracts.tree.LiveTree as live_trees;
 ghost use Rattle.world_core.specs.contracts.world.World as worlds;
 
 use host_eval::Definitions;
-use live_tree::LiveTree;
+use node_rows::NodeRows;
 use shared_store::Store;
 use task_model::{Checked, Value};
 
@@ -58,7 +58,7 @@ fn engines_cross()
 fn live_trees_cross()
     ensures { IsSend live_trees.the_row }
 {
-    crosses::<LiveTree>();
+    crosses::<NodeRows>();
 }
 
 // Stores of values may.
