@@ -82,6 +82,57 @@ impl Case<'_> {
         self.wrong(bench, &answer)
     }
 
+    // How it is wrong with a unit less, if there is one.
+    fn wrong_with_fewer<L: Ledger>(
+        &self,
+        bench: &mut Bench,
+        units: u32,
+        height: u32,
+        steps: &mut Steps<L>,
+    ) -> Result<&'static str, OutOfMemory> {
+        match units.checked_sub(1) {
+            Some(fewer) => self.wrong_at(bench, fewer, height, steps),
+            None => Ok(""),
+        }
+    }
+
+    // And with a rule less, if there is one. A test has its whole height.
+    fn wrong_with_lower<L: Ledger>(
+        &self,
+        bench: &mut Bench,
+        units: u32,
+        height: u32,
+        steps: &mut Steps<L>,
+    ) -> Result<&'static str, OutOfMemory> {
+        match height.checked_sub(1) {
+            Some(lower) if !is_test(self.call) => self.wrong_at(bench, units, lower, steps),
+            _ => Ok(""),
+        }
+    }
+
+    // The text of an answer, and how the call is wrong with less.
+    fn answer_text<L: Ledger>(
+        &self,
+        bench: &mut Bench,
+        answer: &Answer,
+        units: u32,
+        height: u32,
+        steps: &mut Steps<L>,
+    ) -> Result<String, OutOfMemory> {
+        if answer.word == "over" {
+            let wrong = self.wrong(bench, answer)?;
+            return Ok(format!(in self.alloc; "over{wrong}")?);
+        }
+        let fewer = self.wrong_with_fewer(bench, units, height, steps)?;
+        let lower = self.wrong_with_lower(bench, units, height, steps)?;
+        answer.text(
+            self.alloc,
+            !is_test(self.call) && answer.leaves(height),
+            fewer,
+            lower,
+        )
+    }
+
     // What the call answers with so many units and so much height, and how it is wrong with less.
     fn told<L: Ledger>(
         &self,
@@ -91,49 +142,120 @@ impl Case<'_> {
         steps: &mut Steps<L>,
     ) -> Result<String, OutOfMemory> {
         let answer = self.answer(bench, units, height, steps)?;
-        if answer.word == "over" {
-            let wrong = self.wrong(bench, &answer)?;
-            return Ok(format!(in self.alloc; "over{wrong}")?);
-        }
-        let has_more = !is_test(self.call) && (answer.units > 0 || answer.height != height);
-        let left = if has_more { ", with more left" } else { "" };
-        let mut fewer = "";
-        if units > 0 {
-            fewer = self.wrong_at(bench, units - 1, height, steps)?;
-        }
-        let mut lower = "";
-        if height > 0 && !is_test(self.call) {
-            lower = self.wrong_at(bench, units, height - 1, steps)?;
-        }
-        Ok(format!(in self.alloc;
-            "{}{}{}{left}{fewer}{lower}",
-            answer.word, answer.state, answer.layers
-        )?)
+        self.answer_text(bench, &answer, units, height, steps)
     }
 }
 
-// The lines and what the call of the last one answers, where it should answer something else.
+/// A call, the units and the height that it takes, and what it answers.
+#[derive(Clone, Copy)]
+struct Row<'r> {
+    call: &'r str,
+    units: u32,
+    height: u32,
+    wanted: &'r str,
+}
+
+impl<'r> Row<'r> {
+    // None where the line changes layers.
+    fn of(line: &'r str) -> Option<Row<'r>> {
+        let (call, rest) = line.split_once(": ")?;
+        let (work, wanted) = rest.split_once(" => ").unwrap_or((rest, ""));
+        let (units, height) = work.split_once(' ').unwrap_or((work, "1000"));
+        Some(Row {
+            call,
+            units: units.parse::<u32>().unwrap_or(0),
+            height: height.parse::<u32>().unwrap_or(0),
+            wanted,
+        })
+    }
+}
+
+// The lines and what was told of the last one, where something else was wanted.
+fn compared(alloc: Global, lines: &str, told: &str, wanted: &str) -> Result<String, OutOfMemory> {
+    if told == wanted {
+        return Ok(String::new(alloc));
+    }
+    Ok(format!(in alloc; "\n{lines}{wanted}\n{told}\n")?)
+}
+
+// The lines and what the call of a row answers behind them, where it should answer something else.
 fn difference<L: Ledger>(
     alloc: Global,
     bench: &mut Bench,
     lines: &str,
-    line: &str,
+    row: Row,
     steps: &mut Steps<L>,
 ) -> Result<String, OutOfMemory> {
-    let Some((call, rest)) = line.split_once(": ") else {
-        return Ok(String::new(alloc));
+    let case = Case {
+        alloc,
+        lines,
+        call: row.call,
     };
-    let (work, wanted) = rest.split_once(" => ").unwrap_or((rest, ""));
-    let (units, height) = work.split_once(' ').unwrap_or((work, "1000"));
-    let units = units.parse::<u32>().unwrap_or(0);
-    let height = height.parse::<u32>().unwrap_or(0);
-    let case = Case { alloc, lines, call };
-    let told = case.told(bench, units, height, steps)?;
-    let wanted = repeated(alloc, wanted)?;
-    if told.as_str() == wanted.as_str() {
-        return Ok(String::new(alloc));
+    let told = case.told(bench, row.units, row.height, steps)?;
+    let wanted = repeated(alloc, row.wanted)?;
+    compared(alloc, lines, told.as_str(), wanted.as_str())
+}
+
+/// The lines of a program that were tried, and what is wrong with them.
+#[derive(Drop)]
+struct Tried {
+    alloc: Global,
+    lines: String,
+    wrong: String,
+}
+
+impl Tried {
+    // The line stands above the next ones. Behind `clear` none does.
+    fn keep(&mut self, line: &str) -> Result<(), OutOfMemory> {
+        if line == "clear" {
+            self.lines.clear();
+            return Ok(());
+        }
+        self.lines.push_str(line)?;
+        self.lines.push('\n')?;
+        Ok(())
     }
-    Ok(format!(in alloc; "\n{lines}{line}\n{told}\n")?)
+
+    fn add<L: Ledger>(
+        &mut self,
+        bench: &mut Bench,
+        row: Row,
+        steps: &mut Steps<L>,
+    ) -> Result<(), OutOfMemory> {
+        let wrong = difference(self.alloc, bench, self.lines.as_str(), row, steps)?;
+        self.wrong.push_str(wrong.as_str())?;
+        Ok(())
+    }
+
+    fn add_line<L: Ledger>(
+        &mut self,
+        bench: &mut Bench,
+        line: &str,
+        steps: &mut Steps<L>,
+    ) -> Result<(), OutOfMemory> {
+        if let Some(row) = Row::of(line) {
+            self.add(bench, row, steps)?;
+        }
+        self.keep(line)
+    }
+}
+
+// What is wrong with the calls of a program.
+fn calls_differences<L: Ledger>(
+    alloc: Global,
+    bench: &mut Bench,
+    calls: &str,
+    steps: &mut Steps<L>,
+) -> Result<String, OutOfMemory> {
+    let mut tried = Tried {
+        alloc,
+        lines: String::new(alloc),
+        wrong: String::new(alloc),
+    };
+    for line in calls.split('\n') {
+        tried.add_line(bench, line, steps)?;
+    }
+    Ok(tried.wrong)
 }
 
 /// A program, and the calls on it.
@@ -146,22 +268,10 @@ impl BlockTest for Programs {
         text: &str,
         steps: &mut Steps<L>,
     ) -> Result<String, OutOfMemory> {
-        let mut all = String::new(alloc);
-        let mut lines = String::new(alloc);
         let (program, calls) = text.split_once('\n').unwrap_or((text, ""));
         let source = repeated(alloc, program)?;
         let mut bench = Bench::new(alloc, accepted(alloc, source.as_str())?)?;
-        for line in calls.split('\n') {
-            let told = difference(alloc, &mut bench, lines.as_str(), line, steps)?;
-            all.push_str(told.as_str())?;
-            if line == "clear" {
-                lines = String::new(alloc);
-            } else {
-                lines.push_str(line)?;
-                lines.push('\n')?;
-            }
-        }
-        Ok(all)
+        calls_differences(alloc, &mut bench, calls, steps)
     }
 }
 

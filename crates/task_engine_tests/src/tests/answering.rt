@@ -16,6 +16,32 @@ pub(super) struct Answer {
     pub height: u32,
 }
 
+impl Answer {
+    /// Whether units are left, or another height than there was.
+    pub(super) fn leaves(&self, height: u32) -> bool {
+        self.units > 0 || self.height != height
+    }
+
+    /// The word and the state with the layers, and what is wrong.
+    pub(super) fn text(
+        &self,
+        alloc: Global,
+        has_more: bool,
+        fewer: &str,
+        lower: &str,
+    ) -> Result<String, OutOfMemory> {
+        let mut text = String::from_str(alloc, self.word)?;
+        text.push_str(self.state.as_str())?;
+        text.push_str(self.layers.as_str())?;
+        if has_more {
+            text.push_str(", with more left")?;
+        }
+        text.push_str(fewer)?;
+        text.push_str(lower)?;
+        Ok(text)
+    }
+}
+
 // A purse of so many units that has so much height left.
 fn purse_of(units: u32, height: u32) -> Purse {
     let mut purse = Purse::new(units);

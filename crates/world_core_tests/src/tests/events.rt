@@ -28,56 +28,111 @@ fn leaves_all<L: Ledger>(
     Ok(is_shown && before.as_str() == after.as_str())
 }
 
-// Whether the history is the earlier one with one line more, and the version counts it.
-fn grew(
-    alloc: Global,
-    bench: &WorldBench,
-    earlier: &str,
-    entry: &Entry,
-) -> Result<bool, OutOfMemory> {
-    let now = history_text(alloc, bench)?;
-    let line = print_entry(alloc, entry)?;
-    let Some(more) = now.as_str().strip_prefix(earlier) else {
-        return Ok(false);
-    };
-    Ok(more == line.as_str())
+/// What a world was before an entry: all that it shows, its history as text, and how many inputs it had taken.
+#[derive(Drop)]
+struct Before {
+    shown: String,
+    history: String,
+    version: u64,
 }
 
-// What an entry that was taken led to, and what else is wrong.
+impl Before {
+    fn of<L: Ledger>(
+        alloc: Global,
+        bench: &mut WorldBench,
+        steps: &mut Steps<L>,
+    ) -> Result<Before, OutOfMemory> {
+        let shown = world_text(alloc, bench, steps)?;
+        let history = history_text(alloc, bench)?;
+        Ok(Before {
+            shown,
+            history,
+            version: bench.version(),
+        })
+    }
+
+    // Whether the history is the earlier one with one line more.
+    fn grew(&self, alloc: Global, bench: &WorldBench, entry: &Entry) -> Result<bool, OutOfMemory> {
+        let line = print_entry(alloc, entry)?;
+        let now = history_text(alloc, bench)?;
+        Ok(now.as_str().strip_prefix(self.history.as_str()) == Some(line.as_str()))
+    }
+
+    // What is wrong where an entry was taken: the version counts it.
+    fn taken_wrong(
+        &self,
+        alloc: Global,
+        bench: &WorldBench,
+        entry: &Entry,
+        now: u64,
+    ) -> Result<&'static str, OutOfMemory> {
+        let is_counted = now == bench.version() && now == self.version.saturating_add(1);
+        let grew = self.grew(alloc, bench, entry)?;
+        Ok(if is_counted && grew {
+            ""
+        } else {
+            ", with another history"
+        })
+    }
+
+    // What is wrong where an entry was refused.
+    fn refused_wrong<L: Ledger>(
+        &self,
+        alloc: Global,
+        bench: &mut WorldBench,
+        steps: &mut Steps<L>,
+    ) -> Result<&'static str, OutOfMemory> {
+        let now = world_text(alloc, bench, steps)?;
+        Ok(if now.as_str() == self.shown.as_str() {
+            ""
+        } else {
+            ", and something changed"
+        })
+    }
+}
+
+// A reply to an entry, with the state that it led to where it was taken, and what else is wrong.
 fn taken_text(
     alloc: Global,
     bench: &WorldBench,
-    entry: &Entry,
-    earlier: &str,
-    counts: (u64, u64),
+    reply: Reply,
+    wrong: &str,
 ) -> Result<String, OutOfMemory> {
-    let (before, now) = counts;
-    let mut text = String::from_str(alloc, "@")?;
+    let mut text = reply_text(alloc, reply)?;
+    text.push('@')?;
     text.push_str(state_text(alloc, bench)?.as_str())?;
-    let is_counted = now == bench.version() && now == before.saturating_add(1);
-    if !is_counted || !grew(alloc, bench, earlier, entry)? {
-        text.push_str(", with another history")?;
-    }
+    text.push_str(wrong)?;
     Ok(text)
 }
 
-// What is wrong where an entry was refused.
-fn refused_text<L: Ledger>(
-    alloc: Global,
-    bench: &mut WorldBench,
-    before: &str,
-    steps: &mut Steps<L>,
-) -> Result<String, OutOfMemory> {
-    let is_same = world_text(alloc, bench, steps)?.as_str() == before;
-    let wrong = if is_same {
-        ""
-    } else {
-        ", and something changed"
-    };
-    Ok(String::from_str(alloc, wrong)?)
+fn refused_text(alloc: Global, reply: Reply, wrong: &str) -> Result<String, OutOfMemory> {
+    let mut text = reply_text(alloc, reply)?;
+    text.push_str(wrong)?;
+    Ok(text)
 }
 
-// The reply to an entry, with the state that it led to where it was taken, and what else is wrong.
+// The reply to an entry that was given to a world.
+fn reply_told<L: Ledger>(
+    alloc: Global,
+    bench: &mut WorldBench,
+    entry: &Entry,
+    before: &Before,
+    reply: Reply,
+    steps: &mut Steps<L>,
+) -> Result<String, OutOfMemory> {
+    match reply {
+        Reply::Taken(now) => {
+            let wrong = before.taken_wrong(alloc, bench, entry, now)?;
+            taken_text(alloc, bench, reply, wrong)
+        }
+        _ => {
+            let wrong = before.refused_wrong(alloc, bench, steps)?;
+            refused_text(alloc, reply, wrong)
+        }
+    }
+}
+
+// The same, which is given.
 fn given<L: Ledger>(
     alloc: Global,
     bench: &mut WorldBench,
@@ -87,17 +142,9 @@ fn given<L: Ledger>(
 ) -> Result<String, OutOfMemory>
     requires { IsSeat entry.now.seat }
 {
-    let before = world_text(alloc, bench, steps)?;
-    let earlier = history_text(alloc, bench)?;
-    let version = bench.version();
+    let before = Before::of(alloc, bench, steps)?;
     let reply = bench.handle(alloc, entry, way)?;
-    let rest = match reply {
-        Reply::Taken(now) => { taken_text(alloc, bench, entry, earlier.as_str(), (version, now))? }
-        _ => refused_text(alloc, bench, before.as_str(), steps)?,
-    };
-    let mut text = reply_text(alloc, reply)?;
-    text.push_str(rest.as_str())?;
-    Ok(text)
+    reply_told(alloc, bench, entry, &before, reply, steps)
 }
 
 // The same, which is prepared and abandoned before where it is given in two parts.
@@ -229,39 +276,117 @@ impl Case<'_> {
     }
 }
 
-// What differs from a row with just its units, and with one fewer.
-fn exact_differences<L: Ledger>(
+/// A row: a line of a script, the units that it takes where they are said, and what is wanted of it.
+#[derive(Clone, Copy)]
+struct Row<'r> {
+    line: &'r str,
+    units: Option<u32>,
+    wanted: &'r str,
+}
+
+impl<'r> Row<'r> {
+    fn of(row: &'r str) -> Row<'r> {
+        let (line, rest) = row.split_once('@').unwrap_or((row, ""));
+        let (units, wanted) = rest.split_once('@').unwrap_or((rest, ""));
+        Row {
+            line,
+            units: units.parse::<u32>().ok(),
+            wanted,
+        }
+    }
+}
+
+// What differs with a unit less than it takes.
+fn fewer_difference<L: Ledger>(
+    case: &Case,
+    units: u32,
+    steps: &mut Steps<L>,
+) -> Result<String, OutOfMemory> {
+    let less = if case.line.is_empty() {
+        "opening over"
+    } else {
+        "over"
+    };
+    match units.checked_sub(1) {
+        Some(fewer) if fewer > 0 => case.difference(fewer, less, steps),
+        _ => Ok(String::new(case.alloc)),
+    }
+}
+
+// What differs with just its units, and with one fewer.
+fn exact_difference<L: Ledger>(
     case: &Case,
     units: u32,
     wanted: &str,
     steps: &mut Steps<L>,
 ) -> Result<String, OutOfMemory> {
     let mut all = case.difference(units, wanted, steps)?;
-    let less = if case.line.is_empty() {
-        "opening over"
-    } else {
-        "over"
-    };
-    if units > 1 {
-        all.push_str(case.difference(units - 1, less, steps)?.as_str())?;
-    }
+    all.push_str(fewer_difference(case, units, steps)?.as_str())?;
     Ok(all)
 }
 
-// What differs from a row within a budget, and, where the row has units, with just these and with one fewer.
-fn row_differences<L: Ledger>(
+// The same where they are said.
+fn said_difference<L: Ledger>(
     case: &Case,
-    budget: u32,
-    row: &str,
+    units: Option<u32>,
+    wanted: &str,
     steps: &mut Steps<L>,
 ) -> Result<String, OutOfMemory> {
-    let (units, wanted) = row.split_once('@').unwrap_or((row, ""));
-    let wanted = repeated(case.alloc, wanted)?;
-    let mut all = case.difference(budget, wanted.as_str(), steps)?;
-    if let Ok(units) = units.parse::<u32>() {
-        all.push_str(exact_differences(case, units, wanted.as_str(), steps)?.as_str())?;
+    match units {
+        Some(units) => exact_difference(case, units, wanted, steps),
+        None => Ok(String::new(case.alloc)),
     }
+}
+
+// What differs from a row within a budget, and with its units.
+fn row_difference<L: Ledger>(
+    case: &Case,
+    budget: u32,
+    row: Row,
+    steps: &mut Steps<L>,
+) -> Result<String, OutOfMemory> {
+    let wanted = repeated(case.alloc, row.wanted)?;
+    let mut all = case.difference(budget, wanted.as_str(), steps)?;
+    all.push_str(said_difference(case, row.units, wanted.as_str(), steps)?.as_str())?;
     Ok(all)
+}
+
+/// The lines of a program that were tried, and what is wrong with them.
+#[derive(Drop)]
+struct Tried<'p> {
+    alloc: Global,
+    source: &'p str,
+    budget: u32,
+    lines: String,
+    wrong: String,
+}
+
+impl Tried<'_> {
+    fn add<L: Ledger>(
+        &mut self,
+        line: &str,
+        row: Row,
+        steps: &mut Steps<L>,
+    ) -> Result<(), OutOfMemory> {
+        let case = Case {
+            alloc: self.alloc,
+            source: self.source,
+            lines: self.lines.as_str(),
+            line,
+        };
+        let wrong = row_difference(&case, self.budget, row, steps)?;
+        self.wrong.push_str(wrong.as_str())?;
+        Ok(())
+    }
+
+    fn add_row<L: Ledger>(&mut self, row: &str, steps: &mut Steps<L>) -> Result<(), OutOfMemory> {
+        let row = Row::of(row);
+        let line = repeated(self.alloc, row.line)?;
+        self.add(line.as_str(), row, steps)?;
+        self.lines.push_str(line.as_str())?;
+        self.lines.push('\n')?;
+        Ok(())
+    }
 }
 
 // What differs from the rows of a program of this text.
@@ -272,22 +397,17 @@ fn all_differences<L: Ledger>(
     rows: &str,
     steps: &mut Steps<L>,
 ) -> Result<String, OutOfMemory> {
-    let mut all = String::new(alloc);
-    let mut lines = String::new(alloc);
+    let mut tried = Tried {
+        alloc,
+        source,
+        budget,
+        lines: String::new(alloc),
+        wrong: String::new(alloc),
+    };
     for row in rows.split('\n') {
-        let (line, rest) = row.split_once('@').unwrap_or((row, ""));
-        let line = repeated(alloc, line)?;
-        let case = Case {
-            alloc,
-            source,
-            lines: lines.as_str(),
-            line: line.as_str(),
-        };
-        all.push_str(row_differences(&case, budget, rest, steps)?.as_str())?;
-        lines.push_str(line.as_str())?;
-        lines.push('\n')?;
+        tried.add_row(row, steps)?;
     }
-    Ok(all)
+    Ok(tried.wrong)
 }
 
 /// What differs from the rows of a program.

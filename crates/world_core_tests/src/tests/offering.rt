@@ -60,7 +60,26 @@ fn offered<L: Ledger>(
     }
 }
 
-// What differs from the rows of a program that has been started.
+// The budget and the offers, where others are wanted.
+fn compared(alloc: Global, budget: &str, told: &str, wanted: &str) -> Result<String, OutOfMemory> {
+    if told == wanted {
+        return Ok(String::new(alloc));
+    }
+    Ok(format!(in alloc; "{budget}@{told}\n")?)
+}
+
+// What differs from a row of a program that has been started.
+fn row_difference<L: Ledger>(
+    alloc: Global,
+    bench: &mut Bench,
+    row: &str,
+    steps: &mut Steps<L>,
+) -> Result<String, OutOfMemory> {
+    let (budget, wanted) = row.split_once('@').unwrap_or((row, ""));
+    let told = offered(alloc, bench, budget.parse::<u32>().unwrap_or(0), steps)?;
+    compared(alloc, budget, told.as_str(), wanted)
+}
+
 fn row_differences<L: Ledger>(
     alloc: Global,
     bench: &mut Bench,
@@ -69,11 +88,7 @@ fn row_differences<L: Ledger>(
 ) -> Result<String, OutOfMemory> {
     let mut all = String::new(alloc);
     for row in rows.split('\n') {
-        let (budget, wanted) = row.split_once('@').unwrap_or((row, ""));
-        let told = offered(alloc, bench, budget.parse::<u32>().unwrap_or(0), steps)?;
-        if told.as_str() != wanted {
-            all.push_str(format!(in alloc; "{budget}@{told}\n")?.as_str())?;
-        }
+        all.push_str(row_difference(alloc, bench, row, steps)?.as_str())?;
     }
     Ok(all)
 }

@@ -75,16 +75,22 @@ fn marks(alloc: Global, source: &str, literals: &str) -> Result<String, OutOfMem
     Ok(text)
 }
 
+// A row with the marks that were found, where others are wanted.
+fn row_difference(alloc: Global, row: &str, literals: &str) -> Result<String, OutOfMemory> {
+    let (wanted, source) = row.split_once('@').unwrap_or((row, ""));
+    let told = marks(alloc, source, literals)?;
+    if told.as_str() == wanted {
+        return Ok(String::new(alloc));
+    }
+    Ok(format!(in alloc; "{told}@{source}\n")?)
+}
+
 /// What differs from the marks of a table.
 pub(super) fn differences(alloc: Global, table: &str) -> Result<String, OutOfMemory> {
     let mut all = String::new(alloc);
     let (literals, rows) = table.split_once('\n').unwrap_or((table, ""));
     for row in rows.split('\n') {
-        let (wanted, source) = row.split_once('@').unwrap_or((row, ""));
-        let told = marks(alloc, source, literals)?;
-        if told.as_str() != wanted {
-            all.push_str(format!(in alloc; "{told}@{source}\n")?.as_str())?;
-        }
+        all.push_str(row_difference(alloc, row, literals)?.as_str())?;
     }
     Ok(all)
 }
