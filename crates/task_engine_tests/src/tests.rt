@@ -146,9 +146,10 @@ impl Case<'_> {
     }
 }
 
-/// A call, the units and the height that it takes, and what it answers.
+/// A line with a call, the units and the height that it takes, and what it answers.
 #[derive(Clone, Copy)]
 struct Row<'r> {
+    line: &'r str,
     call: &'r str,
     units: u32,
     height: u32,
@@ -162,6 +163,7 @@ impl<'r> Row<'r> {
         let (work, wanted) = rest.split_once(" => ").unwrap_or((rest, ""));
         let (units, height) = work.split_once(' ').unwrap_or((work, "1000"));
         Some(Row {
+            line,
             call,
             units: units.parse::<u32>().unwrap_or(0),
             height: height.parse::<u32>().unwrap_or(0),
@@ -170,12 +172,18 @@ impl<'r> Row<'r> {
     }
 }
 
-// The lines and what was told of the last one, where something else was wanted.
-fn compared(alloc: Global, lines: &str, told: &str, wanted: &str) -> Result<String, OutOfMemory> {
+// The lines with the last one and what was told of it, where something else was wanted.
+fn compared(
+    alloc: Global,
+    lines: (&str, &str),
+    told: &str,
+    wanted: &str,
+) -> Result<String, OutOfMemory> {
     if told == wanted {
         return Ok(String::new(alloc));
     }
-    Ok(format!(in alloc; "\n{lines}{wanted}\n{told}\n")?)
+    let (above, line) = lines;
+    Ok(format!(in alloc; "\n{above}{line}\n{told}\n")?)
 }
 
 // The lines and what the call of a row answers behind them, where it should answer something else.
@@ -193,7 +201,7 @@ fn difference<L: Ledger>(
     };
     let told = case.told(bench, row.units, row.height, steps)?;
     let wanted = repeated(alloc, row.wanted)?;
-    compared(alloc, lines, told.as_str(), wanted.as_str())
+    compared(alloc, (lines, row.line), told.as_str(), wanted.as_str())
 }
 
 /// The lines of a program that were tried, and what is wrong with them.
