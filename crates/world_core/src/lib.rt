@@ -5,6 +5,7 @@
 mod answers;
 mod drawing;
 mod opening;
+mod parts;
 mod prepared;
 mod running;
 mod world;

@@ -12,30 +12,18 @@ ghost use Rattle.world_core.specs.Pages.{AreFragments, AreNextFragments, IsNextV
 ghost use Rattle.world_core.specs.World.{NextTerm, world_term, drawn_as, IsStanding, LeadsOn, Prepares, Commits, Replies, at_rest};
 
 use crate::answers::{OpenStop, Taken};
-use crate::drawing::{Framing, drawn_fragments, drawn_page, next_drawn_fragments};
-use crate::opening::{opened_history, opened_tree};
-use crate::prepared::Prepared;
+use crate::parts::WorldParts;
 use html_pages::{Fragments, Page};
-use live_tree::LiveTree;
-use shared_store::Store;
 use std::alloc::Global;
 use std::marker::Model;
 use std::sync::ledger::Ledger;
-use task_engine::Engine;
-use task_model::{
-    ActStop, Checked, Entry, Face, Input, Item, OutOfMemory, Row, Steps, Tree, Value,
-};
+use task_model::{ActStop, Checked, Face, Input, Item, OutOfMemory, Steps, Tree, Value, boxed};
 
 /// A program that was opened: the history of what was taken, the state that it leads to, and what is prepared to follow
-/// (docs/RULES.md, "Histories").
+/// (docs/RULES.md, "Histories"). Its parts are in a box, so that it is cheap to move and to let go.
 #[derive(Drop)]
 pub struct World {
-    engine: Engine,
-    budget: u32,
-    history: Row<Item>,
-    live: LiveTree,
-    store: Store<Value>,
-    next: Option<Prepared>,
+    parts: Box<WorldParts>,
 }
 
 impl Model for World {
@@ -46,7 +34,6 @@ impl Model for World {
     ghost use Rattle.task_model.specs.contracts.tree.Tree as trees;
     ghost use Rattle.task_model.specs.contracts.value.Value as values;
     ghost use Rattle.world_core.specs.World.{SeenWorld};
-    ghost use Rattle.world_core.specs.Inside.{FieldsAgree, seen_world};
 
     ghost Value = { SeenWorld };
 
@@ -59,9 +46,7 @@ impl Model for World {
       values.the_row.coded,
     ) };
 
-    ghost view = { λ w. seen_world w.engine w.budget w.history.list w.live w.store w.next };
-
-    ghost invariant = { λ w. FieldsAgree w.engine w.budget w.history w.live w.store w.next };
+    ghost view = { λ w. w.parts.value };
 }
 
 impl World {
@@ -76,20 +61,9 @@ impl World {
         ensures rest { IfOk result (λ w. w.next ≡ None) }
         ensures over { IfErr result (λ stop. stop ≡ OpenStop.Over → (s : State) → IsOpening (checked_term c) budget s → ⊥) }
     {
-        // Its program is accepted.
-        let _accepted = c.program();
-        let history = opened_history(alloc, &c, budget)?;
-        let engine = Engine::new(alloc, c)?;
-        let mut store = Store::new(alloc);
-        let live = opened_tree(&engine, budget, &mut store)?;
-        Ok(World {
-            engine,
-            budget,
-            history,
-            live,
-            store,
-            next: None,
-        })
+        let parts = WorldParts::open(alloc, c, budget)?;
+        let parts = boxed(alloc, parts)?;
+        Ok(World { parts })
     }
 
     /// Prepares an input of a seat, 1 to 64, where nothing is prepared: the entry, and the state that it leads to, if the tree offers
@@ -101,13 +75,7 @@ impl World {
         ensures prepares { Prepares (world_term self.old) (record { seat = seat; input = input_term input }) (world_term self.new) result }
         ensures made { self.new.drawn ≡ self.old.drawn }
     {
-        self.history.reserve(1)?;
-        let live = self
-            .live
-            .apply(&self.engine, &mut self.store, &input, self.budget)?;
-        let item = Item::Took(Entry { seat, input });
-        self.next = Some(Prepared { item, live });
-        Ok(())
+        self.parts.prepare(seat, input)
     }
 
     /// What is prepared. The history with it is legal, and leads to the prepared state.
@@ -115,10 +83,7 @@ impl World {
         ensures item { option_map (λ i. i.now) result ≡ option_map (λ n. n.item) self.now.next }
         ensures leads { LeadsOn (world_term self.now) (world_term self.now).next }
     {
-        match &self.next {
-            Some(prepared) => Some(&prepared.item),
-            None => None,
-        }
+        self.parts.next_item()
     }
 
     /// What is prepared is taken. It takes no memory.
@@ -127,19 +92,7 @@ impl World {
         ensures commits { Commits (world_term self.old) (world_term self.new) result }
         ensures made { self.new.drawn ≡ self.old.next_drawn }
     {
-        match self.next.take() {
-            None => unreachable!(),
-            Some(Prepared { item, live }) => {
-                self.store.keep();
-                self.live = live;
-                match self.history.push(item) {
-                    Ok(()) => {}
-                    Err(_) => unreachable!(),
-                }
-                let version = self.history.as_slice().len() as u64 - 1;
-                Taken { version }
-            }
-        }
+        self.parts.commit()
     }
 
     /// What is prepared is given up, if anything is. It takes no memory.
@@ -147,9 +100,7 @@ impl World {
         ensures rest { world_term self.new ≡ at_rest (world_term self.old) }
         ensures made { self.new.drawn ≡ self.old.drawn }
     {
-        if self.next.take().is_some() {
-            self.store.drop_layer();
-        }
+        self.parts.abandon()
     }
 
     /// Takes an input of a seat, 1 to 64, where nothing is prepared, if the tree offers it and the budget holds. A refusal changes
@@ -171,42 +122,42 @@ impl World {
         ensures legal { IsLegal (history_term self.now.history) }
         ensures state { IsState (history_term self.now.history) (world_term self.now).state }
     {
-        self.history.as_slice()
+        self.parts.history()
     }
 
     /// The number of inputs taken.
     pub fn version(&self) -> u64
         ensures { result ≡ version_of (history_term self.now.history) }
     {
-        self.history.as_slice().len() as u64 - 1
+        self.parts.version()
     }
 
     /// The program, with the types of its nodes.
     pub fn checked(&self) -> &Checked
         ensures { result.now ≡ self.now.checked }
     {
-        self.engine.checked()
+        self.parts.checked()
     }
 
     /// The budget of each event.
     pub fn budget(&self) -> u32
         ensures { result ≡ self.now.budget }
     {
-        self.budget
+        self.parts.budget()
     }
 
     /// The tree of the present state.
     pub fn tree(&self) -> &Tree
         ensures { result.now ≡ self.now.tree }
     {
-        self.live.tree()
+        self.parts.tree()
     }
 
     /// The number of the tree's nodes, by one walk. A number that no 64 bits hold is want of memory.
     pub fn nodes(&self) -> Result<u64, OutOfMemory>
         ensures { IfOk result (λ n. n ≡ tree_nodes (tree_term self.now.tree)) }
     {
-        self.live.nodes()
+        self.parts.nodes()
     }
 
     /// What the store holds at a place, where nothing is prepared.
@@ -214,10 +165,7 @@ impl World {
         requires rest { self.now.next ≡ None }
         ensures { option_map (λ v. v.now) result ≡ slice_get self.now.store place }
     {
-        match usize::try_from(place) {
-            Ok(place) => self.store.as_slice().get(place),
-            Err(_) => None,
-        }
+        self.parts.at(place)
     }
 
     /// What is drawn of the present state, where nothing is prepared. It is made where it is first asked for, by at most two tests and one
@@ -233,14 +181,7 @@ impl World {
         ensures fragments { IfOk result (AreFragments (history_term self.old.history)) }
         ensures steps { OnOk result (steps.new ≤ steps.old + most_steps self.old.drawn (tree_term self.old.tree)) }
     {
-        drawn_fragments(
-            alloc,
-            &self.engine,
-            &mut self.live,
-            &mut self.store,
-            self.budget,
-            steps,
-        )
+        self.parts.fragments(alloc, steps)
     }
 
     /// What is drawn of the prepared state, as for the present one. Where that was drawn the rows of kept nodes are taken over, and no more
@@ -258,23 +199,7 @@ impl World {
         ensures few { OnOk result (self.old.drawn ≡ true → (n : NextTerm) → (world_term self.old).next ≡ Some n → (m : ℕ)
             → IsRedrawn (world_term self.old).state n.state m → steps.new ≤ steps.old + 3 * m) }
     {
-        match self.next.take() {
-            None => unreachable!(),
-            Some(prepared) => {
-                let Prepared { item, mut live } = prepared;
-                let fragments = next_drawn_fragments(
-                    alloc,
-                    &self.engine,
-                    &self.live,
-                    &mut live,
-                    &mut self.store,
-                    self.budget,
-                    steps,
-                );
-                self.next = Some(Prepared { item, live });
-                fragments
-            }
-        }
+        self.parts.next_fragments(alloc, steps)
     }
 
     /// The number of inputs taken, once what is prepared is committed.
@@ -282,7 +207,7 @@ impl World {
         requires prepared { IsSome self.now.next }
         ensures { IsNextVersion (world_term self.now).history (world_term self.now).next result }
     {
-        self.history.as_slice().len() as u64
+        self.parts.next_version()
     }
 
     /// The page of the present state for a seat, 1 to 64, in one of the faces, where nothing is prepared (docs/FORMATS.md, "Pages" and
@@ -304,21 +229,6 @@ impl World {
         ensures room { IfOk result (λ page. page.room ≡ 256) }
         ensures steps { OnOk result (steps.new ≤ steps.old + most_steps self.old.drawn (tree_term self.old.tree)) }
     {
-        // The history is legal.
-        let _legal = self.history();
-        let framing = Framing {
-            face,
-            version: self.version(),
-            seat,
-        };
-        drawn_page(
-            alloc,
-            &self.engine,
-            &mut self.live,
-            &mut self.store,
-            self.budget,
-            framing,
-            steps,
-        )
+        self.parts.page(alloc, face, seat, steps)
     }
 }

@@ -3,7 +3,7 @@ use denote.Param.Send.{IsSend, sendable, view_send}
 use denote.Param.SendFields.{FieldsHave, declared_send, as_row_send}
 use denote.Struct.Field.{u32-field}
 use denote.Hole.{as_row}
-use Rattle.std.proofs.Crossing.{crosses}
+use Rattle.std.proofs.Crossing.{crosses, Box-send}
 use Rattle.std.proofs.option.Option.TheSendSync as options
 use Rattle.task_model.proofs.row.Row.TheSendSync as rows
 use Rattle.task_model.specs.contracts.item.Item as item
@@ -20,8 +20,10 @@ use Rattle.node_rows.specs.contracts.rows.NodeRows as node_rows
 use Rattle.live_tree.specs.contracts.tree.LiveTree as live_tree
 use Rattle.live_tree.specs.contracts.tree.LiveTree.TheInside as live_inside
 use Rattle.world_core.specs.contracts.prepared.Prepared as prepared
+use Rattle.world_core.specs.contracts.parts.WorldParts as world_parts
+use Rattle.world_core.specs.contracts.parts.WorldParts.TheInside as within
 use Rattle.world_core.specs.contracts.world.World as world
-use Rattle.world_core.specs.contracts.world.World.TheInside as within
+use Rattle.world_core.specs.contracts.world.World.TheInside as boxed
 use Rattle.host_eval.specs.contracts.definitions.Definitions as definitions
 use Rattle.task_engine.specs.contracts.engine.Engine as engine
 use Rattle.task_engine.specs.contracts.engine.Engine.TheInside as inside
@@ -63,10 +65,16 @@ live_tree_send r =
     (tree_send, (options.the_send node_rows.the_row r, (options.the_send turns.the_row turns_send.the_send, tt)))
     in view_send _ _ _ _ _ (declared_send live_inside.the_type parts)
 
-pub world_send :
-    IsSend engine.the_row → IsSend item.the_row → IsSend live_tree.the_row → IsSend (store.the_row value.the_row) → IsSend world.the_row
-world_send e i l s =
+world_parts_send :
+    IsSend engine.the_row → IsSend item.the_row → IsSend live_tree.the_row → IsSend (store.the_row value.the_row) → IsSend world_parts.the_row
+world_parts_send e i l s =
     let both : FieldsHave IsSend prepared.the_type.parts = (i, (l, tt)) in
     let parts : FieldsHave IsSend within.the_type.parts =
     (e, (u32_send, (rows.the_send item.the_row i, (l, (s, (options.the_send prepared.the_row (declared_send prepared.the_type both), tt))))))
     in view_send _ _ _ _ _ (declared_send within.the_type parts)
+
+pub world_send :
+    IsSend engine.the_row → IsSend item.the_row → IsSend live_tree.the_row → IsSend (store.the_row value.the_row) → IsSend world.the_row
+world_send e i l s =
+    let parts : FieldsHave IsSend boxed.the_type.parts = (Box-send world_parts.the_row (world_parts_send e i l s), tt) in
+    view_send _ _ _ _ _ (declared_send boxed.the_type parts)

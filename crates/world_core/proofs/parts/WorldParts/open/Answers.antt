@@ -5,7 +5,7 @@ use Rattle.task_model.specs.Running.Checked.{SeenChecked, checked_term}
 use Rattle.task_model.specs.Running.State.{IsOpening}
 use Rattle.task_laws.proofs.RanLemmas.{stopped}
 use Rattle.world_core.specs.declared.answers.OpenStop.TheVariants.{Over}
-use Rattle.world_core.proofs.world.World.open.Goals as goal
+use Rattle.world_core.proofs.parts.WorldParts.open.Goals as goal
 
 pub returns-in_err-live-clause-over : goal.returns-in_err-live-clause-over
 returns-in_err-live-clause-over c =

@@ -10,7 +10,7 @@ use Rattle.live_tree.specs.Live.{most_steps}
 use Rattle.task_model.specs.Terms.Tree.{tree_term}
 use Rattle.world_core.proofs.WorldLemmas.{standing_page}
 use Rattle.world_core.proofs.KeptLemmas.{rest_is, rest_fits, rest_live, drawn_world, drawn_kept, page_shown}
-use Rattle.world_core.proofs.world.World.page.Goals as goal
+use Rattle.world_core.proofs.parts.WorldParts.page.Goals as goal
 
 pub drawn_page-requires : goal.drawn_page-requires
 drawn_page-requires g c =

@@ -2,7 +2,7 @@ use Rattle.std.proofs.Common.{subst}
 use Rattle.world_core.specs.World.{world_term, LeadsOn}
 use Rattle.world_core.proofs.WorldLemmas.{standing_leads}
 use Rattle.world_core.proofs.KeptLemmas.{world}
-use Rattle.world_core.proofs.world.World.next_item.Goals as goal
+use Rattle.world_core.proofs.parts.WorldParts.next_item.Goals as goal
 
 pub returns-in-Some-clause-leads : goal.returns-in-Some-clause-leads
 returns-in-Some-clause-leads c =

@@ -7,7 +7,7 @@ use Rattle.world_core.specs.Inside.{next_made, seen_world}
 use Rattle.live_tree.specs.Live.{most_steps}
 use Rattle.task_model.specs.Terms.Tree.{tree_term}
 use Rattle.world_core.proofs.KeptLemmas.{rest_is, rest_fits, rest_live, drawn_world, drawn_kept, fragments_shown}
-use Rattle.world_core.proofs.world.World.fragments.Goals as goal
+use Rattle.world_core.proofs.parts.WorldParts.fragments.Goals as goal
 
 pub drawn_fragments-requires : goal.drawn_fragments-requires
 drawn_fragments-requires g c =

@@ -2,7 +2,7 @@ use Rattle.std.proofs.Common.{sym, ◌∙◌, ap, subst, length, ◌-◌}
 use Rattle.world_core.specs.Inside.{FieldsAgree, next_made, seen_world}
 use Rattle.world_core.specs.World.{SeenWorld, world_term, Commits}
 use Rattle.world_core.proofs.KeptLemmas.{committed_kept, commits}
-use Rattle.world_core.proofs.world.World.commit.Goals as goal
+use Rattle.world_core.proofs.parts.WorldParts.commit.Goals as goal
 
 pub invariant_of-self : goal.invariant_of-self
 invariant_of-self c =

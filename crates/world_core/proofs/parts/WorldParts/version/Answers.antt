@@ -3,7 +3,7 @@ use Rattle.std.proofs.lemmas.List.{length-map}
 use Rattle.task_model.specs.Terms.Item.{item_term}
 use Rattle.world_core.proofs.WorldLemmas.{standing_version}
 use Rattle.world_core.proofs.KeptLemmas.{world}
-use Rattle.world_core.proofs.world.World.version.Goals as goal
+use Rattle.world_core.proofs.parts.WorldParts.version.Goals as goal
 
 pub returns : goal.returns
 returns c =

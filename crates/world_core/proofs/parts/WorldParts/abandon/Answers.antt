@@ -1,7 +1,7 @@
 use Rattle.std.proofs.Common.{sym, ◌∙◌, ap}
 use Rattle.std.specs.Option.{is_some}
 use Rattle.world_core.proofs.KeptLemmas.{given_up}
-use Rattle.world_core.proofs.world.World.abandon.Goals as goal
+use Rattle.world_core.proofs.parts.WorldParts.abandon.Goals as goal
 
 pub invariant_of-self : goal.invariant_of-self
 invariant_of-self c =

@@ -7,7 +7,7 @@ use Rattle.world_core.specs.Inside.{FieldsAgree, seen_next, seen_world}
 use Rattle.world_core.specs.World.{SeenWorld, drawn_as, world_term, next_term}
 use Rattle.world_core.specs.Pages.{AreNextFragments, next_most_steps}
 use Rattle.world_core.proofs.KeptLemmas.{next_fits, has_layer, layer_live, few_of, next_shown, next_drawn_world, next_drawn_kept}
-use Rattle.world_core.proofs.world.World.next_fragments.Goals as goal
+use Rattle.world_core.proofs.parts.WorldParts.next_fragments.Goals as goal
 
 pub next_drawn_fragments-fragments-requires : goal.next_drawn_fragments-fragments-requires
 next_drawn_fragments-fragments-requires g c =

@@ -3,7 +3,7 @@ use Rattle.std.specs.Prelude.{IsSome}
 use Rattle.world_core.specs.World.{SeenWorld, world_term}
 use Rattle.world_core.specs.Pages.{IsNextVersion}
 use Rattle.world_core.proofs.KeptLemmas.{next_version_is}
-use Rattle.world_core.proofs.world.World.next_version.Goals as goal
+use Rattle.world_core.proofs.parts.WorldParts.next_version.Goals as goal
 
 pub returns : goal.returns
 returns c =

@@ -5,7 +5,7 @@ use Rattle.task_model.specs.declared.item.Item.TheVariants.{Took}
 use Rattle.task_laws.proofs.RanLemmas.{stopped}
 use Rattle.world_core.specs.World.{SeenWorld}
 use Rattle.world_core.proofs.KeptLemmas.{rest_is, rest_fits, refused, prepares}
-use Rattle.world_core.proofs.world.World.prepare.Goals as goal
+use Rattle.world_core.proofs.parts.WorldParts.prepare.Goals as goal
 
 pub apply-requires : goal.apply-requires
 apply-requires c =
