@@ -1,6 +1,5 @@
 mod flaky;
 mod links;
-mod memory;
 mod streams;
 
 use outer_io::FileAnswer;

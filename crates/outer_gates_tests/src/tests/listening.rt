@@ -96,6 +96,36 @@ fn bytes_behind_the_first_request_are_given_too(rt: HostRuntime) -> Result<(), F
     gives(&mut gate, all.as_slice())
 }
 
+// A client sends these bytes, which the gate hands out.
+fn asks<G: Gate>(
+    rt: &HostRuntime,
+    gate: &mut G,
+    addr: SocketAddr,
+    bytes: &[u8],
+) -> Result<(), Fail> {
+    let _asks = client(rt, addr, bytes)?;
+    gives(gate, bytes)
+}
+
+// A client sends these bytes, and goes.
+fn goes(rt: &HostRuntime, addr: SocketAddr, bytes: &[u8]) -> Result<(), Fail> {
+    let goes = client(rt, addr, bytes)?;
+    goes.shutdown(Shutdown::Write)?;
+    Ok(())
+}
+
+// Each client sends the rest of its request, which the gate hands out.
+fn both_go_on<G: Gate>(
+    gate: &mut G,
+    silent: &mut TcpStream,
+    slow: &mut TcpStream,
+) -> Result<(), Fail> {
+    slow.write_all(b"t: a\r\n\r\n")?;
+    gives(gate, b"GET / HTTP/1.1\r\nHost: a\r\n\r\n")?;
+    silent.write_all(POST)?;
+    gives(gate, POST)
+}
+
 #[test]
 fn clients_that_send_no_whole_request_hold_up_nobody(rt: HostRuntime) -> Result<(), Fail> {
     let (mut gate, addr) = gate(&rt)?;
@@ -103,25 +133,36 @@ fn clients_that_send_no_whole_request_hold_up_nobody(rt: HostRuntime) -> Result<
     let mut slow = client(&rt, addr, PART)?;
     // a client that goes is no link, whatever it has sent
     for sent in [b"".as_slice(), b"\r\n", PART] {
-        let goes = client(&rt, addr, sent)?;
-        goes.shutdown(Shutdown::Write)?;
+        goes(&rt, addr, sent)?;
     }
-    let _asks = client(&rt, addr, ASK)?;
-    gives(&mut gate, ASK)?;
-    slow.write_all(b"t: a\r\n\r\n")?;
-    gives(&mut gate, b"GET / HTTP/1.1\r\nHost: a\r\n\r\n")?;
-    silent.write_all(POST)?;
-    gives(&mut gate, POST)
+    asks(&rt, &mut gate, addr, ASK)?;
+    both_go_on(&mut gate, &mut silent, &mut slow)
 }
 
 #[test]
 fn what_is_refused_is_handed_out(rt: HostRuntime) -> Result<(), Fail> {
     let (mut gate, addr) = gate(&rt)?;
-    let _garbled = client(&rt, addr, b"hello\r\n\r\n")?;
-    gives(&mut gate, b"hello\r\n\r\n")?;
-    let long = [b'a'; 8192];
-    let _endless = client(&rt, addr, &long)?;
-    gives(&mut gate, &long)
+    asks(&rt, &mut gate, addr, b"hello\r\n\r\n")?;
+    asks(&rt, &mut gate, addr, &[b'a'; 8192])
+}
+
+// Whether a link was ended.
+fn is_ended(client: &mut TcpStream) -> Result<bool, Fail> {
+    Ok(client.read(&mut [0u8; 1])? == 0)
+}
+
+// Two requests of other clients, while one goes on too late: whether its link was ended.
+fn is_over_time<G: Gate>(
+    rt: &HostRuntime,
+    gate: &mut G,
+    addr: SocketAddr,
+    slow: &mut TcpStream,
+) -> Result<bool, Fail> {
+    asks(rt, gate, addr, ASK)?;
+    thread::sleep(rt, first());
+    slow.write_all(b"t")?;
+    asks(rt, gate, addr, ASK)?;
+    is_ended(slow)
 }
 
 #[test]
@@ -129,15 +170,22 @@ fn a_client_whose_time_is_over_is_closed(rt: HostRuntime) -> Result<(), Fail> {
     let (mut gate, addr) = gate(&rt)?;
     let mut silent = client(&rt, addr, b"")?;
     let mut slow = client(&rt, addr, PART)?;
-    let _asks = client(&rt, addr, ASK)?;
-    gives(&mut gate, ASK)?;
-    thread::sleep(&rt, first());
-    slow.write_all(b"t")?;
-    let _asks_then = client(&rt, addr, ASK)?;
-    gives(&mut gate, ASK)?;
-    assert_eq!(rt; slow.read(&mut [0u8; 1])?, 0);
+    assert!(rt; is_over_time(&rt, &mut gate, addr, &mut slow)?);
     silent.write_all(POST)?;
     gives(&mut gate, POST)
+}
+
+// So many clients that send nothing, and then one that asks.
+fn crowd<G: Gate>(
+    rt: &HostRuntime,
+    gate: &mut G,
+    addr: SocketAddr,
+    silent: &mut Vec<TcpStream>,
+) -> Result<(), Fail> {
+    for _ in 0..100 {
+        silent.push(TcpStream::connect(rt, addr)?)?;
+    }
+    asks(rt, gate, addr, ASK)
 }
 
 #[test]
@@ -146,13 +194,9 @@ fn of_many_silent_clients_those_that_came_first_are_closed(rt: HostRuntime) -> R
     let mut first = client(&rt, addr, b"")?;
     let mut silent = Vec::new(rt.alloc());
     for _ in 0..3 {
-        for _ in 0..100 {
-            silent.push(TcpStream::connect(&rt, addr)?)?;
-        }
-        let _asks = client(&rt, addr, ASK)?;
-        gives(&mut gate, ASK)?;
+        crowd(&rt, &mut gate, addr, &mut silent)?;
     }
-    assert_eq!(rt; first.read(&mut [0u8; 1])?, 0);
+    assert!(rt; is_ended(&mut first)?);
     if let Some(last) = silent.last_mut() {
         last.write_all(POST)?;
     }
