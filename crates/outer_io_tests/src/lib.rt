@@ -1,4 +1,4 @@
-//! The objects of `outer_io` over the system: tests alone.
+//! The objects of `outer_io`, in memory and over the system: tests alone.
 #![tactic(auto)]
 
 #[cfg(test)]

@@ -1,5 +1,6 @@
 mod flaky;
 mod links;
+mod memory;
 mod streams;
 
 use outer_io::FileAnswer;

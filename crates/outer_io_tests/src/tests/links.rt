@@ -1,8 +1,44 @@
-use outer_io::{Got, Link, LinkTimes, Put, Sink, Source, StreamLink, Written, write_all};
+use outer_io::{
+    Got, Link, LinkTimes, MemLink, MemSink, MemSource, Put, Sink, Source, StreamLink, Written,
+    write_all,
+};
+use std::alloc::Global;
 use std::io::{Read, Write};
 use std::net::{TcpListener, TcpStream};
 use std::test::Fail;
 use std::time::{Clock, Duration};
+use task_model::{OutOfMemory, Row};
+
+fn row(alloc: Global, bytes: &[u8]) -> Result<Row<u8>, OutOfMemory> {
+    let mut row = Row::new(alloc);
+    row.extend(bytes)?;
+    Ok(row)
+}
+
+fn call(alloc: Global, number: u64) -> Result<Row<u64>, OutOfMemory> {
+    let mut row = Row::new(alloc);
+    row.push(number)?;
+    Ok(row)
+}
+
+#[test]
+fn a_link_in_memory_does_as_its_sides_do(rt: HostRuntime) -> Result<(), Fail> {
+    let alloc = rt.alloc();
+    let source = MemSource::new(row(alloc, b"abcde")?, 3, call(alloc, 2)?);
+    let sink = MemSink::new(alloc, 2, call(alloc, 3)?);
+    let mut link = MemLink::new(source, sink);
+    let mut room = [0u8; 4];
+    assert_eq!(rt; link.read(&mut room), Got::Took(3));
+    assert_eq!(rt; link.write(b"xyz"), Put::Took(2));
+    assert_eq!(rt; link.read(&mut room), Got::Failed);
+    assert_eq!(rt; write_all(&mut link, b"zzzz"), Written::Failed);
+    link.shut();
+    assert_eq!(rt; link.read(&mut room), Got::Took(2));
+    assert_eq!(rt; link.read(&mut room), Got::End);
+    assert_eq!(rt; room.as_slice(), b"dec\0".as_slice());
+    assert_eq!(rt; link.taken(), b"xyzz".as_slice());
+    Ok(())
+}
 
 fn times() -> LinkTimes {
     LinkTimes {
