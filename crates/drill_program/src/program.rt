@@ -7,14 +7,14 @@ ghost use Rattle.drill_program.specs.Drill.{drill_body, drill_program};
 
 use std::alloc::Global;
 use task_model::{
-    Basic, Checked, Def, DefBody, Host, OutOfMemory, Program, Row, Task, TaskText, boxed,
+    Basic, Checked, Def, DefBody, Host, OutOfMemory, Program, Row, Task, TaskText, boxed, shared,
 };
 
 /// The program of a drill: its one task shares a new location that holds 0.
 pub fn drill_program(alloc: Global) -> Result<Checked, OutOfMemory>
     ensures { IfOk result (λ c. checked_term c ≡ typed_program drill_program) }
 {
-    let program = program(alloc)?;
+    let program = shared(alloc, program(alloc)?)?;
     let types = Row::of_vec(vec![in alloc; Basic::Int]?);
     Ok(Checked::of(program, types))
 }
@@ -26,7 +26,7 @@ fn program(alloc: Global) -> Result<Program, OutOfMemory>
         name: TaskText::of(alloc, "main")?,
         params: Row::new(alloc),
         result: Basic::Int,
-        what: DefBody::Task(body(alloc)?),
+        what: DefBody::Task(boxed(alloc, body(alloc)?)?),
     };
     Ok(Program {
         defs: Row::of_vec(vec![in alloc; main]?),
@@ -40,7 +40,7 @@ fn body(alloc: Global) -> Result<Task, OutOfMemory>
     let rest = boxed(alloc, Task::Share(TaskText::of(alloc, "r")?))?;
     Ok(Task::New {
         name: TaskText::of(alloc, "r")?,
-        init: Host::Int(0),
+        init: boxed(alloc, Host::Int(0))?,
         rest,
     })
 }

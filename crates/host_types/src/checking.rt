@@ -23,6 +23,7 @@ use crate::tasks::wanted_task;
 use std::alloc::Global;
 use task_model::{
     Basic, Body, Checked, Def, DefBody, Kind, LaterBodies, Param, Program, Row, TaskText, TypeKind,
+    shared,
 };
 
 /// The definition of this number is the first one of its name.
@@ -245,5 +246,5 @@ pub fn check(alloc: Global, program: Program) -> Result<Checked, CheckStop>
     ensures only { fault_of (program_term program) ≡ None → IfErr result (λ e. e ≡ CheckStop.Memory) }
 {
     let types = types_of(alloc, &program)?;
-    Ok(Checked::of(program, types))
+    Ok(Checked::of(shared(alloc, program)?, types))
 }

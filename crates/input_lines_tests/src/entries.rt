@@ -5,17 +5,18 @@ use input_lines::{Line, parse_line};
 use outer_io::MemSink;
 use std::alloc::Global;
 use std::test::Fail;
-use task_model::{Item, OutOfMemory, Program, Row};
+use task_model::{Item, OutOfMemory, Program, Row, shared};
 
 const LINES: &str = "1 . set 4\n64 .FS right\n2 .S set \"a b\"\n";
 
 // An opening, and then the entries that the lines ask for.
 fn history(alloc: Global) -> Result<Vec<Item>, OutOfMemory> {
     let mut items = Vec::new(alloc);
-    let program = Program {
+    let empty = Program {
         defs: Row::new(alloc),
         bodies: Row::new(alloc),
     };
+    let program = shared(alloc, empty)?;
     items.push(Item::Opened { program, budget: 1 })?;
     for line in LINES.lines() {
         if let Ok(Line::Act(entry)) = parse_line(alloc, line.as_bytes()) {

@@ -78,7 +78,7 @@ impl ReadDefinition {
         ensures memory { IfErr result (λ e. e ≡ ParseStop.Memory) }
     {
         let (body, parts) = body.into_parts();
-        let body = (DefBody::Fun(Box::into_inner(body)), parts);
+        let body = (DefBody::Fun(body), parts);
         ReadDefinition::of(alloc, place, name, parameters, result_type, body)
     }
 
@@ -96,7 +96,7 @@ impl ReadDefinition {
         ensures memory { IfErr result (λ e. e ≡ ParseStop.Memory) }
     {
         let (body, parts) = body.into_parts();
-        let body = (DefBody::Task(Box::into_inner(body)), parts);
+        let body = (DefBody::Task(body), parts);
         ReadDefinition::of(alloc, place, name, parameters, result_type, body)
     }
 }

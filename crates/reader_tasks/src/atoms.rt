@@ -15,7 +15,7 @@ pub fn edit_task(alloc: Global, place: u64, value: Parsed<Host>) -> Result<Parse
     ensures memory { IfErr result (λ e. e ≡ ParseStop.Memory) }
 {
     let (value, parts) = value.into_parts();
-    parts.node(alloc, Task::Edit(Box::into_inner(value)), place)
+    parts.node(alloc, Task::Edit(value), place)
 }
 
 /// `enter`, which stands here, of this type.

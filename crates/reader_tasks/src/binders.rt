@@ -25,7 +25,6 @@ pub fn binding_task(
     ensures memory { IfErr result (λ e. e ≡ ParseStop.Memory) }
 {
     let (value, rest, parts) = value.beside(rest)?;
-    let value = Box::into_inner(value);
     let task = match binding {
         Binding::Let => Task::Let {
             name,
@@ -55,6 +54,5 @@ pub fn put_task(
     ensures memory { IfErr result (λ e. e ≡ ParseStop.Memory) }
 {
     let (value, rest, parts) = value.beside(rest)?;
-    let value = Box::into_inner(value);
     parts.node(alloc, Task::Put { name, value, rest }, place)
 }

@@ -24,7 +24,6 @@ fn body_of(scope: &Scope, binder: Option<TaskText>, task: Parsed<Task>) -> Resul
     };
     let (task, parts) = task.into_parts();
     let mut bodies = parts.bodies;
-    let task = Box::into_inner(task);
     bodies.push_front(Body {
         scope,
         binder,

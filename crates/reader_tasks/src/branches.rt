@@ -24,7 +24,6 @@ pub fn if_task(
 {
     let (test, parts) = test.into_parts();
     let (yes, no, others) = yes.beside(no)?;
-    let test = Box::into_inner(test);
     let parts = parts.and(others)?;
     parts.node(alloc, Task::If { test, yes, no }, place)
 }
@@ -47,7 +46,6 @@ pub fn case_task(
 {
     let (list, parts) = list.into_parts();
     let (empty, more, others) = empty.beside(more)?;
-    let list = Box::into_inner(list);
     let (head, tail) = names;
     let parts = parts.and(others)?;
     let task = Task::Case {

@@ -11,13 +11,12 @@ ghost use Rattle.live_tree.specs.Live.{IsLive};
 use crate::answers::OpenStop;
 use host_eval::Names;
 use live_tree::LiveTree;
-use program_copies::copy_program;
 use shared_store::Store;
 use std::alloc::Global;
 use task_engine::{Engine, normalise};
 use task_model::{Checked, Item, OutOfMemory, Purse, Row, Stop, Task, TaskText, Value};
 
-/// The history at the opening.
+/// The history at the opening. It shares the program.
 pub(crate) fn opened_history(
     alloc: Global,
     c: &Checked,
@@ -25,7 +24,7 @@ pub(crate) fn opened_history(
 ) -> Result<Row<Item>, OutOfMemory>
     ensures { IfOk result (λ row. history_term row.list ≡ opened (checked_term c.now).program budget ∷ []) }
 {
-    let program = copy_program(alloc, c.program())?;
+    let program = c.share_program()?;
     let mut history = Row::new(alloc);
     history.push(Item::Opened { program, budget })?;
     Ok(history)

@@ -1,5 +1,6 @@
 -- Histories as plain terms (docs/RULES.md, "Histories").
 use Rattle.std.specs.Prelude.{ℕ, List, map}
+use Rattle.std.specs.Arc.{arc_value}
 use Rattle.task_model.specs.Terms.Program.{ProgramTerm, program_term}
 use Rattle.task_model.specs.Terms.Input.{EntryTerm, entry_term}
 use Rattle.task_model.specs.declared.item.Item.{Item}
@@ -12,7 +13,7 @@ pub data ItemTerm : Type 0 where
 
 -- an item of a history as a plain term
 abbrev pub item_term : Item → ItemTerm
-item_term (items.Opened p budget) = opened (program_term p) budget
+item_term (items.Opened p budget) = opened (program_term (arc_value p)) budget
 item_term (items.Took e) = took (entry_term e)
 
 -- a history as plain terms

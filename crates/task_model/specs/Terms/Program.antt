@@ -36,8 +36,8 @@ pub data DefBodyTerm : Type 0 where
   task_body : TaskTerm → DefBodyTerm
 
 abbrev pub def_body_term : DefBody → DefBodyTerm
-def_body_term (bodies.Fun e) = fun_body (host_term e)
-def_body_term (bodies.Task t) = task_body (task_term t)
+def_body_term (bodies.Fun e) = fun_body (host_term e.value)
+def_body_term (bodies.Task t) = task_body (task_term t.value)
 
 -- a definition: its name, parameters, result and body
 pub record DefTerm : Type 0 where

@@ -26,7 +26,7 @@ pub data TaskTerm : Type 0 where
 
 -- the term of a task
 abbrev pub task_term : task.Task → TaskTerm
-task_term (task.Edit e) = edit (host_term e)
+task_term (task.Edit e) = edit (host_term e.value)
 task_term (task.Enter b) = enter (basic_term b)
 task_term (task.Share x) = share x
 task_term (task.Fail b) = fail (basic_term b)
@@ -36,11 +36,11 @@ task_term (task.Next' p t i) = next_task (task_term t) i
 task_term (task.And' p t q u) = and_task (task_term t) (task_term u)
 task_term (task.Or' p t q u) = or_task (task_term t) (task_term u)
 task_term (task.Xor i j) = xor_task i j
-task_term (task.Let' x e p t) = let_task x (host_term e) (task_term t)
-task_term (task.If' e p t q u) = if_task (host_term e) (task_term t) (task_term u)
-task_term (task.Case' e p t x y q u) = case_task (host_term e) (task_term t) x y (task_term u)
-task_term (task.New' x e p t) = new_task x (host_term e) (task_term t)
-task_term (task.Put' x e p t) = put_task x (host_term e) (task_term t)
+task_term (task.Let' x e p t) = let_task x (host_term e.value) (task_term t)
+task_term (task.If' e p t q u) = if_task (host_term e.value) (task_term t) (task_term u)
+task_term (task.Case' e p t x y q u) = case_task (host_term e.value) (task_term t) x y (task_term u)
+task_term (task.New' x e p t) = new_task x (host_term e.value) (task_term t)
+task_term (task.Put' x e p t) = put_task x (host_term e.value) (task_term t)
 
 -- an unevaluated body: all names in scope there, the name that a step binds, and its task
 pub record BodyTerm : Type 0 where
@@ -49,4 +49,4 @@ pub record BodyTerm : Type 0 where
   pub task : TaskTerm
 
 abbrev pub body_term : Body → BodyTerm
-body_term b = record { scope = scope_names b.scope; binder = b.binder; task = task_term b.task }
+body_term b = record { scope = scope_names b.scope; binder = b.binder; task = task_term b.task.value }
