@@ -9,7 +9,7 @@ use made::{address_of, offers_of, tree_of};
 use shown::{EvenStore, places_text, value_text, widgets_text};
 use std::alloc::Global;
 use std::test::Fail;
-use task_model::{OutOfMemory, Value};
+use task_model::{OutOfMemory, Value, shared};
 use task_tree::{foot, has_value, replace, value};
 use testing_programs::tree_text;
 
@@ -76,7 +76,8 @@ fn put_told(alloc: Global, words: &str, place: &str) -> Result<String, OutOfMemo
     let (address, node) = place.split_once(' ').unwrap_or((place, ""));
     let tree = tree_of(alloc, words)?;
     let address = address_of(alloc, address)?;
-    match replace(alloc, &tree, address.as_slice(), tree_of(alloc, node)?)? {
+    let node = shared(alloc, tree_of(alloc, node)?)?;
+    match replace(alloc, &tree, address.as_slice(), node)? {
         Some(changed) => tree_text(alloc, &changed),
         None => Ok(String::from_str(alloc, "none")?),
     }

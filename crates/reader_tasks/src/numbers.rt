@@ -49,13 +49,21 @@ fn renumber(task: &mut Task)
     }
 }
 
+/// Gives each body of a body's task the next number.
+fn renumber_body(body: &mut Body)
+    requires { IsBodyNumberedBelow 4294967295 (body_term body.old) }
+    ensures { body_term body.new ≡ body_renumbered (body_term body.old) }
+{
+    renumber(&mut body.task);
+}
+
 /// Gives each body in these bodies the next number.
 fn renumber_bodies(bodies: &mut [Body])
     requires { All (IsBodyNumberedBelow 4294967295) (map body_term bodies.old) }
     ensures { map body_term bodies.new ≡ map body_renumbered (map body_term bodies.old) }
 {
     for body in bodies.iter_mut() {
-        renumber(&mut body.task);
+        renumber_body(body);
     }
 }
 

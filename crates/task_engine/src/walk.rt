@@ -119,9 +119,9 @@ fn walk_sides(
 // The bodies of a body.
 #[cycle(walk)]
 fn walk_body(own: &NumberedBody, first: u64, starts: &mut Row<u64>) -> Result<u64, OutOfMemory>
-    ensures next { IfOk result (λ n. n ≡ first + edit_nodes (full_task own.now.later (task_term own.now.body.now.task))) }
+    ensures next { IfOk result (λ n. n ≡ first + edit_nodes (full_task own.now.later (task_term own.now.body.now.task.value))) }
     ensures starts { OnOk result
-        (starts.new.list ≡ starts.old.list ++ task_firsts first (full_task own.now.later (task_term own.now.body.now.task))) }
+        (starts.new.list ≡ starts.old.list ++ task_firsts first (full_task own.now.later (task_term own.now.body.now.task.value))) }
 {
     let task = &own.body.task;
     walk(&own.later, task, first, starts)

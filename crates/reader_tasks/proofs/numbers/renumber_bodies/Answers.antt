@@ -14,8 +14,8 @@ still f xs ys i d lt h =
     let parts : ys ≡ front ++ get_or xs i d ∷ drop (i + 1) xs = h ∙ ap (λ l. front ++ l) (drop_more xs i d lt) in
     ap (λ l. get_or l i d) parts ∙ get_or_at front _ _ d i long
 
-pub renumber-requires : goal.renumber-requires
-renumber-requires c =
+pub renumber_body-requires : goal.renumber_body-requires
+renumber_body-requires c =
     let i = c.loop-body.body-index in
     let d = c.body-item.result in
     let was = c.args.bodies.now in
@@ -37,10 +37,7 @@ loop-body-preserved c =
     let many = c.loop-body.auto.bodies in
     let inside : i < length is = omega arith in
     let count = length-map was body_term in
-    let old = get_or is i d in
-    map-set body_term is i _
-    ∙ ap (λ t. set (map body_term is) i (record { scope = (body_term old).scope; binder = (body_term old).binder; task = t }))
-    c.renumber.ensures
+    map-set body_term is i _ ∙ ap (set (map body_term is) i) c.renumber_body.ensures
     ∙ ap (λ b. set (map body_term is) i (body_renumbered (body_term b))) (sym c.body-item.is)
     ∙ map_over_more body_renumbered (map body_term was) (map body_term is) i (body_term d) (omega (arith, inside, count))
     c.loop-body.invariant

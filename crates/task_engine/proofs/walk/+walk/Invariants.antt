@@ -16,4 +16,4 @@ abbrev pub decreases-walk_sides : goal.decreases-walk_sides
 decreases-walk_sides l = 4 * weight l.later.now.bodies.now
 
 abbrev pub decreases-walk_body : goal.decreases-walk_body
-decreases-walk_body l = 4 * (size-Task l.own.now.body.now.task + weight l.own.now.later.bodies.now) + 1
+decreases-walk_body l = 4 * (size-Task l.own.now.body.now.task.value + weight l.own.now.later.bodies.now) + 1
