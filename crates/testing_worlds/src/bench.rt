@@ -88,33 +88,6 @@ impl WorldBench {
         }
     }
 
-    /// Gives an entry to the world, and asks for what is drawn of the prepared state before it is taken.
-    pub fn handle_drawn<L: Ledger>(
-        &mut self,
-        alloc: Global,
-        entry: &Entry,
-        steps: &mut Steps<L>,
-    ) -> Result<Reply, OutOfMemory>
-        requires { IsSeat entry.now.seat }
-    {
-        let input = copy_input(alloc, &entry.input)?;
-        match self.world.prepare(entry.seat, input) {
-            Ok(()) => match self.world.next_fragments(alloc, steps) {
-                Ok(_) => {
-                    let Taken { version } = self.world.commit();
-                    Ok(Reply::Taken(version))
-                }
-                Err(OutOfMemory) => {
-                    self.world.abandon();
-                    Err(OutOfMemory)
-                }
-            },
-            Err(ActStop::NotOffered) => Ok(Reply::NotOffered),
-            Err(ActStop::Over) => Ok(Reply::Over),
-            Err(ActStop::Memory) => Err(OutOfMemory),
-        }
-    }
-
     /// Prepares an entry, and abandons it: the line of what was prepared, which is empty where the entry is refused.
     pub fn abandoned(&mut self, alloc: Global, entry: &Entry) -> Result<TaskText, OutOfMemory>
         requires { IsSeat entry.now.seat }
