@@ -13,7 +13,7 @@ use task_model::{
 };
 use terminal_view::{draw_line, draw_terminal};
 
-pub(crate) fn path(alloc: Global, letters: &str) -> Result<Path, OutOfMemory> {
+fn path(alloc: Global, letters: &str) -> Result<Path, OutOfMemory> {
     let mut turns = Turns::new(alloc);
     for letter in letters.as_bytes() {
         turns.push(if *letter == b'F' {
@@ -48,7 +48,7 @@ fn drawn<L: Ledger>(alloc: Global, blank: Blank, w: &Widget) -> Result<Fragment,
     draw_node(alloc, w, &mut steps)
 }
 
-pub(crate) fn fragment(alloc: Global, w: &Widget) -> Result<Fragment, OutOfMemory> {
+fn fragment(alloc: Global, w: &Widget) -> Result<Fragment, OutOfMemory> {
     drawn::<Brand>(alloc, Blank::new(1), w)
 }
 
@@ -180,12 +180,7 @@ fn assert_editor(
     )
 }
 
-pub(crate) fn editor(
-    alloc: Global,
-    word: &str,
-    name: &str,
-    literal: &str,
-) -> Result<Shape, OutOfMemory> {
+fn editor(alloc: Global, word: &str, name: &str, literal: &str) -> Result<Shape, OutOfMemory> {
     let b = basic(alloc, name)?;
     match word {
         "edit" => Ok(Shape::Edit(b, value(alloc, literal)?)),
@@ -194,65 +189,41 @@ pub(crate) fn editor(
     }
 }
 
-#[test]
-fn types(rt: HostRuntime) -> Result<(), Fail> {
-    let unit =
-        "<input type=\"hidden\" name=\"as\" value=\"unit\"><input name=\"value\" value=\"()\">";
-    assert_editor(&rt, "edit", "unit", ("()", " ()"), unit)?;
-    let bool =
-        "<input type=\"hidden\" name=\"as\" value=\"bool\"><input name=\"value\" value=\"true\">";
-    assert_editor(&rt, "edit", "bool", ("true", " true"), bool)?;
-    let int =
-        "<input type=\"hidden\" name=\"as\" value=\"int\"><input name=\"value\" value=\"-5\">";
-    assert_editor(&rt, "share", "int", ("-05", " -5"), int)?;
-    let text =
-        "<input type=\"hidden\" name=\"as\" value=\"raw\"><textarea name=\"value\">\na</textarea>";
-    assert_editor(&rt, "share", "text", ("\"a\"", " \"a\""), text)?;
-    Ok(())
-}
+// What an editor is called, its type, its literal as it is read and, behind a blank, as it is printed, and its fields. The last two hold a value
+// of another type than the editor's, which goes by the editor's type.
+const EDITORS: &str =
+    r#"edit@unit@()@ ()@<input type="hidden" name="as" value="unit"><input name="value" value="()">
+
+edit@bool@true@ true@<input type="hidden" name="as" value="bool"><input name="value" value="true">
+
+share@int@-05@ -5@<input type="hidden" name="as" value="int"><input name="value" value="-5">
+
+share@text@"a"@ "a"@<input type="hidden" name="as" value="raw"><textarea name="value">
+a</textarea>
+
+edit@(int, text)@(1,"<")@ (1, "<")@<input type="hidden" name="as" value="(int, text)"><input name="value" value="(1, &quot;&lt;&quot;)">
+
+edit@[text]@["a","\n"]@ ["a", "\n"]@<input type="hidden" name="as" value="[text]"><input name="value" value="[&quot;a&quot;, &quot;\n&quot;]">
+
+enter@int@@@<input type="hidden" name="as" value="int"><input name="value" value="">
+
+enter@text@@@<input type="hidden" name="as" value="raw"><textarea name="value">
+</textarea>
+
+edit@text@(1,"<")@ (1, "<")@<input type="hidden" name="as" value="raw"><textarea name="value">
+(1, &quot;&lt;&quot;)</textarea>
+
+edit@int@"<"@ "<"@<input type="hidden" name="as" value="int"><input name="value" value="&quot;&lt;&quot;">"#;
 
 #[test]
-fn larger_types(rt: HostRuntime) -> Result<(), Fail> {
-    let pair =
-        "<input type=\"hidden\" name=\"as\" value=\"(int, text)\"><input name=\"value\" value=\"(1, &quot;&lt;&quot;)\">";
-    assert_editor(
-        &rt,
-        "edit",
-        "(int, text)",
-        ("(1,\"<\")", " (1, \"<\")"),
-        pair,
-    )?;
-    let list =
-        "<input type=\"hidden\" name=\"as\" value=\"[text]\"><input name=\"value\" value=\"[&quot;a&quot;, &quot;\\n&quot;]\">";
-    assert_editor(
-        &rt,
-        "edit",
-        "[text]",
-        ("[\"a\",\"\\n\"]", " [\"a\", \"\\n\"]"),
-        list,
-    )?;
-    Ok(())
-}
-
-#[test]
-fn empty_editors(rt: HostRuntime) -> Result<(), Fail> {
-    let int = "<input type=\"hidden\" name=\"as\" value=\"int\"><input name=\"value\" value=\"\">";
-    assert_editor(&rt, "enter", "int", ("", ""), int)?;
-    let text =
-        "<input type=\"hidden\" name=\"as\" value=\"raw\"><textarea name=\"value\">\n</textarea>";
-    assert_editor(&rt, "enter", "text", ("", ""), text)?;
-    Ok(())
-}
-
-// A value of another type than the editor's goes by the editor's type.
-#[test]
-fn types_of_others(rt: HostRuntime) -> Result<(), Fail> {
-    let text =
-        "<input type=\"hidden\" name=\"as\" value=\"raw\"><textarea name=\"value\">\n(1, &quot;&lt;&quot;)</textarea>";
-    assert_editor(&rt, "edit", "text", ("(1,\"<\")", " (1, \"<\")"), text)?;
-    let int =
-        "<input type=\"hidden\" name=\"as\" value=\"int\"><input name=\"value\" value=\"&quot;&lt;&quot;\">";
-    assert_editor(&rt, "edit", "int", ("\"<\"", " \"<\""), int)?;
+fn editors(rt: HostRuntime) -> Result<(), Fail> {
+    for row in EDITORS.split("\n\n") {
+        let (word, rest) = row.split_once('@').unwrap_or((row, ""));
+        let (name, rest) = rest.split_once('@').unwrap_or((rest, ""));
+        let (read, rest) = rest.split_once('@').unwrap_or((rest, ""));
+        let (printed, fields) = rest.split_once('@').unwrap_or((rest, ""));
+        assert_editor(&rt, word, name, (read, printed), fields)?;
+    }
     Ok(())
 }
 
