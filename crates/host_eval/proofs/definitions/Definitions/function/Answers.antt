@@ -11,7 +11,7 @@ returns-in-Fun c =
     function_first 0 _ c.args.name.now
     ∙ ap (λ o. option_then o (λ d. function_of d.def.params d.def.what)) c.in_ok-found.ensures
     ∙ ap (λ (w : DefBody). function_of (map param_term c.in_ok-found.found.def.now.params.list) (def_body_term w)) c.in-Fun.is
-    ∙ rw c.as_slice.ensures refl
+    ∙ rw (c.as_slice.ensures, c.deref.ensures) refl
 
 pub returns-in-Task : goal.returns-in-Task
 returns-in-Task c =

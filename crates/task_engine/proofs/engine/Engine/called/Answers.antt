@@ -31,7 +31,7 @@ returns-in-Task-clause-named c =
     c.number_at.result first
     ∙ ap (λ (w : DefBody). callee_of (map param_term c.in_ok-found.found.def.now.params.list) c.number_at.result (def_body_term w))
     c.in-Task.is
-    ∙ rw c.as_slice.ensures refl
+    ∙ rw (c.as_slice.ensures, c.deref.ensures) refl
 
 pub returns-in-Task-clause-parts : goal.returns-in-Task-clause-parts
 returns-in-Task-clause-parts c =
@@ -39,6 +39,7 @@ returns-in-Task-clause-parts c =
     (numbered_term c.in_ok-found.found) c.in_ok-found.ensures) in
     (rw here at c.parts_of_definition.ensures)
     ∙ ap (λ (w : DefBody). what_parts (counts_of (program_term c.args.self.now.program)) (def_body_term w)) c.in-Task.is
+    ∙ rw c.deref.ensures refl
 
 pub returns-in_err-found-clause-named : goal.returns-in_err-found-clause-named
 returns-in_err-found-clause-named c =
