@@ -35,11 +35,11 @@ evaluate_at-returns-clause-asked t c =
 -- ---- the forms
 pub evaluate_form-edit_form-requires : goal.evaluate_form-edit_form-requires
 evaluate_form-edit_form-requires t c =
-    record { accepted = c.requires.accepted; may = may_arm (ap task_term c.in-Edit.is) c.requires.may }
+    record { accepted = c.requires.accepted; may = rw c.deref.ensures (may_arm (ap task_term c.in-Edit.is) c.requires.may) }
 
 pub evaluate_form-returns-in-Edit-clause-ran : goal.evaluate_form-returns-in-Edit-clause-ran
 evaluate_form-returns-in-Edit-clause-ran t c =
-    rw c.in-Edit.is c.edit_form.ensures.ran
+    rw (c.in-Edit.is, ← c.deref.ensures) c.edit_form.ensures.ran
 
 pub evaluate_form-returns-in_ok-enter_tree-in-Enter-clause-ran : goal.evaluate_form-returns-in_ok-enter_tree-in-Enter-clause-ran
 evaluate_form-returns-in_ok-enter_tree-in-Enter-clause-ran t c =
@@ -74,15 +74,15 @@ evaluate_form-step_form-requires t c = (
   (
     c.requires.accepted,
     (
-      rw (c.deref.ensures) (may_arm (ap task_term c.in-Then.is) c.requires.may),
-      rw (c.deref.ensures) (parts_arm c.args.engine.now (ap task_term c.in-Then.is) c.requires.parts),
+      rw (c.deref-in-Then.ensures) (may_arm (ap task_term c.in-Then.is) c.requires.may),
+      rw (c.deref-in-Then.ensures) (parts_arm c.args.engine.now (ap task_term c.in-Then.is) c.requires.parts),
     ),
   ),
 )
 
 pub evaluate_form-returns-in-Then-clause-ran : goal.evaluate_form-returns-in-Then-clause-ran
 evaluate_form-returns-in-Then-clause-ran t c =
-    rw (c.in-Then.is, ← c.deref.ensures) c.step_form.ensures.ran
+    rw (c.in-Then.is, ← c.deref-in-Then.ensures) c.step_form.ensures.ran
 
 pub evaluate_form-step_form-requires-in-Next : goal.evaluate_form-step_form-requires-in-Next
 evaluate_form-step_form-requires-in-Next t c = (
@@ -138,15 +138,15 @@ evaluate_form-let_form-requires t c = (
   (
     c.requires.accepted,
     (
-      rw (c.deref-in-Let.ensures) (may_arm (ap task_term c.in-Let.is) c.requires.may),
-      rw (c.deref-in-Let.ensures) (parts_arm c.args.engine.now (ap task_term c.in-Let.is) c.requires.parts),
+      rw (c.deref-in-Let.ensures, c.deref-in-Let-2.ensures) (may_arm (ap task_term c.in-Let.is) c.requires.may),
+      rw (c.deref-in-Let-2.ensures) (parts_arm c.args.engine.now (ap task_term c.in-Let.is) c.requires.parts),
     ),
   ),
 )
 
 pub evaluate_form-returns-in-Let-clause-ran : goal.evaluate_form-returns-in-Let-clause-ran
 evaluate_form-returns-in-Let-clause-ran t c =
-    rw (c.in-Let.is, ← c.deref-in-Let.ensures) c.let_form.ensures.ran
+    rw (c.in-Let.is, ← c.deref-in-Let.ensures, ← c.deref-in-Let-2.ensures) c.let_form.ensures.ran
 
 pub evaluate_form-if_form-requires : goal.evaluate_form-if_form-requires
 evaluate_form-if_form-requires t c = (
@@ -154,15 +154,15 @@ evaluate_form-if_form-requires t c = (
   (
     c.requires.accepted,
     (
-      rw (c.deref-in-If.ensures, c.deref-in-If-2.ensures) (may_arm (ap task_term c.in-If.is) c.requires.may),
-      rw (c.deref-in-If.ensures, c.deref-in-If-2.ensures) (parts_arm c.args.engine.now (ap task_term c.in-If.is) c.requires.parts),
+      rw (c.deref-in-If.ensures, c.deref-in-If-2.ensures, c.deref-in-If-3.ensures) (may_arm (ap task_term c.in-If.is) c.requires.may),
+      rw (c.deref-in-If-2.ensures, c.deref-in-If-3.ensures) (parts_arm c.args.engine.now (ap task_term c.in-If.is) c.requires.parts),
     ),
   ),
 )
 
 pub evaluate_form-returns-in-If-clause-ran : goal.evaluate_form-returns-in-If-clause-ran
 evaluate_form-returns-in-If-clause-ran t c =
-    rw (c.in-If.is, ← c.deref-in-If.ensures, ← c.deref-in-If-2.ensures) c.if_form.ensures.ran
+    rw (c.in-If.is, ← c.deref-in-If.ensures, ← c.deref-in-If-2.ensures, ← c.deref-in-If-3.ensures) c.if_form.ensures.ran
 
 pub evaluate_form-case_form-requires : goal.evaluate_form-case_form-requires
 evaluate_form-case_form-requires t c = (
@@ -170,15 +170,15 @@ evaluate_form-case_form-requires t c = (
   (
     c.requires.accepted,
     (
-      rw (c.deref-in-Case.ensures, c.deref-in-Case-2.ensures) (may_arm (ap task_term c.in-Case.is) c.requires.may),
-      rw (c.deref-in-Case.ensures, c.deref-in-Case-2.ensures) (parts_arm c.args.engine.now (ap task_term c.in-Case.is) c.requires.parts),
+      rw (c.deref-in-Case.ensures, c.deref-in-Case-2.ensures, c.deref-in-Case-3.ensures) (may_arm (ap task_term c.in-Case.is) c.requires.may),
+      rw (c.deref-in-Case-2.ensures, c.deref-in-Case-3.ensures) (parts_arm c.args.engine.now (ap task_term c.in-Case.is) c.requires.parts),
     ),
   ),
 )
 
 pub evaluate_form-returns-in-Case-clause-ran : goal.evaluate_form-returns-in-Case-clause-ran
 evaluate_form-returns-in-Case-clause-ran t c =
-    rw (c.in-Case.is, ← c.deref-in-Case.ensures, ← c.deref-in-Case-2.ensures) c.case_form.ensures.ran
+    rw (c.in-Case.is, ← c.deref-in-Case.ensures, ← c.deref-in-Case-2.ensures, ← c.deref-in-Case-3.ensures) c.case_form.ensures.ran
 
 pub evaluate_form-new_form-requires : goal.evaluate_form-new_form-requires
 evaluate_form-new_form-requires t c = (
@@ -186,15 +186,15 @@ evaluate_form-new_form-requires t c = (
   (
     c.requires.accepted,
     (
-      rw (c.deref-in-New.ensures) (may_arm (ap task_term c.in-New.is) c.requires.may),
-      rw (c.deref-in-New.ensures) (parts_arm c.args.engine.now (ap task_term c.in-New.is) c.requires.parts),
+      rw (c.deref-in-New.ensures, c.deref-in-New-2.ensures) (may_arm (ap task_term c.in-New.is) c.requires.may),
+      rw (c.deref-in-New-2.ensures) (parts_arm c.args.engine.now (ap task_term c.in-New.is) c.requires.parts),
     ),
   ),
 )
 
 pub evaluate_form-returns-in-New-clause-ran : goal.evaluate_form-returns-in-New-clause-ran
 evaluate_form-returns-in-New-clause-ran t c =
-    rw (c.in-New.is, ← c.deref-in-New.ensures) c.new_form.ensures.ran
+    rw (c.in-New.is, ← c.deref-in-New.ensures, ← c.deref-in-New-2.ensures) c.new_form.ensures.ran
 
 pub evaluate_form-put_form-requires : goal.evaluate_form-put_form-requires
 evaluate_form-put_form-requires t c = (
@@ -202,15 +202,15 @@ evaluate_form-put_form-requires t c = (
   (
     c.requires.accepted,
     (
-      rw (c.deref-in-Put.ensures) (may_arm (ap task_term c.in-Put.is) c.requires.may),
-      rw (c.deref-in-Put.ensures) (parts_arm c.args.engine.now (ap task_term c.in-Put.is) c.requires.parts),
+      rw (c.deref-in-Put.ensures, c.deref-in-Put-2.ensures) (may_arm (ap task_term c.in-Put.is) c.requires.may),
+      rw (c.deref-in-Put-2.ensures) (parts_arm c.args.engine.now (ap task_term c.in-Put.is) c.requires.parts),
     ),
   ),
 )
 
 pub evaluate_form-returns-in-Put-clause-ran : goal.evaluate_form-returns-in-Put-clause-ran
 evaluate_form-returns-in-Put-clause-ran t c =
-    rw (c.in-Put.is, ← c.deref-in-Put.ensures) c.put_form.ensures.ran
+    rw (c.in-Put.is, ← c.deref-in-Put.ensures, ← c.deref-in-Put-2.ensures) c.put_form.ensures.ran
 
 pub evaluate_form-call_form-requires : goal.evaluate_form-call_form-requires
 evaluate_form-call_form-requires t c =

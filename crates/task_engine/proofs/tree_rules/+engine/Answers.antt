@@ -211,7 +211,7 @@ side_fails-tested-requires t c =
     (opened_env (checked_term c.args.engine.now) c.args.k.now.body b (delay_term c.args.k.now).slots)
     (map value_term c.args.store.now.list)) (λ s. ask (fails s) give) in
     let parts = rw c.body-own.ensures at c.parts_of_body.ensures in
-    (search rules, (c.requires.accepted, (rw env (well_known _ f _ c.body-own.ensures c.requires.well), parts)))
+    (search rules, (c.requires.accepted, (rw (env, c.deref-2.ensures) (well_known _ f _ c.body-own.ensures c.requires.well), rw c.deref-2.ensures parts)))
 
 pub side_fails-returns-clause-ran : goal.side_fails-returns-clause-ran
 side_fails-returns-clause-ran t c =
@@ -221,7 +221,7 @@ side_fails-returns-clause-ran t c =
     let f : BodyTerm → Plan Bool = λ b. ask (normal b.task
     (opened_env (checked_term c.args.engine.now) c.args.k.now.body b (delay_term c.args.k.now).slots)
     (map value_term c.args.store.now.list)) (λ s. ask (fails s) give) in
-    ran_known_ok f c.body-own.ensures (rw env at c.tested.ensures.ran)
+    ran_known_ok f c.body-own.ensures (rw (env, c.deref-2.ensures) at c.tested.ensures.ran)
 
 pub tested-returns-in_err-begin-clause-store : goal.tested-returns-in_err-begin-clause-store
 tested-returns-in_err-begin-clause-store t c =

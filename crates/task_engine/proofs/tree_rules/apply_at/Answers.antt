@@ -38,11 +38,11 @@ evaluate_at-requires-clause-may c =
     (cont_term c.args.k.now).slots _ _ _ _ c.with-names.ensures c.of_scope-outer.ensures c.binder_of.ensures slots c.body_first.ensures in
     let f : BodyTerm → Plan State = λ b. ask (evaluates b.task (opened_env (checked_term c.args.engine.now) c.args.k.now.body b
     ((cont_term c.args.k.now).slots ++ plain_slot (value_term c.args.v) ∷ [])) (map value_term c.args.store.now.list)) give in
-    rw env (well_ask (well_known _ f _ c.body-own.ensures c.requires.well))
+    rw (env, c.deref-2.ensures) (well_ask (well_known _ f _ c.body-own.ensures c.requires.well))
 
 pub evaluate_at-requires-clause-parts : goal.evaluate_at-requires-clause-parts
 evaluate_at-requires-clause-parts c =
-    rw c.body-own.ensures at c.parts_of_body.ensures
+    rw c.deref-2.ensures (rw c.body-own.ensures at c.parts_of_body.ensures)
 
 pub returns-clause-ran : goal.returns-clause-ran
 returns-clause-ran c =
@@ -51,4 +51,4 @@ returns-clause-ran c =
     (cont_term c.args.k.now).slots _ _ _ _ c.with-names.ensures c.of_scope-outer.ensures c.binder_of.ensures slots c.body_first.ensures in
     let f : BodyTerm → Plan State = λ b. ask (evaluates b.task (opened_env (checked_term c.args.engine.now) c.args.k.now.body b
     ((cont_term c.args.k.now).slots ++ plain_slot (value_term c.args.v) ∷ [])) (map value_term c.args.store.now.list)) give in
-    ran_known_ok f c.body-own.ensures (ran_last _ (rw env at c.evaluate_at.ensures.asked))
+    ran_known_ok f c.body-own.ensures (ran_last _ (rw (env, c.deref-2.ensures) at c.evaluate_at.ensures.asked))

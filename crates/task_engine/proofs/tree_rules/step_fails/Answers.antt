@@ -38,11 +38,11 @@ tested-requires-clause-well c =
     let f : BodyTerm → Plan Bool = λ b. ask (normal b.task (opened_env (checked_term c.args.engine.now) c.args.k.now.body b
     ((cont_term c.args.k.now).slots ++ plain_slot (value_term c.args.v) ∷ [])) (map value_term c.args.store.now.list))
     (λ s. ask (fails s) give) in
-    rw env (well_known _ f _ c.body-own.ensures c.requires.well)
+    rw (env, c.deref-2.ensures) (well_known _ f _ c.body-own.ensures c.requires.well)
 
 pub tested-requires-clause-parts : goal.tested-requires-clause-parts
 tested-requires-clause-parts c =
-    rw c.body-own.ensures at c.parts_of_body.ensures
+    rw c.deref-2.ensures (rw c.body-own.ensures at c.parts_of_body.ensures)
 
 pub returns-clause-ran : goal.returns-clause-ran
 returns-clause-ran c =
@@ -52,4 +52,4 @@ returns-clause-ran c =
     let f : BodyTerm → Plan Bool = λ b. ask (normal b.task (opened_env (checked_term c.args.engine.now) c.args.k.now.body b
     ((cont_term c.args.k.now).slots ++ plain_slot (value_term c.args.v) ∷ [])) (map value_term c.args.store.now.list))
     (λ s. ask (fails s) give) in
-    ran_known_ok f c.body-own.ensures (rw env at c.tested.ensures.ran)
+    ran_known_ok f c.body-own.ensures (rw (env, c.deref-2.ensures) at c.tested.ensures.ran)
