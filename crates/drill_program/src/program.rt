@@ -14,7 +14,8 @@ use task_model::{
 pub fn drill_program(alloc: Global) -> Result<Checked, OutOfMemory>
     ensures { IfOk result (λ c. checked_term c ≡ typed_program drill_program) }
 {
-    let program = shared(alloc, program(alloc)?)?;
+    let made = program(alloc)?;
+    let program = shared(alloc, made)?;
     let types = Row::of_vec(vec![in alloc; Basic::Int]?);
     Ok(Checked::of(program, types))
 }
