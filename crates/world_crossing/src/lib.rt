@@ -15,7 +15,7 @@ ghost use Rattle.world_core.specs.contracts.world.World as worlds;
 use host_eval::Definitions;
 use node_rows::NodeRows;
 use shared_store::Store;
-use task_model::{Checked, Value};
+use task_model::Value;
 
 /// Values of this type may go to other threads.
 pub fn crosses<X: Send>()
@@ -35,9 +35,7 @@ pub fn items_cross()
 // Accepted programs may.
 fn checked_cross()
     ensures { IsSend checked_programs.the_row }
-{
-    crosses::<Checked>();
-}
+{}
 
 // Tables of definitions may.
 fn definitions_cross()

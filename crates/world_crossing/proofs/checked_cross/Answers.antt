@@ -1,4 +1,5 @@
 use Rattle.world_crossing.proofs.checked_cross.Goals as goal
+use Rattle.world_crossing.proofs.SendLemmas.{checked_send}
 
 pub returns : goal.returns
-returns c = record { owned = c.crosses.ensures.owned; leaving = λ k d w. tt }
+returns c = checked_send
