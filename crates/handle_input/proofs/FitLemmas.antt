@@ -23,10 +23,10 @@ use Rattle.typing_laws.proofs.ProgramLemmas.{facts_of}
 use Rattle.typing_laws.proofs.HandlingLemmas.{interacts_good}
 use Rattle.typing_laws.proofs.CallLemmas.{well_after}
 use Rattle.task_engine.specs.Fitting.{ContFits, SideFits}
-use Rattle.task_engine.specs.Kinds.{pair_tree}
-use Rattle.task_engine.specs.declared.kinds.PairKind.{PairKind}
-use Rattle.task_engine.specs.declared.kinds.PairKind.TheVariants as pairs
-use Rattle.task_engine.proofs.AskLemmas.{types_long}
+use Rattle.task_evaluation.specs.Kinds.{pair_tree}
+use Rattle.task_evaluation.specs.declared.kinds.PairKind.{PairKind}
+use Rattle.task_evaluation.specs.declared.kinds.PairKind.TheVariants as pairs
+use Rattle.task_evaluation.proofs.AskLemmas.{types_long}
 
 -- ---- parts of a tree that fits
 module _ {c : CheckedTerm} {σ : List ValueTerm} where

@@ -22,9 +22,9 @@ use Rattle.task_laws.proofs.PlanLemmas.{under_at, low_derives}
 use Rattle.task_laws.proofs.RanLemmas.{ran_give}
 use Rattle.host_eval.proofs.ListLemmas.{in_front}
 use Rattle.host_eval.proofs.RunLemmas.{ran_is, tail_of}
-use Rattle.task_engine.specs.Kinds.{pair_tree}
-use Rattle.task_engine.specs.declared.kinds.PairKind.{PairKind}
-use Rattle.task_engine.specs.declared.kinds.PairKind.TheVariants as pairs
+use Rattle.task_evaluation.specs.Kinds.{pair_tree}
+use Rattle.task_evaluation.specs.declared.kinds.PairKind.{PairKind}
+use Rattle.task_evaluation.specs.declared.kinds.PairKind.TheVariants as pairs
 use Rattle.handle_input.specs.Editing.{value_put, edited_tree, edited_state}
 
 -- what a call within a plan is told by a call that is no part of one

@@ -13,11 +13,12 @@ ghost use Rattle.task_model.specs.Syntax.Calls.{RunsPlan};
 ghost use Rattle.typing_laws.specs.Well.{Well};
 ghost use Rattle.host_eval.specs.NamesTerm.{names_term};
 ghost use Rattle.task_engine.specs.Fitting.{ContFits, SideFits};
-ghost use Rattle.task_engine.specs.Stores.{values_in, state_in};
+ghost use Rattle.task_evaluation.specs.Stores.{values_in, state_in};
 
 use host_eval::Names;
 use shared_store::Store;
-use task_engine::{Engine, binder_of, failing, normalise_body};
+use task_engine::{failing, normalise_body};
+use task_evaluation::{Engine, binder_of};
 use task_model::{Cont, Delay, Purse, Slot, Stop, Tree, Value};
 
 /// A user step goes on with its cont at the value of its left, unless that is failing.

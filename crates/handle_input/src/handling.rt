@@ -13,8 +13,8 @@ ghost use Rattle.task_model.specs.Running.Checked.{CheckedTerm, checked_term};
 ghost use Rattle.task_model.specs.Checking.Fits.{Fits};
 ghost use Rattle.task_model.specs.Syntax.Calls.{RunsPlan};
 ghost use Rattle.task_engine.specs.Fitting.{SideFits};
-ghost use Rattle.task_engine.specs.Kinds as kinds;
-ghost use Rattle.task_engine.specs.Stores.{values_in, state_in};
+ghost use Rattle.task_evaluation.specs.Kinds as kinds;
+ghost use Rattle.task_evaluation.specs.Stores.{values_in, state_in};
 ghost use Rattle.handle_input.specs.Editing.{picked_side};
 
 use crate::bodies::{side_taken, stepped};
@@ -22,7 +22,7 @@ use crate::editing::{edited, edited_place};
 use crate::rebuilding::{in_first, in_second, in_step};
 use shared_store::Store;
 use std::sync::Arc;
-use task_engine::{Engine, PairKind, StepKind};
+use task_evaluation::{Engine, PairKind, StepKind};
 use task_model::{Act, Cont, Delay, OutOfMemory, Purse, Stop, Tree, Turn, Value};
 use task_tree::value;
 

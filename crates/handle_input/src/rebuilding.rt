@@ -2,11 +2,11 @@ ghost use Rattle.std.specs.Prelude.{◌≡◌, IfOk};
 ghost use Rattle.std.specs.Option.{option_map};
 ghost use Rattle.std.specs.Arc.{arc_value};
 ghost use Rattle.task_model.specs.Terms.Tree.{cont_term, tree_term};
-ghost use Rattle.task_engine.specs.Kinds as kinds;
+ghost use Rattle.task_evaluation.specs.Kinds as kinds;
 
 use std::alloc::Global;
 use std::sync::Arc;
-use task_engine::{PairKind, StepKind, pair_tree, step_tree};
+use task_evaluation::{PairKind, StepKind, pair_tree, step_tree};
 use task_model::{Cont, OutOfMemory, Tree, copy_cont, share, shared};
 
 /// A step over the part that an input led to.

@@ -13,7 +13,7 @@ use node_rows::NodeRows;
 use shared_store::Store;
 use std::alloc::Global;
 use std::sync::ledger::Ledger;
-use task_engine::Engine;
+use task_evaluation::Engine;
 use task_model::{OutOfMemory, Shape, Steps, Tree, Value, Widget};
 use task_tree::Trail;
 

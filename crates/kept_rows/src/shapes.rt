@@ -10,7 +10,7 @@ use crate::signs::{choice_signs, step_sign};
 use interface::{edit_shape, share_shape};
 use shared_store::Store;
 use std::sync::ledger::Ledger;
-use task_engine::Engine;
+use task_evaluation::Engine;
 use task_model::{OutOfMemory, Shape, Steps, Tree, Value, copy_basic};
 
 /// What is shown of a node itself: a user step is tested at most once and an external choice twice, within the budget. The store stays.

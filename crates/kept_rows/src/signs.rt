@@ -8,7 +8,8 @@ ghost use Rattle.task_model.specs.Running.Sign.{IsSideSign, IsStepSign};
 
 use shared_store::Store;
 use std::sync::ledger::Ledger;
-use task_engine::{Engine, test_next, test_side};
+use task_engine::{test_next, test_side};
+use task_evaluation::Engine;
 use task_model::{Cont, Delay, OutOfMemory, Sign, Steps, Tree, Value};
 use task_tree::value;
 

@@ -17,7 +17,7 @@ use kept_nodes::{Marks, Parts, marks_count, parts_of};
 use node_rows::NodeRows;
 use shared_store::Store;
 use std::sync::ledger::Ledger;
-use task_engine::Engine;
+use task_evaluation::Engine;
 use task_laws::foot_frames_offers_and_widgets;
 use task_model::{OutOfMemory, Steps, Tree, Turn, Value};
 

@@ -30,7 +30,7 @@ use shared_store::Store;
 use std::alloc::Global;
 use std::marker::Model;
 use std::sync::ledger::Ledger;
-use task_engine::Engine;
+use task_evaluation::Engine;
 use task_model::{
     ActStop, Input, Offer, OutOfMemory, Reads, Row, Steps, Tree, Turns, Value, Widget,
 };

@@ -15,7 +15,7 @@ use observe_inputs::offers;
 use shared_store::Store;
 use std::alloc::Global;
 use std::sync::ledger::Ledger;
-use task_engine::Engine;
+use task_evaluation::Engine;
 use task_model::{OutOfMemory, Steps, Tree, Value, Widget};
 
 /// The rows of a tree over a store, each test within a purse of the budget. It counts the tests and the drawings, and the store stays.

@@ -11,7 +11,8 @@ use crate::found::FoundOffers;
 use crate::signs::step_sign;
 use shared_store::Store;
 use std::sync::ledger::Ledger;
-use task_engine::{Engine, test_side};
+use task_engine::test_side;
+use task_evaluation::Engine;
 use task_model::{
     Delay, Offer, OfferKind, OutOfMemory, Row, Sign, Steps, Tree, Turn, Value, copy_basic,
 };

@@ -9,7 +9,8 @@ ghost use Rattle.observe_inputs.specs.TestsIn.{step_tests};
 
 use shared_store::Store;
 use std::sync::ledger::Ledger;
-use task_engine::{Engine, test_next};
+use task_engine::test_next;
+use task_evaluation::Engine;
 use task_model::{Cont, OutOfMemory, Sign, Steps, Tree, Value};
 use task_tree::value;
 

@@ -1,11 +1,6 @@
-pub mod AskLemmas
-pub mod PlanLemmas
-pub mod TableLemmas
-pub mod StartLemmas
 pub mod ChangeLemmas
 pub mod StrideLemmas
 pub mod SignLemmas
 pub mod FittingLemmas
 pub mod QuietLemmas
 pub mod ValuedLemmas
-pub mod PartLemmas

@@ -1,11 +1,5 @@
-pub mod Tables
-pub mod Called
-pub mod Steps
 pub mod Strides
 pub mod Writes
 pub mod Fitting
 pub mod TestAnswers
-pub mod Kinds
-pub mod Stores
 pub mod Quiet
-pub mod FirstParts

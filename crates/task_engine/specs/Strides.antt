@@ -1,16 +1,21 @@
 -- What strides and trials answer.
 use Rattle.std.specs.Prelude.{◌≡◌, ℕ, List, map, Option, Some, None, Result, Ok, Err, ◌⊎◌, slice_get, IsSome}
 use Rattle.std.specs.Option.{is_some}
+use Rattle.shared_store.specs.Layered.{Layered}
+use Rattle.task_model.specs.Terms.Left.{Left}
 use Rattle.task_model.specs.Terms.Value.{ValueTerm, value_term}
 use Rattle.task_model.specs.declared.value.Value.{Value}
 use Rattle.task_model.specs.declared.purse.Stop.{Stop}
 use Rattle.task_model.specs.declared.purse.Stop.TheVariants.{Memory}
 use Rattle.task_model.specs.Terms.Task.{BodyTerm}
 use Rattle.task_model.specs.Terms.Tree.{LaterTerm, TreeTerm, then_tree, tree_term, State, at}
-use Rattle.task_model.specs.Running.Checked.{CheckedTerm}
-use Rattle.task_model.specs.Running.Plan.{fails, Plan, give, ask}
-use Rattle.task_model.specs.Running.Rules.{branch, applied, value_of}
+use Rattle.task_model.specs.Running.Checked.{CheckedTerm, SeenChecked, checked_term}
+use Rattle.task_model.specs.Running.Plan.{fails, strides, Plan, give, ask}
+use Rattle.task_model.specs.Running.Rules.{branch, applied, stride_rule, value_of}
+use Rattle.task_model.specs.Syntax.Calls.{RunsPlan}
 use Rattle.task_model.specs.declared.tree.Tree.{Tree}
+use Rattle.typing_laws.specs.Well.{MayAsk}
+use Rattle.task_evaluation.specs.Stores.{values_in}
 use Rattle.task_engine.specs.declared.strode.Strode.{Strode}
 
 -- the tree after a stride: where nothing is answered it is the one that stood there
@@ -52,3 +57,15 @@ AnswersStride t σ τ (Ok (Some u)) r =
     ((r ≡ Ok None) × (at (tree_term u) (map value_term τ) ≡ at t (map value_term σ)))
     ⊎ ((r ≡ Ok (Some u)) × (at (tree_term u) (map value_term τ) ≡ at t (map value_term σ) → ⊥))
     ⊎ (r ≡ Err Memory)
+
+-- the state behind a stride from a tree
+abbrev pub state_after : TreeTerm → Layered Value → Option Tree → State
+state_after t s o = at (after_stride t o) (values_in s)
+
+-- a tree may stride
+abbrev pub MayStride : SeenChecked → TreeTerm → Layered Value → Type 0
+MayStride c t s = MayAsk (checked_term c) (strides (at t (values_in s)))
+
+-- a tree strode by its rule, from a store to another
+abbrev pub RunsStride : SeenChecked → TreeTerm → Layered Value → Layered Value → Left → Left → Result Strode Stop → Type 0
+RunsStride c t s s' = RunsPlan (checked_term c) (stride_rule (checked_term c) t (values_in s)) (λ o. state_after t s' o.tree)

@@ -4,7 +4,7 @@ ghost use Rattle.task_model.specs.Terms.Tree as trees;
 ghost use Rattle.task_model.specs.Terms.Tree.{cont_term, tree_term};
 ghost use Rattle.task_model.specs.Running.Checked.{CheckedTerm};
 ghost use Rattle.task_engine.specs.Quiet.{IsQuiet};
-ghost use Rattle.task_engine.specs.Stores.{values_in};
+ghost use Rattle.task_evaluation.specs.Stores.{values_in};
 
 use shared_store::Store;
 use std::sync::Arc;

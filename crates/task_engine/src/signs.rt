@@ -7,10 +7,10 @@ ghost use Rattle.task_model.specs.Running.Sign.{IsSign, IsSideSign, Test};
 ghost use Rattle.task_engine.specs.Fitting.{ContFits, SideFits};
 ghost use Rattle.task_engine.specs.TestAnswers.{TellsSign};
 
-use crate::engine::Engine;
 use crate::tree_rules::{side_fails, step_fails};
 use shared_store::Store;
 use std::sync::ledger::Ledger;
+use task_evaluation::Engine;
 use task_model::{Cont, Delay, OutOfMemory, Purse, Sign, Steps, Stop, Value};
 
 /// The sign of a user step whose left has this value: Yes where its cont isn't failing at the value, No where it is, and Over

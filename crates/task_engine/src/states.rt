@@ -11,10 +11,10 @@ ghost use Rattle.host_eval.specs.NamesTerm.{names_term};
 ghost use Rattle.task_engine.specs.Fitting.{ContFits};
 ghost use Rattle.task_engine.specs.Strides.{after_stride};
 
-use crate::engine::Engine;
 use crate::tree_rules::{apply_at, fails_at, normal_at, settle_at, stride_at};
 use host_eval::Names;
 use shared_store::Store;
+use task_evaluation::Engine;
 use task_model::{Cont, Purse, Stop, Task, Tree, Value};
 
 /// Whether a tree is failing. The store stays, after a stop too.

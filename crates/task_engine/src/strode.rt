@@ -5,14 +5,14 @@ ghost use Rattle.task_model.specs.Terms.Value.{ValueTerm, value_term};
 ghost use Rattle.task_model.specs.Terms.Tree as trees;
 ghost use Rattle.task_model.specs.Terms.Tree.{TreeTerm, cont_term, tree_term};
 ghost use Rattle.task_model.specs.Running.Rules as rules;
-ghost use Rattle.task_engine.specs.Kinds as kinds;
-ghost use Rattle.task_engine.specs.Stores.{values_in};
+ghost use Rattle.task_evaluation.specs.Kinds as kinds;
+ghost use Rattle.task_evaluation.specs.Stores.{values_in};
 ghost use Rattle.task_engine.specs.Strides.{after_stride, TellsValue};
 
-use crate::kinds::{PairKind, StepKind, pair_tree, step_tree};
 use shared_store::Store;
 use std::alloc::Global;
 use std::sync::Arc;
+use task_evaluation::{PairKind, StepKind, pair_tree, step_tree};
 use task_model::{Cont, OutOfMemory, Tree, Value, copy_cont, copy_tree, share, shared};
 use task_tree::value;
 

@@ -12,14 +12,21 @@ ghost use Rattle.task_model.specs.Running.Rules as rules;
 ghost use Rattle.task_model.specs.Syntax.Calls.{RunsJudgement, RunsPlan};
 ghost use Rattle.typing_laws.specs.Well.{MayAsk, Well};
 ghost use Rattle.host_eval.specs.NamesTerm.{names_term};
-ghost use Rattle.task_engine.specs.FirstParts.{parts_at};
-ghost use Rattle.task_engine.specs.Stores.{values_in, state_in, state_after, MayStride, RunsStride};
-ghost use Rattle.task_engine.specs.Strides.{after_stride, TellsValue, state_at, attempt, Binds, BindsNone, AnswersStride};
+ghost use Rattle.task_evaluation.specs.FirstParts.{parts_at};
+ghost use Rattle.task_evaluation.specs.Stores.{values_in, state_in};
+ghost use Rattle.task_engine.specs.Strides.{
+  after_stride,
+  TellsValue,
+  state_at,
+  state_after,
+  attempt,
+  Binds,
+  BindsNone,
+  AnswersStride,
+  MayStride,
+  RunsStride,
+};
 
-use crate::engine::{Engine, binder_of};
-use crate::evaluation::evaluate_at;
-use crate::first_part::FirstPart;
-use crate::kinds::StepKind;
 use crate::quiet::quiet_value;
 use crate::strode::{Strode, and_of, or_of, step_of, still, strode_tree, strode_value};
 use crate::unchanged::is_unchanged;
@@ -27,6 +34,7 @@ use host_eval::Names;
 use shared_store::Store;
 use std::alloc::Global;
 use std::sync::Arc;
+use task_evaluation::{Engine, FirstPart, StepKind, binder_of, evaluate_at};
 use task_model::{Cont, Delay, OutOfMemory, Purse, Slot, Stop, Task, Tree, Value};
 use task_tree::{has_value, same};
 

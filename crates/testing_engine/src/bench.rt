@@ -5,7 +5,8 @@ use shared_store::Store;
 use std::alloc::Global;
 use std::marker::Model;
 use std::sync::ledger::Ledger;
-use task_engine::{Engine, failing, test_next, test_side};
+use task_engine::{failing, test_next, test_side};
+use task_evaluation::Engine;
 use task_model::{
     Checked, Offer, OutOfMemory, Purse, Row, Sign, Steps, Stop, Tree, Value, copy_value, value_has,
 };

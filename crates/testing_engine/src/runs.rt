@@ -15,7 +15,8 @@ ghost use Rattle.task_engine.specs.Fitting.{ContFits};
 use host_eval::Names;
 use shared_store::Store;
 use std::alloc::Global;
-use task_engine::{Engine, apply, evaluate, normalise, settle, stride};
+use task_engine::{apply, normalise, settle, stride};
+use task_evaluation::{Engine, evaluate};
 use task_model::{
     Checked, Cont, DefBody, OutOfMemory, Purse, Row, Stop, Task, TaskText, Tree, Value,
 };

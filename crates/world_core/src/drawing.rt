@@ -14,7 +14,7 @@ use live_tree::LiveTree;
 use shared_store::Store;
 use std::alloc::Global;
 use std::sync::ledger::Ledger;
-use task_engine::Engine;
+use task_evaluation::Engine;
 use task_model::{Face, OutOfMemory, Steps, Value};
 
 /// How fragments are framed: in a face, with a version, for a seat.

@@ -13,7 +13,8 @@ use host_eval::Names;
 use live_tree::LiveTree;
 use shared_store::Store;
 use std::alloc::Global;
-use task_engine::{Engine, normalise};
+use task_engine::normalise;
+use task_evaluation::Engine;
 use task_model::{Checked, Item, OutOfMemory, Purse, Row, Stop, Task, TaskText, Value};
 
 /// The history at the opening. It shares the program.

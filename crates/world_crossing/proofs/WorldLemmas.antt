@@ -25,9 +25,9 @@ use Rattle.world_core.specs.contracts.parts.WorldParts.TheInside as within
 use Rattle.world_core.specs.contracts.world.World as world
 use Rattle.world_core.specs.contracts.world.World.TheInside as boxed
 use Rattle.host_eval.specs.contracts.definitions.Definitions as definitions
-use Rattle.task_engine.specs.contracts.engine.Engine as engine
-use Rattle.task_engine.specs.contracts.engine.Engine.TheInside as inside
-use Rattle.task_engine.specs.contracts.first_part.FirstPart as first_part
+use Rattle.task_evaluation.specs.contracts.engine.Engine as engine
+use Rattle.task_evaluation.specs.contracts.engine.Engine.TheInside as inside
+use Rattle.task_evaluation.specs.contracts.first_part.FirstPart as first_part
 
 u32_send : IsSend (as_row u32-field)
 u32_send = search sendable

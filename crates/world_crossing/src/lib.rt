@@ -8,7 +8,7 @@ ghost use Rattle.task_model.specs.contracts.value.Value as values;
 ghost use Rattle.task_model.specs.contracts.checked.Checked as checked_programs;
 ghost use Rattle.shared_store.specs.contracts.store.Store as stores;
 ghost use Rattle.host_eval.specs.contracts.definitions.Definitions as definitions;
-ghost use Rattle.task_engine.specs.contracts.engine.Engine as engines;
+ghost use Rattle.task_evaluation.specs.contracts.engine.Engine as engines;
 ghost use Rattle.live_tree.specs.contracts.tree.LiveTree as live_trees;
 ghost use Rattle.world_core.specs.contracts.world.World as worlds;
 

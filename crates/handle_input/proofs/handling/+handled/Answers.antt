@@ -10,7 +10,7 @@ use Rattle.task_laws.proofs.RanLemmas.{stopped, ran_give, ran_after, ran_after_s
 use Rattle.host_eval.proofs.ListLemmas.{empty}
 use Rattle.host_eval.proofs.RunLemmas.{ran_is}
 use Rattle.handle_input.specs.Editing.{value_put, edited_tree}
-use Rattle.task_engine.specs.Kinds.{pair_tree}
+use Rattle.task_evaluation.specs.Kinds.{pair_tree}
 use Rattle.task_engine.proofs.FittingLemmas.{step_fits}
 use Rattle.handle_input.proofs.FitLemmas.{fits_is, fits_pair_first, fits_pair_second, share_within}
 use Rattle.handle_input.proofs.HandledLemmas.{editor_is, place_is, ran_made_option, ran_rebuilt, held_rebuilt, stopped_value, pair_first, pair_second, pair_ends}

@@ -31,4 +31,4 @@ pub returns-clause-same : goal.returns-clause-same
 returns-clause-same c = λ one. ap (λ (s : State). s.tree) (settled_same (checked_term c.args.engine.now) (at (tree_term c.args.t) (map value_term c.args.store.now.list))
     (λ (u : Tree). at (tree_term u) (map value_term c.settle.new.store.list)) c.args.purse.now c.settle.new.purse c.in_ok-tree.tree
     c.in_ok-tree.ensures.spends
-    (sym c.units_left-units.ensures ∙ c.is_one-along_path.ensures.0 one ∙ ap suc c.units_left.ensures))
+    (sym c.units_left-units.ensures ∙ c.took_one_unit-along_path.ensures.0 one ∙ ap suc c.units_left.ensures))

@@ -4,7 +4,7 @@ use Rattle.std.specs.Arc.{arc_value}
 use Rattle.task_model.specs.Terms.Tree.{and_tree, cont_term, tree_term}
 use Rattle.task_model.specs.Running.Checked.{CheckedTerm}
 use Rattle.task_engine.specs.Quiet.{IsQuiet}
-use Rattle.task_engine.specs.Stores.{values_in}
+use Rattle.task_evaluation.specs.Stores.{values_in}
 use Rattle.task_engine.proofs.QuietLemmas.{quiet_leaf, quiet_then, quiet_next, quiet_and, quiet_or}
 use Rattle.task_engine.proofs.quiet.+quiet.Goals as goal
 

@@ -1,0 +1,5 @@
+pub mod AskLemmas
+pub mod PlanLemmas
+pub mod TableLemmas
+pub mod StartLemmas
+pub mod PartLemmas
