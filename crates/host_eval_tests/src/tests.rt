@@ -3,7 +3,6 @@ use host_eval::Definitions;
 use host_types::check;
 use literal_text::print_value;
 use std::alloc::Global;
-use std::process::Abort;
 use std::test::Fail;
 use task_model::{OutOfMemory, Purse, Stop, TaskText};
 use task_reader::read_program;
@@ -42,66 +41,85 @@ fn given(
     }
 }
 
-// The function `it` of a program gives this value with so many units and nothing with fewer.
-fn assert_gives(
-    rt: &(impl Abort + AllocGlobal),
-    source: &str,
-    value: &str,
-    units: u32,
-) -> Result<(), OutOfMemory> {
-    let program = accepted(rt.alloc(), source)?;
-    let (text, left) = given(rt.alloc(), &program, units)?;
-    assert_eq!(rt; text.as_str(), value, "{source}");
-    assert_eq!(rt; left, 0, "{source}");
-    if units > 0 {
-        let (text, _) = given(rt.alloc(), &program, units - 1)?;
-        assert_eq!(rt; text.as_str(), "none", "{source}");
-    }
-    let (_, left) = given(rt.alloc(), &program, 1_000_000)?;
-    assert_eq!(rt; left, 1_000_000u32.saturating_sub(units), "{source}");
-    Ok(())
+// What the function `it` of a program gives with so many units, with one fewer, and what is left of many: each with what is left.
+fn told(alloc: Global, source: &str, units: u32) -> Result<String, OutOfMemory> {
+    let program = accepted(alloc, source)?;
+    let (exact, left) = given(alloc, &program, units)?;
+    let (fewer, _) = given(alloc, &program, units.saturating_sub(1))?;
+    let (_, most) = given(alloc, &program, 1_000_000)?;
+    let fewer = if units > 0 { fewer.as_str() } else { "none" };
+    Ok(format!(in alloc; "{} {left}, {fewer}, {most}", exact.as_str())?)
 }
 
-#[test]
-fn worked_expressions(rt: HostRuntime) -> Result<(), Fail> {
+// What differs where it is to give this value with so many units and nothing with fewer.
+fn difference(alloc: Global, source: &str, value: &str, units: u32) -> Result<String, OutOfMemory> {
+    let told = told(alloc, source, units)?;
+    let most = 1_000_000u32.saturating_sub(units);
+    let want = format!(in alloc; "{value} 0, none, {most}")?;
+    if told.as_str() == want.as_str() {
+        return Ok(String::new(alloc));
+    }
+    Ok(format!(in alloc; "{source}\nis {}\n", told.as_str())?)
+}
+
+// What differs where it is to give nothing, however many units there are.
+fn none_difference(alloc: Global, source: &str) -> Result<String, OutOfMemory> {
+    let program = accepted(alloc, source)?;
+    let (text, _) = given(alloc, &program, 1_000_000)?;
+    if text.as_str() == "none" {
+        return Ok(String::new(alloc));
+    }
+    Ok(format!(in alloc; "{source}\nis {}\n", text.as_str())?)
+}
+
+// What differs from a line of expressions. Lines that are none are comments.
+fn expression_difference(alloc: Global, line: &str) -> Result<String, OutOfMemory> {
+    let Some((head, rest)) = line.split_once(": ") else {
+        return Ok(String::new(alloc));
+    };
+    let (units, kind) = head.split_once(' ').unwrap_or((head, ""));
+    let (expression, value) = rest.split_once(" => ").unwrap_or((rest, ""));
+    let functions = expressions::FUNCTIONS;
+    let source = format!(in alloc; "{functions}fun it() : {kind} = {expression}{MAIN}")?;
+    difference(
+        alloc,
+        source.as_str(),
+        value,
+        units.parse::<u32>().unwrap_or(0),
+    )
+}
+
+fn height_difference(alloc: Global, line: &str) -> Result<String, OutOfMemory> {
+    let Some((units, rest)) = line.split_once(": ") else {
+        return Ok(String::new(alloc));
+    };
+    let (definitions, value) = rest.split_once(" => ").unwrap_or((rest, ""));
+    let source = format!(in alloc; "{definitions}{MAIN}")?;
+    if value == "none" {
+        return none_difference(alloc, source.as_str());
+    }
+    difference(
+        alloc,
+        source.as_str(),
+        value,
+        units.parse::<u32>().unwrap_or(0),
+    )
+}
+
+fn differences(alloc: Global) -> Result<String, OutOfMemory> {
+    let mut found = String::new(alloc);
     for line in expressions::EXPRESSIONS.split('\n') {
-        if let Some((head, rest)) = line.split_once(": ") {
-            let (units, kind) = head.split_once(' ').unwrap_or((head, ""));
-            let (expression, value) = rest.split_once(" => ").unwrap_or((rest, ""));
-            let source = format!(in rt.alloc();
-                "{}fun it() : {kind} = {expression}{MAIN}",
-                expressions::FUNCTIONS
-            )?;
-            assert_gives(
-                &rt,
-                source.as_str(),
-                value,
-                units.parse::<u32>().unwrap_or(0),
-            )?;
-        }
+        found.push_str(expression_difference(alloc, line)?.as_str())?;
     }
-    Ok(())
+    for line in heights::HEIGHTS.split('\n') {
+        found.push_str(height_difference(alloc, line)?.as_str())?;
+    }
+    Ok(found)
 }
 
 #[test]
-fn worked_heights(rt: HostRuntime) -> Result<(), Fail> {
-    for line in heights::HEIGHTS.split('\n') {
-        if let Some((units, rest)) = line.split_once(": ") {
-            let (definitions, value) = rest.split_once(" => ").unwrap_or((rest, ""));
-            let source = format!(in rt.alloc(); "{definitions}{MAIN}")?;
-            if value == "none" {
-                let program = accepted(rt.alloc(), source.as_str())?;
-                let (text, _) = given(rt.alloc(), &program, 1_000_000)?;
-                assert_eq!(rt; text.as_str(), value, "{definitions}");
-            } else {
-                assert_gives(
-                    &rt,
-                    source.as_str(),
-                    value,
-                    units.parse::<u32>().unwrap_or(0),
-                )?;
-            }
-        }
-    }
+fn worked_expressions_and_heights(rt: HostRuntime) -> Result<(), Fail> {
+    let found = differences(rt.alloc())?;
+    assert!(rt; found.is_empty(), "{}", found.as_str());
     Ok(())
 }

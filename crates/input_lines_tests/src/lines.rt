@@ -3,7 +3,6 @@
 use input_lines::{Line, parse_line, print_entry};
 use line_frame::LineStop;
 use std::alloc::Global;
-use std::process::Abort;
 use std::test::Fail;
 use task_model::OutOfMemory;
 
@@ -22,17 +21,26 @@ fn told(alloc: Global, bytes: &[u8]) -> Result<String, OutOfMemory> {
     }
 }
 
-pub(crate) fn assert_line(
-    rt: &(impl Abort + AllocGlobal),
-    bytes: &[u8],
-    want: &str,
-) -> Result<(), OutOfMemory> {
-    let told = told(rt.alloc(), bytes)?;
-    assert_eq!(rt; told.as_str(), want);
-    Ok(())
+/// What a line is to come to and what it comes to, where that is something else.
+pub(crate) fn difference(alloc: Global, bytes: &[u8], want: &str) -> Result<String, OutOfMemory> {
+    let told = told(alloc, bytes)?;
+    if told.as_str() == want {
+        return Ok(String::new(alloc));
+    }
+    Ok(format!(in alloc; "{want} is {}\n", told.as_str())?)
 }
 
-/// Lines, in which `^` stands for a carriage return, each before what it comes to.
+/// What differs from a row: a line, in which `^` stands for a carriage return, and what it comes to.
+pub(crate) fn row_difference(alloc: Global, row: &str) -> Result<String, OutOfMemory> {
+    let (line, want) = row.split_once('@').unwrap_or((row, ""));
+    let mut bytes = Vec::new(alloc);
+    for byte in line.bytes() {
+        bytes.push(if byte == b'^' { b'\r' } else { byte })?;
+    }
+    difference(alloc, bytes.as_slice(), want)
+}
+
+/// Lines, each before what it comes to.
 const LINES: &str = r#"@blank
 ^@blank
 #@blank
@@ -121,20 +129,6 @@ x@column 1
 1 . set 9223372036854775808@column 27
 1 . set 12345678901234567890@column 28"#;
 
-#[test]
-fn lines(rt: HostRuntime) -> Result<(), Fail> {
-    for row in LINES.split('\n') {
-        let (line, want) = row.split_once('@').unwrap_or((row, ""));
-        let mut bytes = Vec::new(rt.alloc());
-        for byte in line.bytes() {
-            bytes.push(if byte == b'^' { b'\r' } else { byte })?;
-        }
-        assert_line(&rt, bytes.as_slice(), want)?;
-    }
-    assert_line(&rt, b"#\xff\x00 1 show", "blank")?;
-    Ok(assert_line(&rt, b"1 . set \"\xc3(", "column 11")?)
-}
-
 const EXAMPLES: &str = "1 show
 17 show
 64 .FSFS next
@@ -154,24 +148,42 @@ fn cut(alloc: Global, line: &[u8], length: usize) -> Result<Vec<u8>, OutOfMemory
     Ok(bytes)
 }
 
-// Each front of a line that is none itself is bad behind its last byte, and with a byte that begins nothing there, too.
-fn assert_fronts(rt: &(impl Abort + AllocGlobal), line: &[u8]) -> Result<(), OutOfMemory> {
-    for length in 0..line.len() {
-        let column = format!(in rt.alloc(); "column {}", length as u64 + 1)?;
-        let mut bytes = cut(rt.alloc(), line, length)?;
-        assert_line(rt, bytes.as_slice(), column.as_str())?;
-        bytes.truncate(length);
-        if length > 0 {
-            assert_line(rt, bytes.as_slice(), column.as_str())?;
-        }
+// What differs where a line has so many bytes of this one, alone and before a byte that begins nothing: both are bad behind them.
+fn front_difference(alloc: Global, line: &[u8], length: usize) -> Result<String, OutOfMemory> {
+    let column = format!(in alloc; "column {}", (length as u64).saturating_add(1))?;
+    let mut bytes = cut(alloc, line, length)?;
+    let mut found = difference(alloc, bytes.as_slice(), column.as_str())?;
+    bytes.truncate(length);
+    if length > 0 {
+        found.push_str(difference(alloc, bytes.as_slice(), column.as_str())?.as_str())?;
     }
-    Ok(())
+    Ok(found)
+}
+
+// What differs of the fronts of a line that are none themselves.
+fn front_differences(alloc: Global, line: &[u8]) -> Result<String, OutOfMemory> {
+    let mut found = String::new(alloc);
+    for length in 0..line.len() {
+        found.push_str(front_difference(alloc, line, length)?.as_str())?;
+    }
+    Ok(found)
+}
+
+fn differences(alloc: Global) -> Result<String, OutOfMemory> {
+    let mut found = difference(alloc, b"#\xff\x00 1 show", "blank")?;
+    found.push_str(difference(alloc, b"1 . set \"\xc3(", "column 11")?.as_str())?;
+    for row in LINES.split('\n') {
+        found.push_str(row_difference(alloc, row)?.as_str())?;
+    }
+    for line in EXAMPLES.split('\n') {
+        found.push_str(front_differences(alloc, line.as_bytes())?.as_str())?;
+    }
+    Ok(found)
 }
 
 #[test]
-fn fronts_of_lines(rt: HostRuntime) -> Result<(), Fail> {
-    for line in EXAMPLES.split('\n') {
-        assert_fronts(&rt, line.as_bytes())?;
-    }
+fn lines_and_their_fronts(rt: HostRuntime) -> Result<(), Fail> {
+    let found = differences(rt.alloc())?;
+    assert!(rt; found.is_empty(), "{}", found.as_str());
     Ok(())
 }

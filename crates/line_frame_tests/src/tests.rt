@@ -8,7 +8,6 @@ mod judge;
 use line_frame::{Finish, LineStop, Machine, run_script};
 use outer_io::{Got, MemSink, MemSource, Source};
 use std::alloc::Global;
-use std::process::Abort;
 use std::test::Fail;
 use task_model::{OutOfMemory, Row};
 
@@ -54,46 +53,48 @@ fn left<I: Source>(input: &mut I) -> u64 {
     count
 }
 
-// Four lines, the last of which has no LF, in pieces of this size. The read and the write of these
-// numbers fail.
-fn run(
-    rt: &(impl AllocGlobal + Abort),
-    piece: usize,
-    limit: u64,
-    read: u64,
-    write: u64,
-    want: (Finish, &[u8]),
-) -> Result<(), OutOfMemory>
-    requires piece { 0 < piece }
-    requires limit { limit < 2 ^ 63 }
-{
-    let alloc = rt.alloc();
-    let mut input = MemSource::new(
-        row(alloc, b"a\nlong line\n\nd")?,
-        piece,
-        row(alloc, &[read])?,
-    );
-    let mut out = MemSink::new(alloc, 9, row(alloc, &[write])?);
-    let finish = run_script(alloc, &mut Yes, &mut input, &mut out, limit);
-    assert_eq!(rt; finish, want.0);
-    assert_eq!(rt; out.taken(), want.1);
-    Ok(())
+/// How a run ends, and what a sink then has taken.
+fn told(alloc: Global, finish: Finish, out: &MemSink) -> Result<String, OutOfMemory> {
+    let taken = String::from_utf8_lossy(alloc, out.taken())?;
+    Ok(format!(in alloc; "{finish:?} {}", taken.as_str())?)
 }
+
+// The size of the pieces of a script and its limit, and the numbers of the read and of the write that fail.
+type Run = (usize, u64, u64, u64);
+
+// What comes of four lines, the last of which has no LF.
+fn ran(alloc: Global, run: Run) -> Result<String, OutOfMemory> {
+    let (piece, limit, read, write) = run;
+    let script = row(alloc, b"a\nlong line\n\nd")?;
+    let mut input = MemSource::new(script, piece.max(1), row(alloc, &[read])?);
+    let mut out = MemSink::new(alloc, 9, row(alloc, &[write])?);
+    let finish = run_script(alloc, &mut Yes, &mut input, &mut out, limit.min(99));
+    told(alloc, finish, &out)
+}
+
+const RUNS: &[(Run, &str)] = &[
+    ((1, 14, 0, 0), "Done y\ny\ny\ny\n"),
+    ((5, 14, 0, 0), "Done y\ny\ny\ny\n"),
+    ((99, 14, 0, 0), "Done y\ny\ny\ny\n"),
+    ((1, 13, 0, 0), "InputTooLong y\ny\ny\n"),
+    ((5, 13, 0, 0), "InputTooLong y\ny\ny\n"),
+    ((99, 13, 0, 0), "InputTooLong y\ny\ny\n"),
+    ((1, 11, 0, 0), "InputTooLong y\n"),
+    ((5, 11, 0, 0), "InputTooLong y\n"),
+    ((99, 11, 0, 0), "InputTooLong y\n"),
+    ((1, 99, 0, 2), "WriteFault y\n"),
+    ((5, 99, 0, 2), "WriteFault y\n"),
+    ((99, 99, 0, 1), "WriteFault "),
+    ((99, 99, 0, 2), "WriteFault y\ny\ny\n"),
+    ((5, 99, 2, 0), "ReadFault y\n"),
+    ((99, 99, 2, 0), "ReadFault y\ny\ny\n"),
+];
 
 #[test]
 fn a_script_is_run_in_pieces_of_any_size(rt: HostRuntime) -> Result<(), Fail> {
-    for piece in [1, 5, 99] {
-        run(&rt, piece, 14, 0, 0, (Finish::Done, b"y\ny\ny\ny\n"))?;
-        run(&rt, piece, 13, 0, 0, (Finish::InputTooLong, b"y\ny\ny\n"))?;
-        run(&rt, piece, 11, 0, 0, (Finish::InputTooLong, b"y\n"))?;
+    for (run, want) in RUNS {
+        assert_eq!(rt; ran(rt.alloc(), *run)?.as_str(), *want, "{run:?}");
     }
-    for piece in [1, 5] {
-        run(&rt, piece, 99, 0, 2, (Finish::WriteFault, b"y\n"))?;
-    }
-    run(&rt, 99, 99, 0, 1, (Finish::WriteFault, b""))?;
-    run(&rt, 99, 99, 0, 2, (Finish::WriteFault, b"y\ny\ny\n"))?;
-    run(&rt, 5, 99, 2, 0, (Finish::ReadFault, b"y\n"))?;
-    run(&rt, 99, 99, 2, 0, (Finish::ReadFault, b"y\ny\ny\n"))?;
     Ok(())
 }
 

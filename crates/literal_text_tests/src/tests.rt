@@ -2,7 +2,6 @@
 
 use literal_text::{LiteralStop, print_basic, print_value, read_any, read_basic, read_value};
 use std::alloc::{AllocError, Global};
-use std::process::Abort;
 use std::test::Fail;
 use task_model::{OutOfMemory, TaskText, Value};
 
@@ -43,15 +42,13 @@ fn told(alloc: Global, kind: &str, bytes: &[u8]) -> Result<String, OutOfMemory> 
     }
 }
 
-fn assert_told(
-    rt: &(impl Abort + AllocGlobal),
-    kind: &str,
-    bytes: &[u8],
-    want: &str,
-) -> Result<(), OutOfMemory> {
-    let told = told(rt.alloc(), kind, bytes)?;
-    assert_eq!(rt; told.as_str(), want);
-    Ok(())
+// What bytes are told as, where that isn't what is wanted.
+fn difference(alloc: Global, kind: &str, bytes: &[u8], want: &str) -> Result<String, OutOfMemory> {
+    let told = told(alloc, kind, bytes)?;
+    if told.as_str() == want {
+        return Ok(String::new(alloc));
+    }
+    Ok(format!(in alloc; "{kind} {want} is {}\n", told.as_str())?)
 }
 
 /// What the bytes are to be, the bytes, and what they are printed as, or the place where they are bad.
@@ -90,28 +87,34 @@ type@ ( [ unit ] ,( bool,text) ) @([unit], (bool, text))
 type@()@place 1
 type@(int,int,int)@place 8"#;
 
-#[test]
-fn literals_and_types(rt: HostRuntime) -> Result<(), Fail> {
+// Bytes that stand in no table, and what they are told as.
+const BYTES: &[(&[u8], &str)] = &[
+    (b"\"\xc3(\"", "place 2"),
+    (b"\"\xc0\xaf\"", "place 1"),
+    (b"\"\xe0\x80\x80\"", "place 2"),
+    (b"\"\xed\xa0\x80\"", "place 2"),
+    (b"\"\xf4\x90\x80\x80\"", "place 2"),
+    (b"\"\xf0\x9f\x98\x80\"", "\"\u{1f600}\""),
+    (b"\"\x7f\"", "place 1"),
+    (b"\"a\nb\"", "place 2"),
+];
+
+fn row_differences(alloc: Global) -> Result<String, OutOfMemory> {
+    let mut found = String::new(alloc);
     for row in ROWS.split('\n') {
-        let (kind, rest) = row.split_once('@').unwrap_or((row, ""));
-        let (bytes, want) = rest.split_once('@').unwrap_or((rest, ""));
-        assert_told(&rt, kind, bytes.as_bytes(), want)?;
+        let (kind, rest) = field(row);
+        let (bytes, want) = field(rest);
+        found.push_str(difference(alloc, kind, bytes.as_bytes(), want)?.as_str())?;
     }
-    Ok(())
+    for (bytes, want) in BYTES {
+        found.push_str(difference(alloc, "any", bytes, want)?.as_str())?;
+    }
+    Ok(found)
 }
 
-// Bytes that stand in no table.
-#[test]
-fn bytes_of_texts(rt: HostRuntime) -> Result<(), Fail> {
-    assert_told(&rt, "any", b"\"\xc3(\"", "place 2")?;
-    assert_told(&rt, "any", b"\"\xc0\xaf\"", "place 1")?;
-    assert_told(&rt, "any", b"\"\xe0\x80\x80\"", "place 2")?;
-    assert_told(&rt, "any", b"\"\xed\xa0\x80\"", "place 2")?;
-    assert_told(&rt, "any", b"\"\xf4\x90\x80\x80\"", "place 2")?;
-    assert_told(&rt, "any", b"\"\xf0\x9f\x98\x80\"", "\"\u{1f600}\"")?;
-    assert_told(&rt, "any", b"\"\x7f\"", "place 1")?;
-    assert_told(&rt, "any", b"\"a\nb\"", "place 2")?;
-    Ok(())
+// The next field of a row, and what stands behind it.
+fn field(row: &str) -> (&str, &str) {
+    row.split_once('@').unwrap_or((row, ""))
 }
 
 /// What the texts are to be, a front, a piece with its number, a back with its number, and where they are bad, if they are.
@@ -142,54 +145,83 @@ fn long(
     Ok(text)
 }
 
-fn assert_limit(rt: &(impl Abort + AllocGlobal), row: &str) -> Result<(), OutOfMemory> {
-    let (kind, rest) = row.split_once('@').unwrap_or((row, ""));
-    let (front, rest) = rest.split_once('@').unwrap_or((rest, ""));
-    let (piece, rest) = rest.split_once('@').unwrap_or((rest, ""));
-    let (many, rest) = rest.split_once('@').unwrap_or((rest, ""));
-    let (back, rest) = rest.split_once('@').unwrap_or((rest, ""));
-    let (backs, want) = rest.split_once('@').unwrap_or((rest, ""));
+// What differs from a row of limits.
+fn limit_difference(alloc: Global, row: &str) -> Result<String, OutOfMemory> {
+    let (kind, rest) = field(row);
+    let (front, rest) = field(rest);
+    let (piece, rest) = field(rest);
+    let (many, rest) = field(rest);
+    let (back, rest) = field(rest);
+    let (backs, want) = field(rest);
     let counts = (
         many.parse::<u32>().unwrap_or(0),
         backs.parse::<u32>().unwrap_or(0),
     );
-    let text = long(rt.alloc(), (front, piece, back), counts)?;
+    let text = long(alloc, (front, piece, back), counts)?;
     let want = if want.is_empty() { text.as_str() } else { want };
-    assert_told(rt, kind, text.as_bytes(), want)
+    difference(alloc, kind, text.as_bytes(), want)
 }
 
-#[test]
-fn limits(rt: HostRuntime) -> Result<(), Fail> {
+fn limit_differences(alloc: Global) -> Result<String, OutOfMemory> {
+    let mut found = String::new(alloc);
     for row in LIMITS.split('\n') {
-        assert_limit(&rt, row)?;
+        found.push_str(limit_difference(alloc, row)?.as_str())?;
     }
-    let most = long(rt.alloc(), ("", "[", "int"), (63, 1))?;
-    let most = long(rt.alloc(), (most.as_str(), "]", ""), (63, 0))?;
-    Ok(assert_told(&rt, "type", most.as_bytes(), most.as_str())?)
+    let most = long(alloc, ("", "[", "int"), (63, 1))?;
+    let most = long(alloc, (most.as_str(), "]", ""), (63, 0))?;
+    found.push_str(difference(alloc, "type", most.as_bytes(), most.as_str())?.as_str())?;
+    Ok(found)
 }
 
-// Each character is printed so, in a text of its own.
-#[test]
-fn characters(rt: HostRuntime) -> Result<(), Fail> {
-    let alloc = rt.alloc();
+// What a text of one character is printed as, where that isn't what is wanted.
+fn printed_difference(alloc: Global, text: &str, want: &str) -> Result<String, OutOfMemory> {
+    let text = Value::Text(TaskText::of(alloc, text)?);
+    let printed = print_value(alloc, &text)?;
+    if printed.as_str() == want {
+        return Ok(String::new(alloc));
+    }
+    Ok(format!(in alloc; "{want} is {}\n", printed.as_str())?)
+}
+
+// The same of a control character.
+fn control_difference(alloc: Global, code: u8) -> Result<String, OutOfMemory> {
+    let text = format!(in alloc; "{}", code as char)?;
+    let want = match code {
+        9 => String::from_str(alloc, "\"\\t\"")?,
+        10 => String::from_str(alloc, "\"\\n\"")?,
+        13 => String::from_str(alloc, "\"\\r\"")?,
+        _ => format!(in alloc; "\"\\x{code:02x}\"")?,
+    };
+    printed_difference(alloc, text.as_str(), want.as_str())
+}
+
+const CHARACTERS: &[(&str, &str)] = &[
+    ("\u{7f}", "\"\\x7f\""),
+    ("\u{1f600}", "\"\u{1f600}\""),
+    ("\"\\", "\"\\\"\\\\\""),
+];
+
+fn character_differences(alloc: Global) -> Result<String, OutOfMemory> {
+    let mut found = String::new(alloc);
     for code in 0u8..32 {
-        let text = format!(in alloc; "{}", code as char)?;
-        let text = Value::Text(TaskText::of_string(text)?);
-        let want = match code {
-            9 => format!(in alloc; "\"\\t\"")?,
-            10 => format!(in alloc; "\"\\n\"")?,
-            13 => format!(in alloc; "\"\\r\"")?,
-            _ => format!(in alloc; "\"\\x{code:02x}\"")?,
-        };
-        assert_eq!(rt; print_value(alloc, &text)?.as_str(), want.as_str());
+        found.push_str(control_difference(alloc, code)?.as_str())?;
     }
-    for (text, want) in [
-        ("\u{7f}", "\"\\x7f\""),
-        ("\u{1f600}", "\"\u{1f600}\""),
-        ("\"\\", "\"\\\"\\\\\""),
-    ] {
-        let text = Value::Text(TaskText::of(alloc, text)?);
-        assert_eq!(rt; print_value(alloc, &text)?.as_str(), want);
+    for (text, want) in CHARACTERS {
+        found.push_str(printed_difference(alloc, text, want)?.as_str())?;
     }
+    Ok(found)
+}
+
+fn differences(alloc: Global) -> Result<String, OutOfMemory> {
+    let mut found = row_differences(alloc)?;
+    found.push_str(limit_differences(alloc)?.as_str())?;
+    found.push_str(character_differences(alloc)?.as_str())?;
+    Ok(found)
+}
+
+#[test]
+fn literals_types_and_texts(rt: HostRuntime) -> Result<(), Fail> {
+    let found = differences(rt.alloc())?;
+    assert!(rt; found.is_empty(), "{}", found.as_str());
     Ok(())
 }

@@ -1,9 +1,3 @@
-pub mod TaskRules
-pub mod StepRules
-pub mod NumberLemmas
-pub mod RoomLemmas
-pub mod ShownTasks
-pub mod ReadingLemmas
 pub mod DefinitionRules
 pub mod ProgramLemmas
 pub mod Respelled

@@ -12,12 +12,12 @@ ghost use Rattle.reader_programs.specs.DefinitionKeywords.{word_of};
 
 use crate::definition_words::DefinitionWord;
 use crate::parameters::{Parameters, enclosed_parameters};
-use crate::tasks::task;
 use exact_reading::ParseStop;
 use reader_expressions::expression;
 use reader_grammar::{
     Measured, Parsed, Parts, PositionedToken, basic, expect_name, expect_symbol, joined, name_text,
 };
+use reader_task_forms::task;
 use reader_tasks::parameter_scope;
 use std::alloc::Global;
 use std::collections::VecDeque;

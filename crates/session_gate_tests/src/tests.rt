@@ -1,15 +1,9 @@
 mod cases;
-mod cutting;
-mod drawing;
 mod serving;
-mod streams;
 
 use cases::{ASKED, CLOSING, GOING_ON};
 use serving::{Wire, bytes_of, differences, served};
 use std::test::Fail;
-
-/// How many random streams are tried. With 100,000 here `rt try --test` tries so many, by hand.
-const STREAMS: u64 = 300;
 
 #[test]
 fn replies_do_not_depend_on_the_pieces(rt: HostRuntime) -> Result<(), Fail> {
@@ -38,12 +32,5 @@ fn a_call_that_fails_ends_a_connection(rt: HostRuntime) -> Result<(), Fail> {
         let got = served(&rt, rt.alloc(), sent.as_bytes(), wire)?;
         assert_eq!(rt; got.as_str(), wants);
     }
-    Ok(())
-}
-
-#[test]
-fn replies_do_not_depend_on_random_cuts(rt: HostRuntime) -> Result<(), Fail> {
-    let found = streams::differences(&rt, rt.alloc(), STREAMS)?;
-    assert!(rt; found.is_empty(), "{}", found.as_str());
     Ok(())
 }

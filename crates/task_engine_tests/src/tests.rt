@@ -18,6 +18,8 @@ use testing_programs::{BlockTest, accepted, is_right, repeated, table_difference
 
 mod answering;
 mod deep;
+mod offer_tables;
+mod offering;
 mod rules;
 mod showing;
 mod worked;
@@ -281,6 +283,27 @@ impl BlockTest for Programs {
         let mut bench = Bench::new(alloc, accepted(alloc, source.as_str())?)?;
         calls_differences(alloc, &mut bench, calls, steps)
     }
+}
+
+/// A program, and the offers of its opening within budgets.
+struct Openings;
+
+impl BlockTest for Openings {
+    fn block_differences<L: Ledger>(
+        &self,
+        alloc: Global,
+        text: &str,
+        steps: &mut Steps<L>,
+    ) -> Result<String, OutOfMemory> {
+        offering::differences(alloc, text, steps)
+    }
+}
+
+#[test]
+fn worked_offers(rt: HostRuntime) -> Result<(), Fail> {
+    let found = table_differences(rt.alloc(), offer_tables::OFFERS, &Openings)?;
+    assert!(rt; found.is_empty(), "{}", found.as_str());
+    Ok(())
 }
 
 fn assert_right(rt: &(impl Abort + AllocGlobal), table: &str) -> Result<(), OutOfMemory> {

@@ -1,11 +1,9 @@
 //! Texts and their programs, first faults, levels, and texts that are printed again.
 
-use std::process::Abort;
-use std::test::Fail;
+use std::alloc::{AllocError, Global};
 use task_reader::read_program;
-use task_syntax::{ReadKind, ReadStop, lex};
+use task_syntax::{LexStop, ReadStop, lex};
 
-mod bodies;
 mod deep;
 mod faults;
 mod levels;
@@ -18,39 +16,49 @@ const FUNCTION: &str = "fun f() : int = ";
 /// The head of a task, in front of its body: seven tokens.
 const TASK: &str = "task main() : int = ";
 
-/// Expects that the first fault of a source is this token, and why.
-fn assert_fault(
-    rt: &(impl Abort + AllocGlobal),
-    source: &str,
-    token: usize,
-    kind: ReadKind,
-) -> Result<(), Fail> {
-    let tokens = lex(rt.alloc(), source)?;
-    let place = match tokens.list.as_slice().get(token) {
-        Some(found) => found.from,
-        None => source.len() as u64,
-    };
-    assert_eq!(rt;
-        read_program(rt.alloc(), source.as_bytes()).err(),
-        Some(ReadStop::Fault { place, kind }),
-        "{source}"
-    );
-    Ok(())
+/// Whether a source is read, or its first fault.
+fn told(alloc: Global, source: &[u8]) -> Result<String, AllocError> {
+    match read_program(alloc, source).err() {
+        None => String::from_str(alloc, "read"),
+        Some(ReadStop::Fault { place, kind }) => format!(in alloc; "{kind:?} at {place}"),
+        Some(ReadStop::Memory) => Err(AllocError),
+    }
 }
 
-/// Expects that a source has a program.
-fn assert_read(rt: &(impl Abort + AllocGlobal), source: &str) {
-    assert_eq!(rt;
-        read_program(rt.alloc(), source.as_bytes()).err(),
-        None,
-        "{source}"
-    );
+// Where a token of a source begins. Behind the last one the source ends.
+fn token_place(alloc: Global, source: &str, token: usize) -> Result<u64, AllocError> {
+    match lex(alloc, source) {
+        Ok(tokens) => match tokens.list.as_slice().get(token) {
+            Some(found) => Ok(found.from),
+            None => Ok(source.len() as u64),
+        },
+        Err(LexStop::Fault { place, kind: _ }) => Ok(place),
+        Err(LexStop::Memory) => Err(AllocError),
+    }
+}
+
+// A source and what is told of it, where that isn't what is wanted.
+fn compared(alloc: Global, source: &str, wanted: &str) -> Result<String, AllocError> {
+    let told = told(alloc, source.as_bytes())?;
+    if told.as_str() == wanted {
+        return Ok(String::new(alloc));
+    }
+    format!(in alloc; "{source}\nis {}\n", told.as_str())
+}
+
+/// What differs where the first fault of a source is to be this token, and why.
+fn fault_difference(
+    alloc: Global,
+    source: &str,
+    token: usize,
+    kind: &str,
+) -> Result<String, AllocError> {
+    let place = token_place(alloc, source, token)?;
+    let wanted = format!(in alloc; "{kind} at {place}")?;
+    compared(alloc, source, wanted.as_str())
 }
 
 /// The first field of a row of a table, which ends at `@`, and what stands behind it.
 fn field(row: &str) -> (&str, &str) {
-    match row.split_once('@') {
-        Some(parts) => parts,
-        None => (row, ""),
-    }
+    row.split_once('@').unwrap_or((row, ""))
 }

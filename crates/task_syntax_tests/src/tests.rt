@@ -1,9 +1,8 @@
 //! Tokens and faults of sources.
 
 use std::alloc::{AllocError, Global};
-use std::process::Abort;
 use std::test::Fail;
-use task_syntax::{LexStop, TokenKind, lex};
+use task_syntax::{LexStop, Token, TokenKind, lex};
 
 fn put_kind(text: &mut String, kind: &TokenKind) -> Result<(), AllocError> {
     match kind {
@@ -19,31 +18,33 @@ fn put_kind(text: &mut String, kind: &TokenKind) -> Result<(), AllocError> {
     }
 }
 
-/// The tokens of a source, each behind its span, or its fault.
-fn shown(alloc: Global, source: &str) -> Result<String, AllocError> {
+// Tokens, each behind its span.
+fn tokens_text(alloc: Global, tokens: &[Token]) -> Result<String, AllocError> {
     let mut text = String::new(alloc);
-    match lex(alloc, source) {
-        Ok(tokens) => {
-            for token in tokens.list.as_slice() {
-                write!(text, "{}-{} ", token.from, token.to)?;
-                put_kind(&mut text, &token.kind)?;
-                text.push(' ')?;
-            }
-        }
-        Err(LexStop::Fault { place, kind }) => write!(text, "{kind:?} at {place}")?,
-        Err(LexStop::Memory) => text.push_str("memory")?,
+    for token in tokens {
+        write!(text, "{}-{} ", token.from, token.to)?;
+        put_kind(&mut text, &token.kind)?;
+        text.push(' ')?;
     }
     Ok(text)
 }
 
-fn assert_shown(
-    rt: &(impl Abort + AllocGlobal),
-    source: &str,
-    want: &str,
-) -> Result<(), AllocError> {
-    let told = shown(rt.alloc(), source)?;
-    assert_eq!(rt; told.as_str().trim_end(), want.trim_end(), "{source:?}");
-    Ok(())
+/// The tokens of a source, or its fault.
+fn shown(alloc: Global, source: &str) -> Result<String, AllocError> {
+    match lex(alloc, source) {
+        Ok(tokens) => tokens_text(alloc, tokens.list.as_slice()),
+        Err(LexStop::Fault { place, kind }) => format!(in alloc; "{kind:?} at {place}"),
+        Err(LexStop::Memory) => Err(AllocError),
+    }
+}
+
+// A source and what is shown of it, where that isn't what is wanted.
+fn difference(alloc: Global, source: &str, want: &str) -> Result<String, AllocError> {
+    let told = shown(alloc, source)?;
+    if told.as_str().trim_end() == want.trim_end() {
+        return Ok(String::new(alloc));
+    }
+    format!(in alloc; "{source:?} is {}\n", told.as_str())
 }
 
 /// Words, numbers and comments, each before its tokens with their spans, or its fault.
@@ -160,29 +161,27 @@ const TEXTS: &str = "\"\" => 0-2 \"\"
 
 _ \"\\q\" => BadChar at 0";
 
-#[test]
-fn words_and_texts(rt: HostRuntime) -> Result<(), Fail> {
-    for table in [WORDS, TEXTS] {
-        for row in table.split("\n\n") {
-            let (source, want) = row.split_once(" => ").unwrap_or((row, ""));
-            assert_shown(&rt, source, want)?;
-        }
+// What differs from a table.
+fn differences(alloc: Global, table: &str) -> Result<String, AllocError> {
+    let mut found = String::new(alloc);
+    for row in table.split("\n\n") {
+        let (source, want) = row.split_once(" => ").unwrap_or((row, ""));
+        found.push_str(difference(alloc, source, want)?.as_str())?;
     }
-    Ok(())
+    Ok(found)
 }
 
+// The signs, from the longest to the shortest, so that the first one at the front of some bytes is the longest there.
 const SIGNS: [&str; 31] = [
-    "(", ")", "[", "]", ",", ":", ":=", "::", ";", ".", "=", "==", "!=", "!", "<", "<=", ">", ">=",
-    "+", "++", "-", "->", "*", "||", "|", "&&", ">>=", ">>?", "<&>", "<|>", "<?>",
+    ">>=", ">>?", "<&>", "<|>", "<?>", ":=", "::", "==", "!=", "<=", ">=", "++", "->", "||", "&&",
+    "(", ")", "[", "]", ",", ":", ";", ".", "=", "!", "<", ">", "+", "-", "*", "|",
 ];
 
 /// The longest sign at the front of these bytes, or none.
 fn longest(bytes: &[u8]) -> &'static str {
-    for length in [3, 2, 1] {
-        for sign in SIGNS {
-            if sign.len() == length && bytes.starts_with(sign.as_bytes()) {
-                return sign;
-            }
+    for sign in &SIGNS {
+        if bytes.starts_with(sign.as_bytes()) {
+            return sign;
         }
     }
     ""
@@ -206,21 +205,29 @@ fn cut(alloc: Global, source: &str) -> Result<String, AllocError> {
     Ok(text)
 }
 
-#[test]
-fn signs_side_by_side(rt: HostRuntime) -> Result<(), Fail> {
-    for first in SIGNS {
-        assert_shown(&rt, first, cut(rt.alloc(), first)?.as_str())?;
-        for second in SIGNS {
-            let mut source = String::from_str(rt.alloc(), first)?;
-            source.push_str(second)?;
-            assert_shown(
-                &rt,
-                source.as_str(),
-                cut(rt.alloc(), source.as_str())?.as_str(),
-            )?;
-        }
+// What differs where the one sign stands right behind the other.
+fn difference_of_signs(alloc: Global, first: &str, second: &str) -> Result<String, AllocError> {
+    let source = format!(in alloc; "{first}{second}")?;
+    let want = cut(alloc, source.as_str())?;
+    difference(alloc, source.as_str(), want.as_str())
+}
+
+// What differs where each sign stands behind this text.
+fn differences_behind(alloc: Global, first: &str) -> Result<String, AllocError> {
+    let mut found = String::new(alloc);
+    for second in &SIGNS {
+        found.push_str(difference_of_signs(alloc, first, second)?.as_str())?;
     }
-    Ok(())
+    Ok(found)
+}
+
+// What differs of signs alone, and of each two side by side.
+fn sign_differences(alloc: Global) -> Result<String, AllocError> {
+    let mut found = differences_behind(alloc, "")?;
+    for first in &SIGNS {
+        found.push_str(differences_behind(alloc, first)?.as_str())?;
+    }
+    Ok(found)
 }
 
 /// A character so many times between two texts.
@@ -266,26 +273,51 @@ const LONG_SOURCES: &str = "\"@a@65536@\"@0-65538 \"…\"
 
 @a@10000@#@0-10000 name";
 
-fn assert_long(rt: &(impl Abort + AllocGlobal), row: &str) -> Result<(), AllocError> {
-    let (front, rest) = row.split_once('@').unwrap_or((row, ""));
-    let (character, rest) = rest.split_once('@').unwrap_or((rest, ""));
-    let (times, rest) = rest.split_once('@').unwrap_or((rest, ""));
-    let (back, want) = rest.split_once('@').unwrap_or((rest, ""));
-    let times = times.parse::<usize>().unwrap_or(0);
-    let source = repeated(rt.alloc(), front, character, times, back)?;
+// What is shown of a source is this, in which `…` stands for its characters.
+fn long_want(
+    alloc: Global,
+    want: &str,
+    character: &str,
+    times: usize,
+) -> Result<String, AllocError> {
     match want.split_once('…') {
-        Some((from, to)) => {
-            let want = repeated(rt.alloc(), from, character, times, to)?;
-            assert_shown(rt, source.as_str(), want.as_str())
-        }
-        None => assert_shown(rt, source.as_str(), want),
+        Some((from, to)) => repeated(alloc, from, character, times, to),
+        None => String::from_str(alloc, want),
     }
 }
 
-#[test]
-fn long_sources(rt: HostRuntime) -> Result<(), Fail> {
+// The next field of a row, and what stands behind it.
+fn field(row: &str) -> (&str, &str) {
+    row.split_once('@').unwrap_or((row, ""))
+}
+
+// The row, where something else is shown of its source.
+fn long_difference(alloc: Global, row: &str) -> Result<String, AllocError> {
+    let (front, rest) = field(row);
+    let (character, rest) = field(rest);
+    let (times, rest) = field(rest);
+    let (back, want) = field(rest);
+    let times = times.parse::<usize>().unwrap_or(0);
+    let source = repeated(alloc, front, character, times, back)?;
+    let want = long_want(alloc, want, character, times)?;
+    let found = difference(alloc, source.as_str(), want.as_str())?;
+    String::from_str(alloc, if found.is_empty() { "" } else { row })
+}
+
+// What differs of everything here.
+fn all_differences(alloc: Global) -> Result<String, AllocError> {
+    let mut found = differences(alloc, WORDS)?;
+    found.push_str(differences(alloc, TEXTS)?.as_str())?;
+    found.push_str(sign_differences(alloc)?.as_str())?;
     for row in LONG_SOURCES.split("\n\n") {
-        assert_long(&rt, row)?;
+        found.push_str(long_difference(alloc, row)?.as_str())?;
     }
+    Ok(found)
+}
+
+#[test]
+fn tokens_and_faults(rt: HostRuntime) -> Result<(), Fail> {
+    let found = all_differences(rt.alloc())?;
+    assert!(rt; found.is_empty(), "{}", found.as_str());
     Ok(())
 }

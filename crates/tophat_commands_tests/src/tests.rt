@@ -2,78 +2,66 @@ mod case;
 mod requests;
 mod rows;
 
-use case::{Case, SERVE, expect};
+use case::{Case, SERVE, difference};
+use std::alloc::Global;
+use std::sync::Wait;
+use std::test::Fail;
+use std::thread::Threads;
 use task_model::OutOfMemory;
 
-#[test]
-fn an_input_and_its_page_in_pieces_of_any_size(rt: HostRuntime) -> Result<(), OutOfMemory> {
-    for piece in [1, 7, 4096] {
-        expect(&rt, &rows::INPUT_AND_PAGE, piece)?;
+/// Cases, each with the size of the pieces in which its files and links are read and written.
+const CASES: &[(Case<'static>, usize)] = &[
+    (rows::INPUT_AND_PAGE, 1),
+    (rows::INPUT_AND_PAGE, 7),
+    (rows::INPUT_AND_PAGE, 4_096),
+    (rows::TURNS, 4_096),
+    (rows::ONE_SEAT, 4_096),
+    (rows::STATED_NUMBER, 4_096),
+    (rows::NO_LINK, 4_096),
+    (rows::NO_HISTORY, 4_096),
+    (rows::NO_FILE, 4_096),
+    (rows::NO_TYPE, 4_096),
+    (rows::NO_OPENING, 4_096),
+    (rows::FIRST_CALL_FAILS, 8),
+    (rows::SECOND_CALL_FAILS, 8),
+    (rows::NO_PORT, 8),
+    (rows::LINE_FAILS, 8),
+    (rows::HISTORY_FAILS, 8),
+    // The history that was printed, behind its first line, is run again to the same page.
+    (rows::AGAIN, 4_096),
+    (rows::DRILL, 4_096),
+    (rows::DRILL_FAILS, 8),
+    // Plain commands leave the ports alone.
+    (CHECK, 4_096),
+    (NO_WORDS, 4_096),
+];
+
+const CHECK: Case<'static> = Case {
+    words: "check p.th",
+    want: "status 0\ntask main ( ) : int = enter int >>? x . edit ( x + 1 )\n",
+    ..SERVE
+};
+
+const NO_WORDS: Case<'static> = Case {
+    words: "serve",
+    want: rows::USAGE,
+    ..SERVE
+};
+
+fn differences(
+    rt: &(impl Threads + Wait + Copy + Send + Sync),
+    alloc: Global,
+) -> Result<String, OutOfMemory> {
+    let mut found = String::new(alloc);
+    for (case, piece) in CASES {
+        found.push_str(difference(rt, alloc, case, *piece)?.as_str())?;
     }
+    Ok(found)
+}
+
+#[test]
+fn every_command(rt: HostRuntime) -> Result<(), Fail> {
+    let found = differences(&rt, rt.alloc())?;
+    assert!(rt; found.is_empty(), "{}", found.as_str());
     Ok(())
-}
-
-#[test]
-fn served_links(rt: HostRuntime) -> Result<(), OutOfMemory> {
-    for case in [
-        &rows::TURNS,
-        &rows::ONE_SEAT,
-        &rows::STATED_NUMBER,
-        &rows::NO_LINK,
-        &rows::NO_HISTORY,
-    ] {
-        expect(&rt, case, 4096)?;
-    }
-    Ok(())
-}
-
-#[test]
-fn ends_before_a_link_is_served(rt: HostRuntime) -> Result<(), OutOfMemory> {
-    for case in rows::UNSERVED {
-        expect(&rt, case, 4096)?;
-    }
-    Ok(())
-}
-
-#[test]
-fn faults(rt: HostRuntime) -> Result<(), OutOfMemory> {
-    for case in [
-        &rows::FIRST_CALL_FAILS,
-        &rows::SECOND_CALL_FAILS,
-        &rows::NO_PORT,
-        &rows::LINE_FAILS,
-        &rows::HISTORY_FAILS,
-    ] {
-        expect(&rt, case, 8)?;
-    }
-    Ok(())
-}
-
-// The history that was printed, behind its first line, is run again to the same page.
-#[test]
-fn a_served_history_is_run_again(rt: HostRuntime) -> Result<(), OutOfMemory> {
-    expect(&rt, &rows::AGAIN, 4096)
-}
-
-#[test]
-fn drills(rt: HostRuntime) -> Result<(), OutOfMemory> {
-    expect(&rt, &rows::DRILL, 4096)?;
-    expect(&rt, &rows::DRILL_FAILS, 8)
-}
-
-// Plain commands leave the ports alone.
-#[test]
-fn plain_commands(rt: HostRuntime) -> Result<(), OutOfMemory> {
-    let case = Case {
-        words: "check p.th",
-        want: "status 0\ntask main ( ) : int = enter int >>? x . edit ( x + 1 )\n",
-        ..SERVE
-    };
-    expect(&rt, &case, 4096)?;
-    let case = Case {
-        words: "serve",
-        want: rows::USAGE,
-        ..SERVE
-    };
-    expect(&rt, &case, 4096)
 }

@@ -1,392 +1,130 @@
-ghost use Rattle.std.specs.Prelude.{◌<◌};
-
 mod block;
 mod budgets;
 mod case;
 mod programs;
 mod refusals;
+mod scripts;
 mod tutorial;
+mod typing;
+mod worded;
 mod worked_rows;
 
-use block::assert_blocks;
-use case::{Case, PAIR, RUN, bytes, expect, files, one, run, words};
-use command_words::{Command, ServeWords, read_command};
-use outer_io::{Got, MemSink, MemSource, Source};
+use block::differences;
+use case::{Case, RUN, compared, told};
 use std::alloc::Global;
 use std::test::Fail;
-use task_model::{OutOfMemory, Row};
-use tophat::plain;
+use task_model::OutOfMemory;
+use typing::{block_differences, row_differences};
 
-#[test]
-fn worked_commands(rt: HostRuntime) -> Result<(), Fail> {
-    Ok(assert_blocks(&rt, worked_rows::WORKED_ROWS)?)
-}
+/// Tables of blocks, each with the size of the pieces in which its files are read and written.
+const TABLES: &[(&str, usize)] = &[
+    (worked_rows::WORKED_ROWS, 4_096),
+    (worked_rows::LONG_TEXTS, 4_096),
+    (worked_rows::LONG_WALKS, 4_096),
+    (worked_rows::SOAKS, 4_096),
+    (worked_rows::WORDS, 4_096),
+    (worked_rows::MILLION, 4_096),
+    (tutorial::TUTORIAL, 4_096),
+    (tutorial::REFUSED, 4_096),
+    (programs::PROGRAMS, 4_096),
+    (budgets::BUDGETS, 4_096),
+    (budgets::HEIGHTS, 4_096),
+    (refusals::REFUSALS, 4_096),
+    (scripts::SCRIPTS, 1),
+    (scripts::SCRIPTS, 7),
+    (scripts::SCRIPTS, 4_096),
+    (scripts::FAULTS, 10),
+    (scripts::LIMITS, 65_536),
+];
 
-#[test]
-fn a_million_units(rt: HostRuntime) -> Result<(), Fail> {
-    Ok(assert_blocks(&rt, worked_rows::MILLION)?)
-}
-
-#[test]
-fn long_texts(rt: HostRuntime) -> Result<(), Fail> {
-    Ok(assert_blocks(&rt, worked_rows::LONG_TEXTS)?)
-}
-
-#[test]
-fn programs_of_the_tutorial(rt: HostRuntime) -> Result<(), Fail> {
-    Ok(assert_blocks(&rt, tutorial::TUTORIAL)?)
-}
-
-#[test]
-fn programs_that_the_tutorial_refuses(rt: HostRuntime) -> Result<(), Fail> {
-    Ok(assert_blocks(&rt, tutorial::REFUSED)?)
-}
-
-#[test]
-fn long_walks(rt: HostRuntime) -> Result<(), Fail> {
-    Ok(assert_blocks(&rt, worked_rows::LONG_WALKS)?)
-}
-
-#[test]
-fn soaks(rt: HostRuntime) -> Result<(), Fail> {
-    Ok(assert_blocks(&rt, worked_rows::SOAKS)?)
-}
-
-#[test]
-fn worked_programs(rt: HostRuntime) -> Result<(), Fail> {
-    Ok(assert_blocks(&rt, programs::PROGRAMS)?)
-}
-
-#[test]
-fn worked_budgets(rt: HostRuntime) -> Result<(), Fail> {
-    Ok(assert_blocks(&rt, budgets::BUDGETS)?)
-}
-
-#[test]
-fn worked_heights(rt: HostRuntime) -> Result<(), Fail> {
-    Ok(assert_blocks(&rt, budgets::HEIGHTS)?)
-}
-
-#[test]
-fn right_words(rt: HostRuntime) -> Result<(), Fail> {
-    Ok(assert_blocks(&rt, worked_rows::WORDS)?)
-}
-
-const USAGE: &[u8] =
-    b"usage: tophat run FILE [--budget N] | check FILE | soak N SEED | drill SEATS N | serve FILE [--budget N] [--seats N] [--workers N] [--port N] [--connections N]\n";
-
-#[test]
-fn wrong_words(rt: HostRuntime) -> Result<(), Fail> {
-    for words in worked_rows::WRONG_WORDS.split('\n') {
-        expect(&rt, &Case { words, ..RUN }, 5, (2, b"", USAGE))?;
+fn table_differences(alloc: Global) -> Result<String, OutOfMemory> {
+    let mut found = String::new(alloc);
+    for (table, piece) in TABLES {
+        found.push_str(differences(alloc, table, *piece)?.as_str())?;
     }
-    Ok(expect(&rt, &Case { words: "", ..RUN }, 5, (2, b"", USAGE))?)
+    Ok(found)
 }
 
-// What a command that isn't a plain one is told: the file and the numbers, each behind a space but the first; or none where the words ask for
-// none.
-fn told_of(alloc: Global, text: &str) -> Result<String, OutOfMemory> {
-    let words = words(alloc, text)?;
-    let asked = read_command(alloc, words.as_slice());
-    match &asked {
-        Ok(Command::Drill { seats, each }) => Ok(format!(in alloc; "{seats} {each}")?),
-        Ok(Command::Serve { file, serving }) => serving_text(alloc, file.as_str(), *serving),
-        _ => Ok(String::new(alloc)),
-    }
-}
-
-fn serving_text(alloc: Global, file: &str, of: ServeWords) -> Result<String, OutOfMemory> {
-    let seats = format!(in alloc; "{file} {} {} {}", of.budget, of.seats, of.workers)?;
-    Ok(format!(in alloc; "{seats} {} {}", of.port, of.connections)?)
-}
-
-// The words of `drill` and `serve` are read, and nothing of them is a plain command.
 #[test]
-fn other_words(rt: HostRuntime) -> Result<(), Fail> {
-    for rows in [worked_rows::DRILL_WORDS, worked_rows::SERVED_WORDS] {
-        for row in rows.split('\n') {
-            let (words, want) = row.split_once(" = ").unwrap_or((row, ""));
-            assert_eq!(rt; told_of(rt.alloc(), words)?.as_str(), want, "{row}");
-            let (status, out, err) = run(rt.alloc(), &Case { words, ..RUN }, 5)?;
-            assert_eq!(rt; status, None, "{row}");
-            assert!(rt; out.taken().is_empty(), "{row}");
-            assert!(rt; err.taken().is_empty(), "{row}");
-        }
-    }
+fn commands_on_programs_and_scripts(rt: HostRuntime) -> Result<(), Fail> {
+    let found = table_differences(rt.alloc())?;
+    assert!(rt; found.is_empty(), "{}", found.as_str());
     Ok(())
 }
 
-#[test]
-fn refused_programs(rt: HostRuntime) -> Result<(), Fail> {
-    assert_blocks(&rt, refusals::REFUSALS)?;
+// Scripts of the most bytes, and of one more.
+fn long_differences(alloc: Global) -> Result<String, OutOfMemory> {
+    let longest = worded::long_script(alloc, "0", "")?;
+    let mut found = differences(alloc, longest.as_str(), 65_536)?;
+    let longer = worded::long_script(alloc, "7 tophat: input too long", "\n> #\\")?;
+    found.push_str(differences(alloc, longer.as_str(), 65_536)?.as_str())?;
+    Ok(found)
+}
+
+fn no_text_difference(alloc: Global) -> Result<String, OutOfMemory> {
     let case = Case {
         program: b"task \xff",
         ..RUN
     };
-    let error = b"tophat: p.th: byte 5: NotUtf8\n";
-    Ok(expect(&rt, &case, 5, (1, b"", error))?)
+    let told = told(alloc, &case, 5)?;
+    let wanted = "= 1\ntophat: p.th: byte 5: NotUtf8\n";
+    compared(alloc, "no text", told.as_str(), wanted)
+}
+
+fn word_differences(alloc: Global) -> Result<String, OutOfMemory> {
+    let words = worded::wrong_words(alloc, worked_rows::WRONG_WORDS)?;
+    let mut found = differences(alloc, words.as_str(), 4_096)?;
+    let lines = worded::bad_lines(alloc, refusals::BAD_LINES)?;
+    found.push_str(differences(alloc, lines.as_str(), 7)?.as_str())?;
+    for rows in [worked_rows::DRILL_WORDS, worked_rows::SERVED_WORDS] {
+        found.push_str(worded::word_differences(alloc, rows)?.as_str())?;
+    }
+    Ok(found)
+}
+
+fn other_differences(alloc: Global) -> Result<String, OutOfMemory> {
+    let mut found = word_differences(alloc)?;
+    found.push_str(no_text_difference(alloc)?.as_str())?;
+    found.push_str(long_differences(alloc)?.as_str())?;
+    Ok(found)
 }
 
 #[test]
-fn bad_lines(rt: HostRuntime) -> Result<(), Fail> {
-    let alloc = rt.alloc();
-    for row in refusals::BAD_LINES.split('\n') {
-        let (column, line) = row.split_once(' ').unwrap_or((row, ""));
-        let error = format!(in alloc; "tophat: line 1 column {column}\n")?;
-        let case = Case {
-            script: line.as_bytes(),
-            ..RUN
-        };
-        expect(&rt, &case, 7, (3, b"", error.as_str().as_bytes()))?;
-    }
+fn words_lines_and_long_scripts(rt: HostRuntime) -> Result<(), Fail> {
+    let found = other_differences(rt.alloc())?;
+    assert!(rt; found.is_empty(), "{}", found.as_str());
     Ok(())
 }
 
-#[test]
-fn scripts(rt: HostRuntime) -> Result<(), Fail> {
-    let table: [(&[u8], u8, &[u8], &[u8]); 5] = [
-        (b"", 0, b"", b""),
-        (
-            b"1 .F set 7\n1 . set 1\n# as before\n1 . next\n2 show",
-            0,
-            b"taken 1\nnot offered\nnot offered\nversion 1 seat 2\n. and\n.F edit int 7\n.S enter int\n",
-            b"",
-        ),
-        (
-            b"\n64 .F set -9223372036854775808\r\n\r\n1 .S set 0007\n64 show\n",
-            0,
-            b"taken 1\ntaken 2\nversion 2 seat 64\n. and\n.F edit int -9223372036854775808\n.S edit int 7\n",
-            b"",
-        ),
-        (
-            b"1 .F set 1\n65 show\n1 show\n",
-            3,
-            b"taken 1\n",
-            b"tophat: line 2 column 2\n",
-        ),
-        (b"1 show\rx\n1 show", 3, b"", b"tophat: line 1 column 8\n"),
-    ];
-    for (script, status, out, err) in table {
-        for piece in [1, 7, 4096] {
-            expect(&rt, &Case { script, ..RUN }, piece, (status, out, err))?;
-        }
+/// Rows of functions and tasks.
+const ROWS: &[(&str, &str)] = &[
+    ("fun", typing::expressions::FORMS),
+    ("fun", typing::expressions::LATER_NODES),
+    ("task", typing::tasks::FORMS),
+    ("task", typing::tasks::LATER_NODES),
+];
+
+const WHOLE: &[&str] = &[
+    typing::programs::DEFINITIONS,
+    typing::programs::ORDER,
+    typing::programs::SCOPES,
+    typing::programs::SYMBOLS,
+];
+
+fn type_differences(alloc: Global) -> Result<String, OutOfMemory> {
+    let mut found = String::new(alloc);
+    for (word, rows) in ROWS {
+        found.push_str(row_differences(alloc, word, rows)?.as_str())?;
     }
-    Ok(())
+    for blocks in WHOLE {
+        found.push_str(block_differences(alloc, blocks)?.as_str())?;
+    }
+    Ok(found)
 }
 
 #[test]
-fn faults(rt: HostRuntime) -> Result<(), Fail> {
-    let page = b"version 0 seat 1\n. and\n.F edit int 1\n.S enter int\n".as_slice();
-    let script = b"1 show\nx".as_slice();
-    // In pieces of 8 bytes. A fault of the error sink changes no status.
-    let table: [([u64; 4], u8, &[u8], &[u8]); 7] = [
-        ([1, 0, 0, 0], 5, b"", b"tophat: read fault\n"),
-        ([0, 1, 0, 0], 5, b"", b"tophat: read fault\n"),
-        ([0, 2, 0, 0], 5, page, b"tophat: read fault\n"),
-        ([0, 0, 1, 0], 6, b"", b"tophat: write fault\n"),
-        ([0, 0, 2, 0], 6, b"version ", b"tophat: write fault\n"),
-        ([0, 0, 0, 1], 3, page, b""),
-        ([0, 0, 0, 2], 3, page, b"tophat: "),
-    ];
-    for (fails, status, out, err) in table {
-        expect(
-            &rt,
-            &Case {
-                script,
-                fails,
-                ..RUN
-            },
-            8,
-            (status, out, err),
-        )?;
-    }
-    Ok(())
-}
-
-// The second read fails: what was read before is answered.
-#[test]
-fn a_read_that_fails_behind_an_input(rt: HostRuntime) -> Result<(), Fail> {
-    let case = Case {
-        program: b"task main() : int = enter int >>? x . edit (x + 1)",
-        script: b"1 . set 4\n1 show",
-        fails: [0, 2, 0, 0],
-        ..RUN
-    };
-    let error = b"tophat: read fault\n";
-    Ok(expect(&rt, &case, 10, (5, b"taken 1\n", error))?)
-}
-
-// `check` asks for the file as `run` does, and `soak` for none. Neither reads the input.
-#[test]
-fn faults_of_other_commands(rt: HostRuntime) -> Result<(), Fail> {
-    for words in ["check p.th", "soak 1 3"] {
-        let fails = [0, 1, 1, 0];
-        let case = Case {
-            words,
-            fails,
-            ..RUN
-        };
-        expect(&rt, &case, 64, (6, b"", b"tophat: write fault\n"))?;
-    }
-    let case = Case {
-        words: "check p.th",
-        fails: [1, 0, 0, 0],
-        ..RUN
-    };
-    let error = b"tophat: read fault\n";
-    Ok(expect(&rt, &case, 64, (5, b"", error))?)
-}
-
-// The text, behind so many bytes and before so many others.
-fn between(
-    alloc: Global,
-    text: &[u8],
-    before: (u8, usize),
-    behind: (u8, usize),
-) -> Result<Row<u8>, OutOfMemory> {
-    let mut row = Row::new(alloc);
-    for _ in 0..before.1 {
-        row.push(before.0)?;
-    }
-    row.extend(text)?;
-    for _ in 0..behind.1 {
-        row.push(behind.0)?;
-    }
-    Ok(row)
-}
-
-// An edit and its number are two levels, and each pair of parentheses is one.
-#[test]
-fn levels(rt: HostRuntime) -> Result<(), Fail> {
-    let alloc = rt.alloc();
-    let shown = b"version 0 seat 1\n. edit int 5\n".as_slice();
-    let table: [(usize, u8, &[u8], &[u8]); 2] = [
-        (198, 0, shown, b""),
-        (199, 1, b"", b"tophat: p.th: byte 219: TooNested\n"),
-    ];
-    for (count, status, out, err) in table {
-        let body = between(alloc, b"edit 5", (b'(', count), (b')', count))?;
-        let mut program = bytes(alloc, b"task main() : int = ")?;
-        program.extend(body.as_slice())?;
-        let case = Case {
-            program: program.as_slice(),
-            script: b"1 show",
-            ..RUN
-        };
-        expect(&rt, &case, 64, (status, out, err))?;
-    }
-    Ok(())
-}
-
-const MOST: usize = 1_048_576;
-
-// At the limit, and with one byte more.
-#[test]
-fn long_files(rt: HostRuntime) -> Result<(), Fail> {
-    let table: [(usize, u8, &[u8]); 2] = [
-        (MOST, 0, b""),
-        (MOST + 1, 7, b"tophat: p.th: too long\n"),
-    ];
-    for (length, status, err) in table {
-        let blanks = length.saturating_sub(PAIR.len());
-        let program = between(rt.alloc(), PAIR, (b' ', blanks), (b' ', 0))?;
-        let case = Case {
-            program: program.as_slice(),
-            ..RUN
-        };
-        expect(&rt, &case, 65_536, (status, b"", err))?;
-    }
-    Ok(())
-}
-
-#[test]
-fn long_lines(rt: HostRuntime) -> Result<(), Fail> {
-    let table: [(usize, u8, &[u8], &[u8]); 2] = [
-        (MOST, 0, b"taken 1\n", b""),
-        (MOST + 1, 3, b"", b"tophat: line 1 column 1048577\n"),
-    ];
-    for (length, status, out, err) in table {
-        let zeros = length.saturating_sub(10);
-        let mut script = bytes(rt.alloc(), b"1 .F set ")?;
-        let number = between(rt.alloc(), b"7", (b'0', zeros), (b' ', 0))?;
-        script.extend(number.as_slice())?;
-        let case = Case {
-            script: script.as_slice(),
-            ..RUN
-        };
-        expect(&rt, &case, 65_536, (status, out, err))?;
-    }
-    Ok(())
-}
-
-// 64 lines of comment of the most bytes, each with its LF, fill a script to its limit; one byte more is too much.
-#[test]
-fn long_scripts(rt: HostRuntime) -> Result<(), Fail> {
-    let comment = between(rt.alloc(), b"\n", (b'#', MOST - 1), (b' ', 0))?;
-    let mut script = Row::new(rt.alloc());
-    for _ in 0..64 {
-        script.extend(comment.as_slice())?;
-    }
-    assert_eq!(rt; script.as_slice().len(), 67_108_864);
-    let table: [(&[u8], u8, &[u8]); 2] = [(b"", 0, b""), (b"#", 7, b"tophat: input too long\n")];
-    for (more, status, err) in table {
-        script.extend(more)?;
-        let case = Case {
-            script: script.as_slice(),
-            ..RUN
-        };
-        expect(&rt, &case, 65_536, (status, b"", err))?;
-    }
-    Ok(())
-}
-
-// How many bytes a source has left, if few.
-fn left<I: Source>(input: &mut I) -> u64 {
-    let mut room = [0u8; 64];
-    let mut count: u64 = 0;
-    for _ in 0..8 {
-        if let Got::Took(some) = input.read(&mut room) {
-            count = count.saturating_add(some as u64);
-        }
-    }
-    count
-}
-
-// Three pages are asked for, in pieces of this size; the write of this number fails. The status, and how many bytes are then left.
-fn stopped_at(alloc: Global, piece: usize, write: u64) -> Result<(Option<u8>, u64), OutOfMemory>
-    requires { 0 < piece }
-{
-    let words = words(alloc, RUN.words)?;
-    let mut files = files(alloc, PAIR, 0)?;
-    let script = bytes(alloc, b"1 show\n1 show\n1 show\n")?;
-    let mut input = MemSource::new(script, piece, Row::new(alloc));
-    let mut out = MemSink::new(alloc, 4_096, one(alloc, write)?);
-    let mut err = MemSink::new(alloc, 4_096, Row::new(alloc));
-    let status = plain(
-        alloc,
-        words.as_slice(),
-        &mut files,
-        &mut input,
-        &mut out,
-        &mut err,
-    );
-    Ok((status, left(&mut input)))
-}
-
-// The input is read no further than the lines whose answers can't be written, and what came with them. The answers to the lines of one piece
-// are one write.
-#[test]
-fn nothing_is_read_before_what_came_is_answered(rt: HostRuntime) -> Result<(), Fail> {
-    for (piece, write, want) in [
-        (7, 1, 14),
-        (7, 2, 7),
-        (7, 3, 0),
-        (10, 1, 11),
-        (10, 2, 1),
-        (14, 1, 7),
-        (14, 2, 0),
-    ] {
-        assert_eq!(rt; stopped_at(rt.alloc(), piece, write)?, (Some(6), want));
-    }
+fn first_faults_of_types(rt: HostRuntime) -> Result<(), Fail> {
+    let found = type_differences(rt.alloc())?;
+    assert!(rt; found.is_empty(), "{}", found.as_str());
     Ok(())
 }

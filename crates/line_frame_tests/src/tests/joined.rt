@@ -1,12 +1,9 @@
-ghost use Rattle.std.specs.Prelude.{◌<◌};
-
 use super::counter::Counter;
 use super::judge::Judge;
-use super::row;
+use super::{row, told};
 use line_frame::{Finish, run_script};
 use outer_io::{MemSink, MemSource};
 use std::alloc::Global;
-use std::process::Abort;
 use std::test::Fail;
 use task_model::OutOfMemory;
 
@@ -17,10 +14,8 @@ fn counted(
     script: &[u8],
     piece: usize,
     size: usize,
-) -> Result<(Finish, u64, usize), OutOfMemory>
-    requires { 0 < piece }
-{
-    let mut input = MemSource::new(row(alloc, script)?, piece, row(alloc, &[])?);
+) -> Result<(Finish, u64, usize), OutOfMemory> {
+    let mut input = MemSource::new(row(alloc, script)?, piece.max(1), row(alloc, &[])?);
     let mut out = Counter {
         writes: 0,
         bytes: 0,
@@ -29,86 +24,61 @@ fn counted(
     Ok((finish, out.writes, out.bytes))
 }
 
+const SIX: &[u8] = b"a\nb\nc\nd\ne\nf\n";
+
+const TWELVE: &[u8] = b"a\nb\nc\nd\ne\nf\ng\nh\ni\nj\nk\nl\n";
+
+const COUNTS: &[(&[u8], usize, usize, u64, usize)] = &[
+    (SIX, 99, 3, 1, 18),
+    (SIX, 6, 3, 2, 18),
+    (SIX, 4, 3, 3, 18),
+    (SIX, 1, 3, 6, 18),
+    (SIX, 99, 0, 0, 0),
+    (SIX, 99, 8191, 1, 49146),
+    (SIX, 99, 8192, 6, 49152),
+    (b"a\nb\nc", 99, 3, 2, 9),
+    (TWELVE, 99, 8000, 2, 96000),
+];
+
 #[test]
 fn the_lines_of_one_piece_are_answered_in_one_write(rt: HostRuntime) -> Result<(), Fail> {
-    let script = b"a\nb\nc\nd\ne\nf\n";
-    let table: [(usize, usize, u64, usize); 7] = [
-        (99, 3, 1, 18),
-        (6, 3, 2, 18),
-        (4, 3, 3, 18),
-        (1, 3, 6, 18),
-        (99, 0, 0, 0),
-        (99, 8191, 1, 49146),
-        (99, 8192, 6, 49152),
-    ];
-    for (piece, size, writes, bytes) in table {
-        assert_eq!(rt;
-            counted(rt.alloc(), script, piece, size)?,
-            (Finish::Done, writes, bytes)
-        );
+    for (script, piece, size, writes, bytes) in COUNTS {
+        let told = counted(rt.alloc(), script, *piece, *size)?;
+        assert_eq!(rt; told, (Finish::Done, *writes, *bytes));
     }
-    assert_eq!(rt;
-        counted(rt.alloc(), b"a\nb\nc", 99, 3)?,
-        (Finish::Done, 2, 9)
-    );
-    assert_eq!(rt;
-        counted(
-            rt.alloc(),
-            b"a\nb\nc\nd\ne\nf\ng\nh\ni\nj\nk\nl\n",
-            99,
-            8000
-        )?,
-        (Finish::Done, 2, 96000)
-    );
     Ok(())
 }
 
-// A script that comes in one piece, with answers of two bytes. A write takes at most three bytes, and the one of this
-// number fails.
-fn answered(
-    rt: &(impl AllocGlobal + Abort),
-    script: &[u8],
-    write: u64,
-    want: (Finish, &[u8]),
-) -> Result<(), OutOfMemory> {
-    let alloc = rt.alloc();
+// What comes of a script in one piece, with answers of two bytes. A write takes at most three bytes, and the one of this number fails.
+fn answered(alloc: Global, script: &[u8], write: u64) -> Result<String, OutOfMemory> {
     let mut input = MemSource::new(row(alloc, script)?, 99, row(alloc, &[])?);
     let mut out = MemSink::new(alloc, 3, row(alloc, &[write])?);
     let finish = run_script(alloc, &mut Judge { size: 2 }, &mut input, &mut out, 9);
-    assert_eq!(rt; finish, want.0);
-    assert_eq!(rt; out.taken(), want.1);
-    Ok(())
+    told(alloc, finish, &out)
 }
+
+// What is due is written before a run ends, and a write that fails ends it in the middle of the answers.
+const ANSWERS: &[(&[u8], u64, &str)] = &[
+    (b"a\nb\n!\nc\n", 0, "Bad { line: 3, column: 7 } yyyy"),
+    (b"a\nb\n?\nc\n", 0, "Memory yyyy"),
+    (b"a\nb\nc\nd\ne\n", 0, "InputTooLong yyyyyyyy"),
+    (b"a\nb\nc", 0, "Done yyyyyy"),
+    (b"a\nb\n!", 0, "Bad { line: 3, column: 7 } yyyy"),
+    (b"a\nb\nc\n", 1, "WriteFault "),
+    (b"a\nb\nc\n", 2, "WriteFault yyy"),
+    (b"a\nb\n!\nc\n", 1, "WriteFault "),
+    (b"a\nb\n!\nc\n", 2, "WriteFault yyy"),
+    (b"a\nb\n?\nc\n", 1, "WriteFault "),
+    (b"a\nb\n?\nc\n", 2, "WriteFault yyy"),
+    (b"a\nb\nc\nd\ne\n", 1, "WriteFault "),
+    (b"a\nb\nc\nd\ne\n", 2, "WriteFault yyy"),
+];
 
 #[test]
 fn what_is_due_is_written_before_a_run_ends(rt: HostRuntime) -> Result<(), Fail> {
-    let bad = Finish::Bad { line: 3, column: 7 };
-    answered(&rt, b"a\nb\n!\nc\n", 0, (bad, b"yyyy"))?;
-    answered(&rt, b"a\nb\n?\nc\n", 0, (Finish::Memory, b"yyyy"))?;
-    answered(
-        &rt,
-        b"a\nb\nc\nd\ne\n",
-        0,
-        (Finish::InputTooLong, b"yyyyyyyy"),
-    )?;
-    answered(&rt, b"a\nb\nc", 0, (Finish::Done, b"yyyyyy"))?;
-    answered(&rt, b"a\nb\n!", 0, (bad, b"yyyy"))?;
-    Ok(())
-}
-
-#[test]
-fn a_write_that_fails_ends_the_run_in_the_middle_of_the_answers(
-    rt: HostRuntime,
-) -> Result<(), Fail> {
-    let scripts: [&[u8]; 4] = [
-        b"a\nb\nc\n",
-        b"a\nb\n!\nc\n",
-        b"a\nb\n?\nc\n",
-        b"a\nb\nc\nd\ne\n",
-    ];
-    for script in scripts {
-        answered(&rt, script, 1, (Finish::WriteFault, b""))?;
-        answered(&rt, script, 2, (Finish::WriteFault, b"yyy"))?;
+    for (script, write, want) in ANSWERS {
+        let told = answered(rt.alloc(), script, *write)?;
+        assert_eq!(rt; told.as_str(), *want);
     }
     Ok(())
 }

@@ -71,29 +71,27 @@ fn client(rt: &HostRuntime, addr: SocketAddr, bytes: &[u8]) -> Result<TcpStream,
     Ok(client)
 }
 
-#[test]
-fn requests_in_pieces_of_one_byte_are_handed_out_whole(rt: HostRuntime) -> Result<(), Fail> {
-    let (mut gate, addr) = gate(&rt)?;
+// Requests in pieces of one byte are handed out whole.
+fn in_pieces<G: Gate>(rt: &HostRuntime, gate: &mut G, addr: SocketAddr) -> Result<(), Fail> {
     for request in [ASK, POST] {
-        let mut asks = client(&rt, addr, b"")?;
+        let mut asks = client(rt, addr, b"")?;
         for byte in request {
             asks.write_all(&[*byte])?;
         }
-        gives(&mut gate, request)?;
+        gives(gate, request)?;
     }
     Ok(())
 }
 
-#[test]
-fn bytes_behind_the_first_request_are_given_too(rt: HostRuntime) -> Result<(), Fail> {
-    let (mut gate, addr) = gate(&rt)?;
+// Bytes behind the first request are given, too.
+fn behind_the_first<G: Gate>(rt: &HostRuntime, gate: &mut G, addr: SocketAddr) -> Result<(), Fail> {
     let mut all = Vec::new(rt.alloc());
     for part in [ASK, POST, ASK, PART] {
         all.extend_from_slice(part)?;
     }
-    let asks = client(&rt, addr, all.as_slice())?;
+    let asks = client(rt, addr, all.as_slice())?;
     asks.shutdown(Shutdown::Write)?;
-    gives(&mut gate, all.as_slice())
+    gives(gate, all.as_slice())
 }
 
 // A client sends these bytes, which the gate hands out.
@@ -126,24 +124,21 @@ fn both_go_on<G: Gate>(
     gives(gate, POST)
 }
 
-#[test]
-fn clients_that_send_no_whole_request_hold_up_nobody(rt: HostRuntime) -> Result<(), Fail> {
-    let (mut gate, addr) = gate(&rt)?;
-    let mut silent = client(&rt, addr, b"")?;
-    let mut slow = client(&rt, addr, PART)?;
-    // a client that goes is no link, whatever it has sent
+// Clients that send no whole request hold up nobody. One that goes is no link, whatever it has sent.
+fn beside_others<G: Gate>(rt: &HostRuntime, gate: &mut G, addr: SocketAddr) -> Result<(), Fail> {
+    let mut silent = client(rt, addr, b"")?;
+    let mut slow = client(rt, addr, PART)?;
     for sent in [b"".as_slice(), b"\r\n", PART] {
-        goes(&rt, addr, sent)?;
+        goes(rt, addr, sent)?;
     }
-    asks(&rt, &mut gate, addr, ASK)?;
-    both_go_on(&mut gate, &mut silent, &mut slow)
+    asks(rt, gate, addr, ASK)?;
+    both_go_on(gate, &mut silent, &mut slow)
 }
 
-#[test]
-fn what_is_refused_is_handed_out(rt: HostRuntime) -> Result<(), Fail> {
-    let (mut gate, addr) = gate(&rt)?;
-    asks(&rt, &mut gate, addr, b"hello\r\n\r\n")?;
-    asks(&rt, &mut gate, addr, &[b'a'; 8192])
+// What is refused is handed out.
+fn of_no_request<G: Gate>(rt: &HostRuntime, gate: &mut G, addr: SocketAddr) -> Result<(), Fail> {
+    asks(rt, gate, addr, b"hello\r\n\r\n")?;
+    asks(rt, gate, addr, &[b'a'; 8192])
 }
 
 // Whether a link was ended.
@@ -165,14 +160,15 @@ fn is_over_time<G: Gate>(
     is_ended(slow)
 }
 
-#[test]
-fn a_client_whose_time_is_over_is_closed(rt: HostRuntime) -> Result<(), Fail> {
-    let (mut gate, addr) = gate(&rt)?;
-    let mut silent = client(&rt, addr, b"")?;
-    let mut slow = client(&rt, addr, PART)?;
-    assert!(rt; is_over_time(&rt, &mut gate, addr, &mut slow)?);
+// A client whose time is over is closed, and one that sends nothing so far is not.
+fn too_late<G: Gate>(rt: &HostRuntime, gate: &mut G, addr: SocketAddr) -> Result<(), Fail> {
+    let mut silent = client(rt, addr, b"")?;
+    let mut slow = client(rt, addr, PART)?;
+    if !is_over_time(rt, gate, addr, &mut slow)? {
+        return Err(Fail::from("the link wasn't ended"));
+    }
     silent.write_all(POST)?;
-    gives(&mut gate, POST)
+    gives(gate, POST)
 }
 
 // So many clients that send nothing, and then one that asks.
@@ -188,17 +184,61 @@ fn crowd<G: Gate>(
     asks(rt, gate, addr, ASK)
 }
 
-#[test]
-fn of_many_silent_clients_those_that_came_first_are_closed(rt: HostRuntime) -> Result<(), Fail> {
-    let (mut gate, addr) = gate(&rt)?;
-    let mut first = client(&rt, addr, b"")?;
+// Of many clients that send nothing those that came first are closed.
+fn in_a_crowd<G: Gate>(rt: &HostRuntime, gate: &mut G, addr: SocketAddr) -> Result<(), Fail> {
+    let mut first = client(rt, addr, b"")?;
     let mut silent = Vec::new(rt.alloc());
     for _ in 0..3 {
-        crowd(&rt, &mut gate, addr, &mut silent)?;
+        crowd(rt, gate, addr, &mut silent)?;
     }
-    assert!(rt; is_ended(&mut first)?);
+    if !is_ended(&mut first)? {
+        return Err(Fail::from("the link wasn't ended"));
+    }
     if let Some(last) = silent.last_mut() {
         last.write_all(POST)?;
     }
-    gives(&mut gate, POST)
+    gives(gate, POST)
+}
+
+/// What is tried at a gate of its own.
+#[derive(Clone, Copy)]
+enum Trial {
+    InPieces,
+    BehindTheFirst,
+    BesideOthers,
+    OfNoRequest,
+    TooLate,
+    InACrowd,
+}
+
+fn tried<G: Gate>(
+    rt: &HostRuntime,
+    gate: &mut G,
+    addr: SocketAddr,
+    trial: Trial,
+) -> Result<(), Fail> {
+    match trial {
+        Trial::InPieces => in_pieces(rt, gate, addr),
+        Trial::BehindTheFirst => behind_the_first(rt, gate, addr),
+        Trial::BesideOthers => beside_others(rt, gate, addr),
+        Trial::OfNoRequest => of_no_request(rt, gate, addr),
+        Trial::TooLate => too_late(rt, gate, addr),
+        Trial::InACrowd => in_a_crowd(rt, gate, addr),
+    }
+}
+
+#[test]
+fn links_of_a_listener(rt: HostRuntime) -> Result<(), Fail> {
+    for trial in [
+        Trial::InPieces,
+        Trial::BehindTheFirst,
+        Trial::BesideOthers,
+        Trial::OfNoRequest,
+        Trial::TooLate,
+        Trial::InACrowd,
+    ] {
+        let (mut gate, addr) = gate(&rt)?;
+        tried(&rt, &mut gate, addr, trial)?;
+    }
+    Ok(())
 }

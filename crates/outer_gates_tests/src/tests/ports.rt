@@ -1,13 +1,13 @@
 use crate::tests::listening::{ASK, first, gives, times};
 use crate::tests::memory::two_links;
-use outer_gates::{ListenerGate, MemGate};
+use outer_gates::{Gate, ListenerGate, MemGate};
 use outer_ports::{Listening, MemPorts, Ports, SystemPorts};
 use std::alloc::Global;
 use std::io::Write;
 use std::net::{Net, TcpListener, TcpStream};
 use std::test::Fail;
 use std::time::Clock;
-use task_model::Row;
+use task_model::{OutOfMemory, Row};
 
 // What comes of a call for a gate, in a word. A gate is dropped.
 fn answered<P: Ports>(ports: &mut P, alloc: Global, port: u16) -> &'static str {
@@ -32,31 +32,50 @@ fn free_port(rt: &HostRuntime) -> Result<u16, Fail> {
     Ok(TcpListener::bind(rt, "127.0.0.1:0")?.local_addr()?.port())
 }
 
+// What comes of calls for gates at these ports, in words.
+fn all_answered<P: Ports>(
+    ports: &mut P,
+    alloc: Global,
+    asked: &[u16],
+) -> Result<String, OutOfMemory> {
+    let mut text = String::new(alloc);
+    for port in asked {
+        text.push_str(answered(ports, alloc, *port))?;
+        text.push(' ')?;
+    }
+    Ok(text)
+}
+
 #[test]
 fn ports_in_memory_have_one_gate(rt: HostRuntime) -> Result<(), Fail> {
     let alloc = rt.alloc();
     let gate = MemGate::new(alloc, two_links(alloc)?, Row::new(alloc))?;
     let mut ports = MemPorts::new(80, Some(gate));
-    assert_eq!(rt; answered(&mut ports, alloc, 81), "failed");
-    assert_eq!(rt; answered(&mut ports, alloc, 80), "gate");
-    assert_eq!(rt; answered(&mut ports, alloc, 80), "failed");
-    let mut none = MemPorts::new(80, None);
-    assert_eq!(rt; answered(&mut none, alloc, 80), "failed");
+    let told = all_answered(&mut ports, alloc, &[81, 80, 80])?;
+    assert_eq!(rt; told.as_str(), "failed gate failed ");
     Ok(())
+}
+
+#[test]
+fn ports_in_memory_may_have_none(rt: HostRuntime) {
+    let mut ports = MemPorts::new(80, None);
+    assert_eq!(rt; answered(&mut ports, rt.alloc(), 80), "failed");
+}
+
+// A client asks at this port, where the gate hands out its request.
+fn asks_at<G: Gate>(rt: &HostRuntime, gate: &mut G, port: u16) -> Result<(), Fail> {
+    let mut asks = TcpStream::connect(rt, ("127.0.0.1", port))?;
+    asks.write_all(ASK)?;
+    gives(gate, ASK)
 }
 
 #[test]
 fn a_free_port_of_this_machine_has_a_gate(rt: HostRuntime) -> Result<(), Fail> {
     let port = free_port(&rt)?;
     match listen_at(&rt, rt.alloc(), port) {
-        Listening::Gate(mut gate) => {
-            let mut asks = TcpStream::connect(&rt, ("127.0.0.1", port))?;
-            asks.write_all(ASK)?;
-            gives(&mut gate, ASK)?;
-        }
-        _ => return Err(Fail::from("no gate")),
+        Listening::Gate(mut gate) => asks_at(&rt, &mut gate, port),
+        _ => Err(Fail::from("no gate")),
     }
-    Ok(())
 }
 
 #[test]

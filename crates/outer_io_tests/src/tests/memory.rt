@@ -1,7 +1,7 @@
-use super::shown;
+use super::{answers, shown};
 use outer_io::{
-    Files, Got, MemFiles, MemSink, MemSource, PlainFiles, PlainSource, Put, Sink, Source, Written,
-    write_all, write_four, write_two,
+    Files, MemFiles, MemSink, MemSource, PlainFiles, PlainSource, Sink, Source, write_all,
+    write_four, write_two,
 };
 use std::alloc::Global;
 use std::test::Fail;
@@ -13,77 +13,113 @@ fn bytes(alloc: Global, text: &[u8]) -> Result<Row<u8>, OutOfMemory> {
     Ok(row)
 }
 
-fn calls(alloc: Global, failing: &[u64]) -> Result<Row<u64>, OutOfMemory> {
+fn call(alloc: Global, failing: u64) -> Result<Row<u64>, OutOfMemory> {
     let mut row = Row::new(alloc);
-    for call in failing {
-        row.push(*call)?;
-    }
+    row.push(failing)?;
     Ok(row)
 }
 
 fn names(alloc: Global) -> Result<Row<TaskText>, OutOfMemory> {
     let mut row = Row::new(alloc);
-    row.push(TaskText::of(alloc, "a")?)?;
-    row.push(TaskText::of(alloc, "b")?)?;
-    row.push(TaskText::of(alloc, "a")?)?;
+    for name in ["a", "b", "a"] {
+        row.push(TaskText::of(alloc, name)?)?;
+    }
     Ok(row)
 }
 
 fn contents(alloc: Global) -> Result<Row<Row<u8>>, OutOfMemory> {
     let mut row = Row::new(alloc);
-    row.push(bytes(alloc, b"one")?)?;
-    row.push(bytes(alloc, b"")?)?;
-    row.push(bytes(alloc, b"two")?)?;
+    for text in ["one", "", "two"] {
+        row.push(bytes(alloc, text.as_bytes())?)?;
+    }
     Ok(row)
 }
 
-#[test]
-fn a_source_gives_pieces_and_fails_at_its_calls(rt: HostRuntime) -> Result<(), Fail> {
-    let alloc = rt.alloc();
-    let mut source = MemSource::new(bytes(alloc, b"abcdefg")?, 4, calls(alloc, &[2])?);
-    let mut room = [0u8; 5];
-    for want in [Got::Took(4), Got::Failed, Got::Took(3), Got::End, Got::End] {
-        assert_eq!(rt; source.read(&mut room), want);
+// What reads into five bytes answer, and the bytes that are then there.
+fn reads<S: Source>(alloc: Global, source: &mut S, times: u32) -> Result<String, OutOfMemory> {
+    let mut room = *b".....";
+    let mut text = answers(alloc, source, &mut room, times)?;
+    match str::from_utf8(&room) {
+        Ok(bytes) => text.push_str(bytes)?,
+        Err(_) => text.push_str("no text")?,
     }
-    assert_eq!(rt; room.as_slice(), b"efgd\0".as_slice());
+    Ok(text)
+}
+
+fn source_told(alloc: Global) -> Result<String, OutOfMemory> {
+    let mut source = MemSource::new(bytes(alloc, b"abcdefg")?, 4, call(alloc, 2)?);
+    reads(alloc, &mut source, 5)
+}
+
+fn plain_source_told(alloc: Global) -> Result<String, OutOfMemory> {
     let mut source = PlainSource::new(bytes(alloc, b"abc")?, 9);
-    for want in [Got::Took(3), Got::End] {
-        assert_eq!(rt; source.read(&mut room), want);
-    }
-    Ok(())
+    reads(alloc, &mut source, 2)
 }
 
-#[test]
-fn a_sink_takes_pieces_and_fails_at_its_calls(rt: HostRuntime) -> Result<(), Fail> {
-    let alloc = rt.alloc();
-    let mut sink = MemSink::new(alloc, 3, calls(alloc, &[3])?);
-    assert_eq!(rt; sink.write(b"abcd"), Put::Took(3));
-    assert_eq!(rt; write_all(&mut sink, b"defgh"), Written::Failed);
-    assert_eq!(rt; write_two(&mut sink, b"1", b"2345"), Written::Whole);
-    assert_eq!(rt;
-        write_four(&mut sink, b"6", b"", b"7", b"8"),
-        Written::Whole
-    );
-    assert_eq!(rt; sink.taken(), b"abcdef12345678".as_slice());
-    Ok(())
+// What writes in turn answer.
+fn writes<S: Sink>(alloc: Global, sink: &mut S) -> Result<String, OutOfMemory> {
+    let one = sink.write(b"abcd");
+    let all = write_all(sink, b"defgh");
+    let two = write_two(sink, b"1", b"2345");
+    let four = write_four(sink, b"6", b"", b"7", b"8");
+    Ok(format!(in alloc; "{one:?} {all:?} {two:?} {four:?} ")?)
 }
 
-#[test]
-fn files_are_found_by_their_names(rt: HostRuntime) -> Result<(), Fail> {
-    let alloc = rt.alloc();
-    let (a, b, c) = (
-        TaskText::of(alloc, "a")?,
-        TaskText::of(alloc, "b")?,
-        TaskText::of(alloc, "c")?,
-    );
-    let mut plain = PlainFiles::new(names(alloc)?, contents(alloc)?);
-    assert_eq!(rt; shown(&plain.read_whole(alloc, &a, 3)), "one");
-    assert_eq!(rt; shown(&plain.read_whole(alloc, &a, 2)), "too long");
-    assert_eq!(rt; shown(&plain.read_whole(alloc, &b, 0)), "");
-    assert_eq!(rt; shown(&plain.read_whole(alloc, &c, 9)), "absent");
-    let mut files = MemFiles::new(names(alloc)?, contents(alloc)?, calls(alloc, &[2])?);
-    for want in ["one", "failed", "one"] {
-        assert_eq!(rt; shown(&files.read_whole(alloc, &a, 3)), want);
+// The same, and what was taken.
+fn sink_told(alloc: Global) -> Result<String, OutOfMemory> {
+    let mut sink = MemSink::new(alloc, 3, call(alloc, 3)?);
+    let mut text = writes(alloc, &mut sink)?;
+    text.push_str(str::from_utf8(sink.taken()).unwrap_or("no text"))?;
+    Ok(text)
+}
+
+/// The texts of files that are asked for in turn, each within its limit, or why there is none.
+pub(super) fn texts<F: Files>(
+    alloc: Global,
+    files: &mut F,
+    asked: &[(&str, u64)],
+) -> Result<String, OutOfMemory> {
+    let mut text = String::new(alloc);
+    for (name, limit) in asked {
+        let name = TaskText::of(alloc, name)?;
+        text.push_str(shown(&files.read_whole(alloc, &name, *limit)))?;
+        text.push(';')?;
     }
+    Ok(text)
+}
+
+fn plain_files_told(alloc: Global) -> Result<String, OutOfMemory> {
+    let mut files = PlainFiles::new(names(alloc)?, contents(alloc)?);
+    texts(alloc, &mut files, &[("a", 3), ("a", 2), ("b", 0), ("c", 9)])
+}
+
+fn files(alloc: Global) -> Result<MemFiles, OutOfMemory> {
+    Ok(MemFiles::new(names(alloc)?, contents(alloc)?, call(alloc, 2)?))
+}
+
+fn files_told(alloc: Global) -> Result<String, OutOfMemory> {
+    let mut files = files(alloc)?;
+    texts(alloc, &mut files, &[("a", 3), ("a", 3), ("a", 3)])
+}
+
+// What comes of calls on each object, a line each.
+fn all_told(alloc: Global) -> Result<String, OutOfMemory> {
+    let mut text = source_told(alloc)?;
+    write!(text, "\n{}", plain_source_told(alloc)?.as_str())?;
+    write!(text, "\n{}", sink_told(alloc)?.as_str())?;
+    write!(text, "\n{}", plain_files_told(alloc)?.as_str())?;
+    write!(text, "\n{}", files_told(alloc)?.as_str())?;
+    Ok(text)
+}
+
+const TOLD: &str = "Took(4) Failed Took(3) End End efgd.
+Took(3) End abc..
+Took(3) Failed Whole Whole abcdef12345678
+one;too long;;absent;
+one;failed;one;";
+
+#[test]
+fn objects_in_memory_do_as_they_say(rt: HostRuntime) -> Result<(), Fail> {
+    assert_eq!(rt; all_told(rt.alloc())?.as_str(), TOLD);
     Ok(())
 }

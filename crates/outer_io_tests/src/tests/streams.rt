@@ -1,27 +1,27 @@
 use super::flaky::{FlakyReader, FlakyWriter};
-use super::shown;
-use outer_io::{
-    Files, Got, Put, ReaderSource, Sink, Source, SystemFiles, WriterSink, Written, read_file,
-    write_all,
-};
+use super::memory::texts;
+use super::{answers, shown};
+use outer_io::{Put, ReaderSource, Sink, SystemFiles, WriterSink, Written, read_file, write_all};
 use std::test::Fail;
-use task_model::TaskText;
 
 #[test]
-fn interrupted_reads_are_tried_again(rt: HostRuntime) {
+fn interrupted_reads_are_tried_again(rt: HostRuntime) -> Result<(), Fail> {
     let mut source = ReaderSource::new(FlakyReader {
         bytes: b"abcd",
         breaks: true,
         is_quiet: true,
     });
-    let mut room = [0u8; 3];
-    for want in [Got::Took(3), Got::Took(1), Got::Failed] {
-        assert_eq!(rt; source.read(&mut room), want);
-    }
+    let told = answers(rt.alloc(), &mut source, &mut [0u8; 3], 3)?;
+    assert_eq!(rt; told.as_str(), "Took(3) Took(1) Failed ");
+    Ok(())
+}
+
+#[test]
+fn a_reader_is_read_to_its_end(rt: HostRuntime) -> Result<(), Fail> {
     let mut source = ReaderSource::new(b"abcd".as_slice());
-    for want in [Got::Took(3), Got::Took(1), Got::End] {
-        assert_eq!(rt; source.read(&mut room), want);
-    }
+    let told = answers(rt.alloc(), &mut source, &mut [0u8; 3], 3)?;
+    assert_eq!(rt; told.as_str(), "Took(3) Took(1) End ");
+    Ok(())
 }
 
 #[test]
@@ -55,14 +55,13 @@ fn a_file_is_read_whole(rt: HostRuntime) {
 #[test]
 fn the_systems_files_are_told_apart(rt: HostRuntime) -> Result<(), Fail> {
     let mut files = SystemFiles::new(&rt);
-    for (name, want) in [
-        ("/", "failed"),
-        ("/no/such/file", "absent"),
-        ("/dev/null", ""),
-        ("/dev/zero", "too long"),
-    ] {
-        let name = TaskText::of(rt.alloc(), name)?;
-        assert_eq!(rt; shown(&files.read_whole(rt.alloc(), &name, 100_000)), want);
-    }
+    let asked = [
+        ("/", 100_000),
+        ("/no/such/file", 100_000),
+        ("/dev/null", 100_000),
+        ("/dev/zero", 100_000),
+    ];
+    let told = texts(rt.alloc(), &mut files, &asked)?;
+    assert_eq!(rt; told.as_str(), "failed;absent;;too long;");
     Ok(())
 }

@@ -32,8 +32,8 @@ impl Wire {
         }
     }
 
-    /// A link that gives these bytes.
-    pub(super) fn link(self, alloc: Global, sent: &[u8]) -> Result<MemLink, OutOfMemory> {
+    // A link that gives these bytes.
+    fn link(self, alloc: Global, sent: &[u8]) -> Result<MemLink, OutOfMemory> {
         let mut bytes = Row::new(alloc);
         bytes.extend(sent)?;
         let mut reads = Row::new(alloc);
@@ -70,17 +70,13 @@ fn told_at<L: Ledger, K: Link, R: Wait>(
     Ok(text)
 }
 
-/// How a connection over this link ends, and its notes.
-pub(super) fn told<K: Link, R: Wait>(
-    rt: &R,
-    alloc: Global,
-    link: &mut K,
-) -> Result<String, OutOfMemory> {
+// How a connection over this link ends, and its notes.
+fn told<K: Link, R: Wait>(rt: &R, alloc: Global, link: &mut K) -> Result<String, OutOfMemory> {
     told_at::<Brand, K, R>(rt, alloc, link, Blank::new(1))
 }
 
-/// The same, and what a link has then taken.
-pub(super) fn with_taken(told: String, taken: &[u8]) -> Result<String, OutOfMemory> {
+// The same, and what a link has then taken.
+fn with_taken(told: String, taken: &[u8]) -> Result<String, OutOfMemory> {
     let mut text = told;
     match str::from_utf8(taken) {
         Ok(taken) => text.push_str(taken)?,

@@ -1,11 +1,9 @@
 //! Where a text ends too early, and tokens in place of others.
 
-use super::{FUNCTION, TASK, assert_fault, assert_read, field};
+use super::{FUNCTION, TASK, compared, fault_difference, field, told};
 use std::alloc::{AllocError, Global};
-use std::process::Abort;
 use std::test::Fail;
-use task_reader::read_program;
-use task_syntax::{LexKind, ReadKind, ReadStop, lex};
+use task_syntax::{LexStop, lex};
 
 // The front of each production of definitions and types, and behind `@` what may stand there.
 const DEFINITIONS: &str = "fun@ f() : int = 1
@@ -113,37 +111,43 @@ f()@
 f(1@)
 (share r)@";
 
-// A text that ends too early, and with what it wants.
-fn assert_cut(
-    rt: &(impl Abort + AllocGlobal),
-    head: &str,
-    row: &str,
-    end: &str,
-) -> Result<(), Fail> {
-    let (piece, rest) = field(row);
-    let early = format!(in rt.alloc(); "{head}{piece}")?;
-    let many = lex(rt.alloc(), early.as_str())?.list.as_slice().len();
-    let token = many as u64;
-    assert_fault(rt, early.as_str(), many, ReadKind::Unexpected { token })?;
-    let whole = format!(in rt.alloc(); "{head}{piece}{rest}{end}")?;
-    assert_read(rt, whole.as_str());
-    Ok(())
+// How many tokens a source has.
+fn token_count(alloc: Global, source: &str) -> Result<usize, AllocError> {
+    match lex(alloc, source) {
+        Ok(tokens) => Ok(tokens.list.as_slice().len()),
+        Err(LexStop::Fault { .. }) => Ok(0),
+        Err(LexStop::Memory) => Err(AllocError),
+    }
 }
 
-#[test]
-fn each_production_last(rt: HostRuntime) -> Result<(), Fail> {
-    for row in DEFINITIONS.split('\n') {
-        assert_cut(&rt, "", row, "")?;
+// What differs of a text that ends too early, and of it with what it wants.
+fn cut_difference(alloc: Global, head: &str, row: &str, end: &str) -> Result<String, AllocError> {
+    let (piece, rest) = field(row);
+    let early = format!(in alloc; "{head}{piece}")?;
+    let many = token_count(alloc, early.as_str())?;
+    let kind = format!(in alloc; "Unexpected {{ token: {many} }}")?;
+    let mut found = fault_difference(alloc, early.as_str(), many, kind.as_str())?;
+    let whole = format!(in alloc; "{early}{rest}{end}", early = early.as_str())?;
+    found.push_str(compared(alloc, whole.as_str(), "read")?.as_str())?;
+    Ok(found)
+}
+
+// What differs of these rows behind a head, and before an end.
+fn cut_differences(alloc: Global, head: &str, rows: &str, end: &str) -> Result<String, AllocError> {
+    let mut found = String::new(alloc);
+    for row in rows.split('\n') {
+        found.push_str(cut_difference(alloc, head, row, end)?.as_str())?;
     }
-    let head = format!(in rt.alloc(); "{FUNCTION}(")?;
-    for row in EXPRESSIONS.split('\n') {
-        assert_cut(&rt, head.as_str(), row, ")")?;
-    }
-    let head = format!(in rt.alloc(); "{TASK}(")?;
-    for row in TASKS.split('\n') {
-        assert_cut(&rt, head.as_str(), row, ")")?;
-    }
-    Ok(())
+    Ok(found)
+}
+
+fn productions_differences(alloc: Global) -> Result<String, AllocError> {
+    let mut found = cut_differences(alloc, "", DEFINITIONS, "")?;
+    let head = format!(in alloc; "{FUNCTION}(")?;
+    found.push_str(cut_differences(alloc, head.as_str(), EXPRESSIONS, ")")?.as_str())?;
+    let head = format!(in alloc; "{TASK}(")?;
+    found.push_str(cut_differences(alloc, head.as_str(), TASKS, ")")?.as_str())?;
+    Ok(found)
 }
 
 // A program with most of the forms, its tokens with a space between each two.
@@ -194,45 +198,47 @@ fn replaced(alloc: Global, at: usize, word: &str) -> Result<String, AllocError> 
     Ok(source)
 }
 
-#[test]
-fn tokens_in_place_of_others(rt: HostRuntime) -> Result<(), Fail> {
-    for row in REPLACED.split('\n') {
-        let (at, rest) = field(row);
-        let (word, fault) = field(rest);
-        let source = replaced(rt.alloc(), at.parse::<usize>().unwrap_or(0), word)?;
-        match fault.parse::<usize>() {
-            Ok(token) => {
-                let kind = ReadKind::Unexpected {
-                    token: token as u64,
-                };
-                assert_fault(&rt, source.as_str(), token, kind)?;
-            }
-            Err(_) => assert_read(&rt, source.as_str()),
+// What differs from a row.
+fn replaced_difference(alloc: Global, row: &str) -> Result<String, AllocError> {
+    let (at, rest) = field(row);
+    let (word, fault) = field(rest);
+    let source = replaced(alloc, at.parse::<usize>().unwrap_or(0), word)?;
+    match fault.parse::<usize>() {
+        Ok(token) => {
+            let kind = format!(in alloc; "Unexpected {{ token: {token} }}")?;
+            fault_difference(alloc, source.as_str(), token, kind.as_str())
         }
+        Err(_) => compared(alloc, source.as_str(), "read"),
     }
-    Ok(())
 }
 
 // The faults of a source before its grammar, by their bytes.
-#[test]
-fn sources_and_tokens(rt: HostRuntime) {
-    let table: [(&[u8], u64, ReadKind); 6] = [
-        (b"\xff", 0, ReadKind::NotUtf8),
-        (b"# \xc3\xa9\xc3", 4, ReadKind::NotUtf8),
-        (b"task @", 5, ReadKind::Lex(LexKind::BadChar)),
-        (b"task \"\\q", 6, ReadKind::Lex(LexKind::BadEscape)),
-        (b") \"", 2, ReadKind::Lex(LexKind::OpenText)),
-        (
-            b") 9223372036854775808",
-            2,
-            ReadKind::Lex(LexKind::WideNumber),
-        ),
-    ];
-    for (source, place, kind) in table {
-        assert_eq!(rt;
-            read_program(rt.alloc(), source).err(),
-            Some(ReadStop::Fault { place, kind }),
-            "{source:?}"
-        );
+const SOURCES: &[(&[u8], &str)] = &[
+    (b"\xff", "NotUtf8 at 0"),
+    (b"# \xc3\xa9\xc3", "NotUtf8 at 4"),
+    (b"task @", "Lex(BadChar) at 5"),
+    (b"task \"\\q", "Lex(BadEscape) at 6"),
+    (b") \"", "Lex(OpenText) at 2"),
+    (b") 9223372036854775808", "Lex(WideNumber) at 2"),
+];
+
+// What differs where a text ends too early, where a token stands in place of another, and of sources that have no tokens.
+fn all_differences(alloc: Global) -> Result<String, AllocError> {
+    let mut found = productions_differences(alloc)?;
+    for row in REPLACED.split('\n') {
+        found.push_str(replaced_difference(alloc, row)?.as_str())?;
     }
+    for (source, wanted) in SOURCES {
+        if told(alloc, source)?.as_str() != *wanted {
+            write!(found, "{wanted} is not told\n")?;
+        }
+    }
+    Ok(found)
+}
+
+#[test]
+fn first_faults(rt: HostRuntime) -> Result<(), Fail> {
+    let found = all_differences(rt.alloc())?;
+    assert!(rt; found.is_empty(), "{}", found.as_str());
+    Ok(())
 }

@@ -1,10 +1,8 @@
 //! Programs of 200 levels and of one more, by each kind of nesting.
 
-use super::{assert_fault, assert_read, field};
+use super::{compared, fault_difference, field};
 use std::alloc::{AllocError, Global};
-use std::process::Abort;
 use std::test::Fail;
-use task_syntax::ReadKind;
 
 // How often a row nests in a program of 200 levels, which token is too deep where it nests once more, and behind `@` what stands in front,
 // what opens a level, what stands inside, what closes a level, and what stands behind.
@@ -49,41 +47,55 @@ const TASKS: &str = "198 206@task main() : int = @(@edit 1@)@
 199 2594@task main() : int = @case l of [] -> share r | x :: y -> @share r@@
 198 407@task main() : int = @(@share r@)@ >>= x . share r";
 
+// A text so many times.
+fn many(alloc: Global, text: &str, times: usize) -> Result<String, AllocError> {
+    let mut all = String::new(alloc);
+    for _ in 0..times {
+        all.push_str(text)?;
+    }
+    Ok(all)
+}
+
 // A source in which a row's levels nest so often.
-fn source(alloc: Global, nesting: &str, many: usize) -> Result<String, AllocError> {
+fn source(alloc: Global, nesting: &str, times: usize) -> Result<String, AllocError> {
     let (front, rest) = field(nesting);
     let (open, rest) = field(rest);
     let (inside, rest) = field(rest);
     let (close, behind) = field(rest);
-    let mut source = String::from_str(alloc, front)?;
-    for _ in 0..many {
-        source.push_str(open)?;
-    }
-    source.push_str(inside)?;
-    for _ in 0..many {
-        source.push_str(close)?;
-    }
-    source.push_str(behind)?;
-    Ok(source)
+    let (opens, closes) = (many(alloc, open, times)?, many(alloc, close, times)?);
+    format!(in alloc;
+        "{front}{}{inside}{}{behind}",
+        opens.as_str(),
+        closes.as_str()
+    )
 }
 
-fn assert_levels(rt: &(impl Abort + AllocGlobal), rows: &str) -> Result<(), Fail> {
-    for row in rows.split('\n') {
-        let (counts, nesting) = field(row);
-        let (most, token) = counts.split_once(' ').unwrap_or((counts, ""));
-        let most = most.parse::<usize>().unwrap_or(0);
-        let deep = source(rt.alloc(), nesting, most)?;
-        assert_read(rt, deep.as_str());
-        let deeper = source(rt.alloc(), nesting, most.saturating_add(1))?;
-        let token = token.parse::<usize>().unwrap_or(0);
-        assert_fault(rt, deeper.as_str(), token, ReadKind::TooNested)?;
+// What differs from a row.
+fn level_difference(alloc: Global, row: &str) -> Result<String, AllocError> {
+    let (counts, nesting) = field(row);
+    let (most, token) = counts.split_once(' ').unwrap_or((counts, ""));
+    let most = most.parse::<usize>().unwrap_or(0);
+    let deep = source(alloc, nesting, most)?;
+    let mut found = compared(alloc, deep.as_str(), "read")?;
+    let deeper = source(alloc, nesting, most.saturating_add(1))?;
+    let token = token.parse::<usize>().unwrap_or(0);
+    found.push_str(fault_difference(alloc, deeper.as_str(), token, "TooNested")?.as_str())?;
+    Ok(found)
+}
+
+fn differences(alloc: Global) -> Result<String, AllocError> {
+    let mut found = String::new(alloc);
+    for rows in [TYPES, EXPRESSIONS, TASKS] {
+        for row in rows.split('\n') {
+            found.push_str(level_difference(alloc, row)?.as_str())?;
+        }
     }
-    Ok(())
+    Ok(found)
 }
 
 #[test]
 fn levels(rt: HostRuntime) -> Result<(), Fail> {
-    assert_levels(&rt, TYPES)?;
-    assert_levels(&rt, EXPRESSIONS)?;
-    assert_levels(&rt, TASKS)
+    let found = differences(rt.alloc())?;
+    assert!(rt; found.is_empty(), "{}", found.as_str());
+    Ok(())
 }

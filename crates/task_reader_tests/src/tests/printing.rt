@@ -1,9 +1,10 @@
 //! Each form beside each other as its part: the text that is printed is the one with the fewest parentheses.
 
 use super::field;
-use std::process::Abort;
+use std::alloc::Global;
 use std::test::Fail;
-use task_reader::{print_program, read_program};
+use task_model::OutOfMemory;
+use task_reader::{ReadStop, print_program, read_program};
 
 // The parts that are so loose: the first of these tables are tight, and stand anywhere without parentheses.
 const EXPRESSIONS: [&str; 9] = [
@@ -157,85 +158,137 @@ new r = 1 in @
 r := 1 ; @",
 ];
 
-// Expects that this is printed for the program of a source.
-fn assert_printed(rt: &(impl Abort + AllocGlobal), source: &str, want: &str) -> Result<(), Fail> {
-    let read = read_program(rt.alloc(), source.as_bytes())?;
-    let text = print_program(rt.alloc(), &read.program)?;
-    assert_eq!(rt; text.as_str(), want, "{source}");
-    Ok(())
+// What is printed for the program of a source.
+fn printed(alloc: Global, source: &str) -> Result<String, OutOfMemory> {
+    match read_program(alloc, source.as_bytes()) {
+        Ok(read) => {
+            let text = print_program(alloc, &read.program)?;
+            Ok(String::from_str(alloc, text.as_str())?)
+        }
+        Err(ReadStop::Fault { .. }) => Ok(String::from_str(alloc, "not read")?),
+        Err(ReadStop::Memory) => Err(OutOfMemory),
+    }
 }
 
-// A part that was written in parentheses keeps those that it needs.
-fn assert_part(
-    rt: &(impl Abort + AllocGlobal),
+// A source and what is printed for it, where that isn't what is wanted.
+fn difference(alloc: Global, source: &str, wanted: &str) -> Result<String, OutOfMemory> {
+    let printed = printed(alloc, source)?;
+    if printed.as_str() == wanted {
+        return Ok(String::new(alloc));
+    }
+    Ok(format!(in alloc; "{source}\nis {}\n", printed.as_str())?)
+}
+
+/// Places for parts, behind a head.
+#[derive(Clone, Copy)]
+struct Places<'p> {
+    head: &'p str,
+    rows: &'p [&'p str],
+}
+
+// What differs of a part that was written in parentheses: it keeps those that it needs.
+fn part_difference(
+    alloc: Global,
     head: &str,
     place: &str,
     part: &str,
     is_bare: bool,
-) -> Result<(), Fail> {
+) -> Result<String, OutOfMemory> {
     let (before, behind) = field(place);
-    let grouped = format!(in rt.alloc(); "{head}{before}( {part} ){behind}\n")?;
+    let grouped = format!(in alloc; "{head}{before}( {part} ){behind}\n")?;
+    let bare = format!(in alloc; "{head}{before}{part}{behind}\n")?;
     if !is_bare {
-        return assert_printed(rt, grouped.as_str(), grouped.as_str());
+        return difference(alloc, grouped.as_str(), grouped.as_str());
     }
-    let bare = format!(in rt.alloc(); "{head}{before}{part}{behind}\n")?;
-    assert_printed(rt, grouped.as_str(), bare.as_str())?;
-    assert_printed(rt, bare.as_str(), bare.as_str())
+    let mut found = difference(alloc, grouped.as_str(), bare.as_str())?;
+    found.push_str(difference(alloc, bare.as_str(), bare.as_str())?.as_str())?;
+    Ok(found)
 }
 
-// Each of these parts, which are so loose, at each of those places.
-fn assert_parts(
-    rt: &(impl Abort + AllocGlobal),
+// What differs of these parts at a place.
+fn parts_differences(
+    alloc: Global,
     head: &str,
-    places: &[&str],
+    place: &str,
     parts: &str,
-    looseness: usize,
-) -> Result<(), Fail> {
-    for (loosest, rows) in places.iter().enumerate() {
-        for place in rows.split('\n') {
-            if place.is_empty() {
-                continue;
-            }
-            for part in parts.split('\n') {
-                assert_part(rt, head, place, part, looseness <= loosest)?;
-            }
+    is_bare: bool,
+) -> Result<String, OutOfMemory> {
+    let mut found = String::new(alloc);
+    if !place.is_empty() {
+        for part in parts.split('\n') {
+            found.push_str(part_difference(alloc, head, place, part, is_bare)?.as_str())?;
         }
     }
-    Ok(())
+    Ok(found)
+}
+
+// What differs of these parts, which are so loose, at all places.
+fn differences(
+    alloc: Global,
+    places: Places<'_>,
+    parts: &str,
+    looseness: usize,
+) -> Result<String, OutOfMemory> {
+    let mut found = String::new(alloc);
+    for (loosest, rows) in places.rows.iter().enumerate() {
+        for place in rows.split('\n') {
+            let is_bare = looseness <= loosest;
+            let told = parts_differences(alloc, places.head, place, parts, is_bare)?;
+            found.push_str(told.as_str())?;
+        }
+    }
+    Ok(found)
+}
+
+// What differs of all parts, from the tightest ones to the loosest.
+fn all_differences(alloc: Global, places: Places<'_>, all: &[&str]) -> Result<String, OutOfMemory> {
+    let mut found = String::new(alloc);
+    for (looseness, parts) in all.iter().enumerate() {
+        found.push_str(differences(alloc, places, parts, looseness)?.as_str())?;
+    }
+    Ok(found)
+}
+
+// What differs of expressions and tasks at the places of functions and tasks.
+fn place_differences(alloc: Global) -> Result<String, OutOfMemory> {
+    let functions = Places {
+        head: "fun f ( ) : int = ",
+        rows: &IN_FUNCTIONS,
+    };
+    let mut found = all_differences(alloc, functions, &EXPRESSIONS)?;
+    let mut tasks = Places {
+        head: "task f ( ) : int = ",
+        rows: &IN_TASKS,
+    };
+    found.push_str(all_differences(alloc, tasks, &EXPRESSIONS)?.as_str())?;
+    tasks.rows = &OF_TASKS;
+    found.push_str(all_differences(alloc, tasks, &TASKS)?.as_str())?;
+    Ok(found)
+}
+
+const WHOLE: &[(&str, &str)] = &[
+    ("", ""),
+    (
+        "task main() : int = enter int >>? x. edit (x + 1)",
+        "task main ( ) : int = enter int >>? x . edit ( x + 1 )\n",
+    ),
+    (
+        "# a list\nfun f(a:unit,b:ref(bool,[text])):[int]=007::nil int task g():int=f()",
+        "fun f ( a : unit , b : ref ( bool , [ text ] ) ) : [ int ] = 7 :: nil int\ntask g ( ) : int = f ( )\n",
+    ),
+];
+
+fn printing_differences(alloc: Global) -> Result<String, OutOfMemory> {
+    let mut found = place_differences(alloc)?;
+    for (source, wanted) in WHOLE {
+        found.push_str(difference(alloc, source, wanted)?.as_str())?;
+    }
+    Ok(found)
 }
 
 #[test]
-fn expressions_as_parts(rt: HostRuntime) -> Result<(), Fail> {
-    for (looseness, parts) in EXPRESSIONS.iter().enumerate() {
-        assert_parts(&rt, "fun f ( ) : int = ", &IN_FUNCTIONS, parts, looseness)?;
-        assert_parts(&rt, "task f ( ) : int = ", &IN_TASKS, parts, looseness)?;
-    }
-    Ok(())
-}
-
-#[test]
-fn tasks_as_parts(rt: HostRuntime) -> Result<(), Fail> {
-    for (looseness, parts) in TASKS.iter().enumerate() {
-        assert_parts(&rt, "task f ( ) : int = ", &OF_TASKS, parts, looseness)?;
-    }
-    Ok(())
-}
-
-#[test]
-fn whole_programs(rt: HostRuntime) -> Result<(), Fail> {
-    let table = [
-        ("", ""),
-        (
-            "task main() : int = enter int >>? x. edit (x + 1)",
-            "task main ( ) : int = enter int >>? x . edit ( x + 1 )\n",
-        ),
-        (
-            "# a list\nfun f(a:unit,b:ref(bool,[text])):[int]=007::nil int task g():int=f()",
-            "fun f ( a : unit , b : ref ( bool , [ text ] ) ) : [ int ] = 7 :: nil int\ntask g ( ) : int = f ( )\n",
-        ),
-    ];
-    for (source, want) in table {
-        assert_printed(&rt, source, want)?;
-    }
+fn printed_again(rt: HostRuntime) -> Result<(), Fail> {
+    let found = printing_differences(rt.alloc())?;
+    assert!(rt; found.is_empty(), "{}", found.as_str());
     Ok(())
 }

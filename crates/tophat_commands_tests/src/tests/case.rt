@@ -10,7 +10,6 @@ use outer_io::{MemFiles, MemLink, MemSink, MemSource};
 use outer_ports::MemPorts;
 use std::alloc::Global;
 use std::collections::VecDeque;
-use std::process::Abort;
 use std::sync::Wait;
 use std::thread::Threads;
 use task_model::{OutOfMemory, Row, TaskText};
@@ -147,14 +146,16 @@ fn push_bytes(alloc: Global, text: &mut String, bytes: &[u8]) -> Result<(), OutO
     Ok(())
 }
 
-pub(super) fn expect(
-    rt: &(impl Abort + AllocGlobal + Threads + Wait + Copy + Send + Sync),
+/// What comes of a case in pieces of this size, where that isn't what is wanted.
+pub(super) fn difference(
+    rt: &(impl Threads + Wait + Copy + Send + Sync),
+    alloc: Global,
     case: &Case<'_>,
     piece: usize,
-) -> Result<(), OutOfMemory>
-    requires { 0 < piece }
-{
-    let told = told(rt, rt.alloc(), case, piece)?;
-    assert_eq!(rt; told.as_str(), case.want, "{}", case.words);
-    Ok(())
+) -> Result<String, OutOfMemory> {
+    let told = told(rt, alloc, case, piece.max(1))?;
+    if told.as_str() == case.want {
+        return Ok(String::new(alloc));
+    }
+    Ok(format!(in alloc; "{}\nis {}\n", case.words, told.as_str())?)
 }

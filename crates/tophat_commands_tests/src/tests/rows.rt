@@ -58,24 +58,24 @@ pub(super) const NO_HISTORY: Case<'static> = Case {
     ..SERVE
 };
 
-pub(super) const UNSERVED: &[Case<'static>] = &[
-    Case {
-        words: "serve none.th",
-        want: "status 7\ntophat: none.th: no such file\n",
-        ..SERVE
-    },
-    Case {
-        program: "task main() : int = edit (1 + true)",
-        want: "status 1\ntophat: p.th: byte 30: Mismatch want int got bool\n",
-        ..SERVE
-    },
-    Case {
-        words: "serve p.th --budget 3",
-        program: "task loop() : int = edit 1 >>= x . loop()\ntask main() : int = loop()",
-        want: "status 4\ntophat: opening over budget\n",
-        ..SERVE
-    },
-];
+pub(super) const NO_FILE: Case<'static> = Case {
+    words: "serve none.th",
+    want: "status 7\ntophat: none.th: no such file\n",
+    ..SERVE
+};
+
+pub(super) const NO_TYPE: Case<'static> = Case {
+    program: "task main() : int = edit (1 + true)",
+    want: "status 1\ntophat: p.th: byte 30: Mismatch want int got bool\n",
+    ..SERVE
+};
+
+pub(super) const NO_OPENING: Case<'static> = Case {
+    words: "serve p.th --budget 3",
+    program: "task loop() : int = edit 1 >>= x . loop()\ntask main() : int = loop()",
+    want: "status 4\ntophat: opening over budget\n",
+    ..SERVE
+};
 
 pub(super) const FIRST_CALL_FAILS: Case<'static> = Case {
     links: &[SET],

@@ -1,100 +1,146 @@
 //! Tables of programs with their transcripts.
 
-use crate::tests::case::{Case, RUN, run};
+use crate::tests::case::{Case, compared, told};
 use std::alloc::Global;
-use std::process::Abort;
 use task_model::OutOfMemory;
 use testing_programs::repeated;
 
-// A block of a table: words behind `$ `, or else `run p.th`; the program, in which `{N PIECE}` stands for N times the piece, or `same program`
-// for that of the block above; the status behind `= `, and behind it the text on the error sink; and a transcript, whose lines behind `> ` are
-// the script and whose other lines are written.
+/// A block of a table, in which `{N PIECE}` stands for N times the piece: words behind `$ `, or else `run p.th`; behind `! ` the numbers of the
+/// calls on files, input, output and errors that fail, if any do; the program, or `same program` for that of the block above; the status behind
+/// `= `, and behind it the text on the error sink; and a transcript, whose lines behind `> ` are the script and whose other lines are written.
+/// In a script a backquote stands for a carriage return. A line that ends in a backslash has no line end.
 #[derive(Clone, Copy)]
 struct Block<'a> {
     words: &'a str,
+    fails: &'a str,
     program: &'a str,
-    status: u8,
+    status: &'a str,
     error: &'a str,
     transcript: &'a str,
 }
 
-fn block_of(text: &str) -> Option<Block<'_>> {
-    let (head, rest) = text.split_once("\n= ")?;
-    let (words, program) = match head.strip_prefix("$ ") {
+// What stands behind a mark on the first line, if it does, and what stands behind that.
+fn marked<'a>(head: &'a str, mark: &str, usual: &'a str) -> (&'a str, &'a str) {
+    match head.strip_prefix(mark) {
         Some(behind) => behind.split_once('\n').unwrap_or((behind, "")),
-        None => ("run p.th", head),
-    };
+        None => (usual, head),
+    }
+}
+
+// A text that is no block has a status that no command has.
+fn block_of(text: &str) -> Block<'_> {
+    let (head, rest) = text.split_once("\n= ").unwrap_or((text, "no block"));
+    let (words, head) = marked(head, "$ ", "run p.th");
+    let (fails, program) = marked(head, "! ", "");
     let (end, transcript) = rest.split_once('\n').unwrap_or((rest, ""));
     let (status, error) = end.split_once(' ').unwrap_or((end, ""));
-    let status = status.parse::<u8>().ok()?;
-    Some(Block {
+    Block {
         words,
+        fails,
         program,
         status,
         error,
         transcript,
-    })
+    }
 }
 
-// The script of a transcript, and what is written for it.
-fn script_and_output(alloc: Global, transcript: &str) -> Result<(String, String), OutOfMemory> {
-    let mut script = String::new(alloc);
-    let mut output = String::new(alloc);
-    for line in transcript.split('\n') {
-        match line.strip_prefix("> ") {
-            Some(asked) => push_line(&mut script, asked)?,
-            None => push_line(&mut output, line)?,
+// Numbers with blanks between them; 0 where there are fewer.
+fn fails_of(text: &str) -> [u64; 4] {
+    let mut fails = [0; 4];
+    for (at, number) in text.split(' ').enumerate() {
+        if let Some(place) = fails.get_mut(at) {
+            *place = number.parse::<u64>().unwrap_or(0);
         }
     }
-    Ok((script, output))
+    fails
 }
 
-// No line where it is empty.
 fn push_line(text: &mut String, line: &str) -> Result<(), OutOfMemory> {
-    if !line.is_empty() {
-        text.push_str(line)?;
-        text.push('\n')?;
+    match line.strip_suffix('\\') {
+        Some(front) => text.push_str(front)?,
+        None => {
+            text.push_str(line)?;
+            text.push('\n')?;
+        }
     }
     Ok(())
 }
 
-// Asserts a block below one of this program, which becomes the block's.
-fn assert_block(
-    rt: &(impl Abort + AllocGlobal),
-    text: &str,
-    program: &mut String,
-) -> Result<(), OutOfMemory> {
-    let Some(block) = block_of(text) else {
-        assert!(rt; false, "{text}");
-        return Ok(());
-    };
-    if block.program != "same program" {
-        *program = repeated(rt.alloc(), block.program)?;
+// The script of a transcript.
+fn script_of(alloc: Global, transcript: &str) -> Result<String, OutOfMemory> {
+    let mut script = String::new(alloc);
+    for line in transcript.split('\n') {
+        if let Some(asked) = line.strip_prefix("> ") {
+            push_line(&mut script, asked)?;
+        }
     }
-    let (script, output) = script_and_output(rt.alloc(), block.transcript)?;
-    let mut error = String::new(rt.alloc());
-    push_line(&mut error, block.error)?;
+    Ok(script)
+}
+
+// The script with its carriage returns.
+fn with_returns(alloc: Global, script: &str) -> Result<String, OutOfMemory> {
+    let mut text = String::new(alloc);
+    let mut parts = script.split('`');
+    text.push_str(parts.next().unwrap_or(""))?;
+    for part in parts {
+        text.push('\r')?;
+        text.push_str(part)?;
+    }
+    Ok(text)
+}
+
+// What a block says of the case, as `told` has it.
+fn wanted(alloc: Global, block: &Block<'_>) -> Result<String, OutOfMemory> {
+    let mut text = format!(in alloc; "= {}\n", block.status)?;
+    if !block.error.is_empty() {
+        push_line(&mut text, block.error)?;
+    }
+    for line in block.transcript.split('\n') {
+        if !line.is_empty() && !line.starts_with("> ") {
+            push_line(&mut text, line)?;
+        }
+    }
+    Ok(text)
+}
+
+// What differs from a block below one of this program.
+fn block_difference(
+    alloc: Global,
+    text: &str,
+    piece: usize,
+    above: &str,
+) -> Result<String, OutOfMemory> {
+    let block = block_of(text);
+    let script = script_of(alloc, block.transcript)?;
+    let script = with_returns(alloc, script.as_str())?;
     let case = Case {
         words: block.words,
-        program: program.as_str().as_bytes(),
+        program: program_below(block.program, above).as_bytes(),
         script: script.as_str().as_bytes(),
-        ..RUN
+        fails: fails_of(block.fails),
     };
-    let (status, out, err) = run(rt.alloc(), &case, 4_096)?;
-    assert_eq!(rt; status, Some(block.status), "{text}");
-    assert_eq!(rt; out.taken(), output.as_str().as_bytes(), "{text}");
-    assert_eq!(rt; err.taken(), error.as_str().as_bytes(), "{text}");
-    Ok(())
+    let told = told(alloc, &case, piece)?;
+    compared(alloc, text, told.as_str(), wanted(alloc, &block)?.as_str())
 }
 
-// The blocks of a table, with an empty line between each two.
-pub(crate) fn assert_blocks(
-    rt: &(impl Abort + AllocGlobal),
-    table: &str,
-) -> Result<(), OutOfMemory> {
-    let mut program = String::new(rt.alloc());
-    for block in table.trim_end().split("\n\n") {
-        assert_block(rt, block, &mut program)?;
+fn program_below<'a>(program: &'a str, above: &'a str) -> &'a str {
+    if program == "same program" {
+        above
+    } else {
+        program
     }
-    Ok(())
+}
+
+/// What differs from a table, whose blocks have an empty line between each two. Sources and sinks take pieces of this size.
+pub(super) fn differences(alloc: Global, table: &str, piece: usize) -> Result<String, OutOfMemory> {
+    let mut found = String::new(alloc);
+    let mut above = String::new(alloc);
+    for block in table.trim_end().split("\n\n") {
+        let text = repeated(alloc, block)?;
+        let told = block_difference(alloc, text.as_str(), piece, above.as_str())?;
+        found.push_str(told.as_str())?;
+        let program = program_below(block_of(text.as_str()).program, above.as_str());
+        above = String::from_str(alloc, program)?;
+    }
+    Ok(found)
 }

@@ -1,7 +1,7 @@
 //! Units, heights and signs.
 
 /// Programs within the budgets that the words name, in blocks as `Block` (block.rt) has them.
-pub(crate) const BUDGETS: &str = r#"$ run p.th --budget 2
+pub(super) const BUDGETS: &str = r#"$ run p.th --budget 2
 task main() : int = enter int >>? x . edit (x + 1)
 = 0
 
@@ -204,7 +204,7 @@ version 0 seat 1
 "#;
 
 /// The same, of heights of 1,000 and of one more.
-pub(crate) const HEIGHTS: &str = r#"$ run p.th --budget 998
+pub(super) const HEIGHTS: &str = r#"$ run p.th --budget 998
 task t0() : int = edit 1 {995 task t@() : int = t$() } task main() : int = t995()
 = 0
 > 1 show

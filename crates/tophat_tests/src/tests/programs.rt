@@ -1,7 +1,7 @@
 //! What programs do: steps, choices, stores and branches.
 
 /// Programs with transcripts, in blocks as `Block` (block.rt) has them.
-pub(crate) const PROGRAMS: &str =
+pub(super) const PROGRAMS: &str =
     r#"task main() : int = (edit 1 <&> edit 2) >>? p . edit (fst p + snd p)
 = 0
 > 1 show

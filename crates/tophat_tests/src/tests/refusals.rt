@@ -1,7 +1,7 @@
 //! Programs that are refused, and lines that are bad.
 
 /// Programs with the first fault of their text or of their types, in blocks as `Block` (block.rt) has them.
-pub(crate) const REFUSALS: &str = r#"task start() : int = edit 1
+pub(super) const REFUSALS: &str = r#"task start() : int = edit 1
 = 1 tophat: p.th: byte 27: NoMain
 
 fun main() : int = 1
@@ -80,7 +80,7 @@ task main() : int = edit 1
 "#;
 
 /// Lines outside the grammar, a row a line: the column, and the line.
-pub(crate) const BAD_LINES: &str = "1 x
+pub(super) const BAD_LINES: &str = "1 x
 1  # a
 1 01 show
 1 0 show

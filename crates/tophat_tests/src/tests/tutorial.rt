@@ -2,7 +2,7 @@
 //! Written by docs/tutorial from docs/LANGUAGE.md.
 
 /// Programs with their runs and commands, in blocks as `Block` (block.rt) has them.
-pub(crate) const TUTORIAL: &str = r#"$ run p.th
+pub(super) const TUTORIAL: &str = r#"$ run p.th
 # a number to start with, and one to be filled in
 task main() : (int, int) =
   edit 1 <&> enter int
@@ -617,7 +617,7 @@ taken 2
 "#;
 
 /// Programs that are refused, and what is to be written in their place, in such blocks.
-pub(crate) const REFUSED: &str = r#"$ check p.th
+pub(super) const REFUSED: &str = r#"$ check p.th
 fun f(n : int) : int = n
 task t() : int = edit 1
 task main() : text = edit "a" ++ "b"

@@ -1,7 +1,7 @@
 //! Programs with their scripts, and what the whole command writes.
 
 /// Commands of every kind, in blocks as `Block` (block.rt) has them.
-pub(crate) const WORKED_ROWS: &str = r#"task main() : int = enter int >>? x . edit (x + 1)
+pub(super) const WORKED_ROWS: &str = r#"task main() : int = enter int >>? x . edit (x + 1)
 = 0
 > 1 . set 4
 taken 1
@@ -196,7 +196,7 @@ $ run p.th
 "#;
 
 /// A program that goes on for ever.
-pub(crate) const MILLION: &str = r#"$ run p.th --budget 1000000
+pub(super) const MILLION: &str = r#"$ run p.th --budget 1000000
 task a() : int = edit 1 >>= x . b()
 task b() : int = edit 2 >>= x . a()
 task main() : int = a()
@@ -204,7 +204,7 @@ task main() : int = a()
 "#;
 
 /// Texts that are joined and cut.
-pub(crate) const LONG_TEXTS: &str =
+pub(super) const LONG_TEXTS: &str =
     r#"task main() : (int, int) = let all = "{40001 a}" ++ "{20000 é}" in edit (len all, len (all ++ "bb"))
 = 0
 > 1 show
@@ -213,7 +213,7 @@ version 0 seat 1
 "#;
 
 /// Generated inputs.
-pub(crate) const SOAKS: &str = r#"$ soak 1 3
+pub(super) const SOAKS: &str = r#"$ soak 1 3
 = 0
 soak inputs 1 taken 1 refused 0 over 0 nodes 95 a 0 b 4
 
@@ -239,7 +239,7 @@ soak inputs 1000 taken 678 refused 322 over 0 nodes 95 a 395 b 177
 "#;
 
 /// Words that `run` may have, on one program.
-pub(crate) const WORDS: &str = r#"$ run --budget=4 p.th
+pub(super) const WORDS: &str = r#"$ run --budget=4 p.th
 task loop() : int = edit 1 >>= x . loop()
 task main() : int = loop()
 = 0
@@ -267,7 +267,7 @@ task main ( ) : int = edit 5
 "#;
 
 /// Words outside the grammar, a row a line.
-pub(crate) const WRONG_WORDS: &str = "run
+pub(super) const WRONG_WORDS: &str = "run
 run -p
 run p.th q
 run p.th --budget
@@ -348,14 +348,14 @@ serve -- p.th --seats=4
 serve --help";
 
 /// Words that ask for a drill, a row a line, and behind ` = ` the number of seats and that of the acts of each.
-pub(crate) const DRILL_WORDS: &str = "drill 1 1 = 1 1
+pub(super) const DRILL_WORDS: &str = "drill 1 1 = 1 1
 drill 64 10000 = 64 10000
 drill 0002 100 = 2 100
 drill -- 2 100 = 2 100";
 
 /// Words that ask to serve, a row a line, and behind ` = ` the file and the numbers: the budget, the seats, the workers, the port and the
 /// connections.
-pub(crate) const SERVED_WORDS: &str = "serve p.th = p.th 10000 8 4 8080 1000000
+pub(super) const SERVED_WORDS: &str = "serve p.th = p.th 10000 8 4 8080 1000000
 serve -- -p = -p 10000 8 4 8080 1000000
 serve p.th --budget 1 = p.th 1 8 4 8080 1000000
 serve p.th --budget=1000000 = p.th 1000000 8 4 8080 1000000
@@ -371,7 +371,7 @@ serve --connections 5 --port=0004 --workers 3 --seats=2 --budget 1 -- p.th = p.t
 
 /// Walks over lists of 1,000 elements, and exactly the units that they take (docs/LANGUAGE.md, "Lists"): one that looks for what isn't
 /// there, and one that finds the last element and takes it out.
-pub(crate) const LONG_WALKS: &str = r#"$ run p.th --budget 2003
+pub(super) const LONG_WALKS: &str = r#"$ run p.th --budget 2003
 task find(wanted : int, rest : [int]) : bool =
   case rest of [] -> edit false
   | head :: tail -> if head == wanted then edit true else (edit () >>= u . find(wanted, tail))

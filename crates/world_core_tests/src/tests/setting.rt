@@ -1,10 +1,8 @@
 //! Values of each type, set at editors of each type.
-ghost use Rattle.task_model.specs.Running.State.{IsSeat};
 
+use super::events::told;
 use std::alloc::Global;
-use task_model::{Entry, OutOfMemory};
-use testing_worlds::{Script, Way, WorldBench};
-use world_core::Reply;
+use task_model::OutOfMemory;
 
 /// Values, and programs with a mark for each of the values: `y` where it is taken, and a dot where it isn't.
 pub(super) const SETS: &str = r#"()@true@-5@"a"@(1, true)@[1, 2]@[]@["a"]@(true, 1)@[1, true]@[[]]
@@ -33,44 +31,22 @@ y..........@task main() : unit = new r = () in share r
 ......y...y@task main() : [[int]] = edit [[1]]
 ......y...y@task main() : [[int]] = new r = nil [int] in share r"#;
 
-// The mark of an entry at a world.
-fn reply_mark(
-    alloc: Global,
-    bench: &mut WorldBench,
-    entry: &Entry,
-) -> Result<&'static str, OutOfMemory>
-    requires { IsSeat entry.now.seat }
-{
-    match bench.handle(alloc, entry, Way::Whole)? {
-        Reply::Taken(_) => Ok("y"),
-        Reply::NotOffered => Ok("."),
-        Reply::Over => Ok("?"),
-    }
-}
-
-// The mark of an entry at a program.
-fn entry_mark(alloc: Global, source: &str, entry: &Entry) -> Result<&'static str, OutOfMemory>
-    requires { IsSeat entry.now.seat }
-{
-    let mut bench = WorldBench::opened(alloc, source, 10_000)?;
-    reply_mark(alloc, &mut bench, entry)
-}
-
 // The mark of a value at a program.
-fn mark(alloc: Global, source: &str, literal: &str) -> Result<&'static str, OutOfMemory> {
+fn mark(alloc: Global, source: &str, literal: &str) -> Result<char, OutOfMemory> {
     let line = format!(in alloc; "1 . set {literal}")?;
-    let script = Script::of(alloc, line.as_str())?;
-    match script.first() {
-        Some(entry) => entry_mark(alloc, source, entry),
-        None => Err(OutOfMemory),
-    }
+    let told = told(alloc, source, 10_000, line.as_str())?;
+    Ok(if told.as_str().starts_with("taken ") {
+        'y'
+    } else {
+        '.'
+    })
 }
 
 // The marks of values at a program.
 fn marks(alloc: Global, source: &str, literals: &str) -> Result<String, OutOfMemory> {
     let mut text = String::new(alloc);
     for literal in literals.split('@') {
-        text.push_str(mark(alloc, source, literal)?)?;
+        text.push(mark(alloc, source, literal)?)?;
     }
     Ok(text)
 }

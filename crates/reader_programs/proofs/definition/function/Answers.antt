@@ -4,7 +4,7 @@ use Rattle.task_model.specs.Syntax.Grammar.{expression, definition}
 use Rattle.reader_grammar.proofs.GrammarLemmas.{stops_within}
 use Rattle.reader_grammar.proofs.PartlyRead.{begun, past_one, past_part, stop_one, stop_part, whole}
 use Rattle.reader_programs.proofs.DefinitionRules as rules
-use Rattle.reader_programs.proofs.ReadingLemmas.{level}
+use Rattle.reader_task_forms.proofs.ReadingLemmas.{level}
 use Rattle.reader_programs.proofs.DefinitionLemmas.{function_shown}
 use Rattle.reader_programs.proofs.definition.function.Goals as goal
 

@@ -7,7 +7,7 @@ use Rattle.reader_grammar.proofs.GrammarLemmas.{grammar, stops_within}
 use Rattle.reader_grammar.proofs.RuleLemmas.{by_rule}
 use Rattle.reader_grammar.proofs.PartlyRead.{begun, past_one, past_part, stop_one, stop_part, whole}
 use Rattle.reader_programs.proofs.DefinitionRules as rules
-use Rattle.reader_programs.proofs.ReadingLemmas.{level, read_past}
+use Rattle.reader_task_forms.proofs.ReadingLemmas.{level, read_past}
 use Rattle.reader_programs.proofs.DefinitionLemmas.{task_shown}
 use Rattle.reader_programs.proofs.definition.task_definition.Goals as goal
 
