@@ -51,75 +51,79 @@ fn told(alloc: Global, source: &str, units: u32) -> Result<String, OutOfMemory> 
     Ok(format!(in alloc; "{} {left}, {fewer}, {most}", exact.as_str())?)
 }
 
-// What differs where it is to give this value with so many units and nothing with fewer.
-fn difference(alloc: Global, source: &str, value: &str, units: u32) -> Result<String, OutOfMemory> {
+// Puts what differs where it is to give this value with so many units and nothing with fewer.
+fn put_difference(
+    found: &mut String,
+    alloc: Global,
+    source: &str,
+    value: &str,
+    units: u32,
+) -> Result<(), OutOfMemory> {
     let told = told(alloc, source, units)?;
     let most = 1_000_000u32.saturating_sub(units);
     let want = format!(in alloc; "{value} 0, none, {most}")?;
-    if told.as_str() == want.as_str() {
-        return Ok(String::new(alloc));
+    if told.as_str() != want.as_str() {
+        write!(found, "{source}\nis {}\n", told.as_str())?;
     }
-    Ok(format!(in alloc; "{source}\nis {}\n", told.as_str())?)
+    Ok(())
 }
 
-// What differs where it is to give nothing, however many units there are.
-fn none_difference(alloc: Global, source: &str) -> Result<String, OutOfMemory> {
+// What it gives, however many units there are.
+fn given_ever(alloc: Global, source: &str) -> Result<TaskText, OutOfMemory> {
     let program = accepted(alloc, source)?;
     let (text, _) = given(alloc, &program, 1_000_000)?;
-    if text.as_str() == "none" {
-        return Ok(String::new(alloc));
-    }
-    Ok(format!(in alloc; "{source}\nis {}\n", text.as_str())?)
+    Ok(text)
 }
 
-// What differs from a line of expressions. Lines that are none are comments.
-fn expression_difference(alloc: Global, line: &str) -> Result<String, OutOfMemory> {
+// Puts what differs where it is never to give anything.
+fn put_given(found: &mut String, alloc: Global, source: &str) -> Result<(), OutOfMemory> {
+    let text = given_ever(alloc, source)?;
+    if text.as_str() != "none" {
+        write!(found, "{source}\nis {}\n", text.as_str())?;
+    }
+    Ok(())
+}
+
+// Puts what differs from a line of expressions. Lines that are none are comments.
+fn put_expression(found: &mut String, alloc: Global, line: &str) -> Result<(), OutOfMemory> {
     let Some((head, rest)) = line.split_once(": ") else {
-        return Ok(String::new(alloc));
+        return Ok(());
     };
     let (units, kind) = head.split_once(' ').unwrap_or((head, ""));
     let (expression, value) = rest.split_once(" => ").unwrap_or((rest, ""));
+    let units = units.parse::<u32>().unwrap_or(0);
     let functions = expressions::FUNCTIONS;
     let source = format!(in alloc; "{functions}fun it() : {kind} = {expression}{MAIN}")?;
-    difference(
-        alloc,
-        source.as_str(),
-        value,
-        units.parse::<u32>().unwrap_or(0),
-    )
+    put_difference(found, alloc, source.as_str(), value, units)
 }
 
-fn height_difference(alloc: Global, line: &str) -> Result<String, OutOfMemory> {
+fn put_height(found: &mut String, alloc: Global, line: &str) -> Result<(), OutOfMemory> {
     let Some((units, rest)) = line.split_once(": ") else {
-        return Ok(String::new(alloc));
+        return Ok(());
     };
     let (definitions, value) = rest.split_once(" => ").unwrap_or((rest, ""));
+    let units = units.parse::<u32>().unwrap_or(0);
     let source = format!(in alloc; "{definitions}{MAIN}")?;
     if value == "none" {
-        return none_difference(alloc, source.as_str());
+        return put_given(found, alloc, source.as_str());
     }
-    difference(
-        alloc,
-        source.as_str(),
-        value,
-        units.parse::<u32>().unwrap_or(0),
-    )
+    put_difference(found, alloc, source.as_str(), value, units)
 }
 
-fn differences(alloc: Global) -> Result<String, OutOfMemory> {
-    let mut found = String::new(alloc);
+fn put_all(found: &mut String, alloc: Global) -> Result<(), OutOfMemory> {
     for line in expressions::EXPRESSIONS.split('\n') {
-        found.push_str(expression_difference(alloc, line)?.as_str())?;
+        put_expression(found, alloc, line)?;
     }
     for line in heights::HEIGHTS.split('\n') {
-        found.push_str(height_difference(alloc, line)?.as_str())?;
+        put_height(found, alloc, line)?;
     }
-    Ok(found)
+    Ok(())
 }
 
 #[test]
 fn worked_expressions_and_heights(rt: HostRuntime) -> Result<(), Fail> {
-    let found = differences(rt.alloc())?;
+    let mut found = String::new(rt.alloc());
+    put_all(&mut found, rt.alloc())?;
     assert!(rt; found.is_empty(), "{}", found.as_str());
     Ok(())
 }

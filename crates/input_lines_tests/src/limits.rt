@@ -1,6 +1,6 @@
 //! Lines at the limits: of their bytes, of levels, of elements and of texts.
 
-use crate::lines::row_difference;
+use crate::lines::put_row;
 use std::alloc::Global;
 use std::test::Fail;
 use task_model::OutOfMemory;
@@ -30,18 +30,18 @@ const LINES: &str = r#"#{1048575 a}@blank
 1 . set "{65537 a}@column 65546
 1 .{1000 F}@column 1004"#;
 
-fn differences(alloc: Global) -> Result<String, OutOfMemory> {
-    let mut found = String::new(alloc);
+fn put_all(found: &mut String, alloc: Global) -> Result<(), OutOfMemory> {
     for row in LINES.split('\n') {
         let row = repeated(alloc, row)?;
-        found.push_str(row_difference(alloc, row.as_str())?.as_str())?;
+        put_row(found, alloc, row.as_str())?;
     }
-    Ok(found)
+    Ok(())
 }
 
 #[test]
 fn limits(rt: HostRuntime) -> Result<(), Fail> {
-    let found = differences(rt.alloc())?;
+    let mut found = String::new(rt.alloc());
+    put_all(&mut found, rt.alloc())?;
     assert!(rt; found.is_empty(), "{}", found.as_str());
     Ok(())
 }

@@ -21,23 +21,34 @@ fn told(alloc: Global, bytes: &[u8]) -> Result<String, OutOfMemory> {
     }
 }
 
-/// What a line is to come to and what it comes to, where that is something else.
-pub(crate) fn difference(alloc: Global, bytes: &[u8], want: &str) -> Result<String, OutOfMemory> {
+// Puts what a line is to come to and what it comes to, where that is something else.
+fn put_difference(
+    found: &mut String,
+    alloc: Global,
+    bytes: &[u8],
+    want: &str,
+) -> Result<(), OutOfMemory> {
     let told = told(alloc, bytes)?;
-    if told.as_str() == want {
-        return Ok(String::new(alloc));
+    if told.as_str() != want {
+        write!(found, "{want} is {}\n", told.as_str())?;
     }
-    Ok(format!(in alloc; "{want} is {}\n", told.as_str())?)
+    Ok(())
 }
 
-/// What differs from a row: a line, in which `^` stands for a carriage return, and what it comes to.
-pub(crate) fn row_difference(alloc: Global, row: &str) -> Result<String, OutOfMemory> {
-    let (line, want) = row.split_once('@').unwrap_or((row, ""));
+// The bytes of a line, in which `^` stands for a carriage return.
+fn with_returns(alloc: Global, line: &str) -> Result<Vec<u8>, OutOfMemory> {
     let mut bytes = Vec::new(alloc);
     for byte in line.bytes() {
         bytes.push(if byte == b'^' { b'\r' } else { byte })?;
     }
-    difference(alloc, bytes.as_slice(), want)
+    Ok(bytes)
+}
+
+/// Puts what differs from a row: a line, in which `^` stands for a carriage return, and what it comes to.
+pub(crate) fn put_row(found: &mut String, alloc: Global, row: &str) -> Result<(), OutOfMemory> {
+    let (line, want) = row.split_once('@').unwrap_or((row, ""));
+    let bytes = with_returns(alloc, line)?;
+    put_difference(found, alloc, bytes.as_slice(), want)
 }
 
 /// Lines, each before what it comes to.
@@ -148,42 +159,47 @@ fn cut(alloc: Global, line: &[u8], length: usize) -> Result<Vec<u8>, OutOfMemory
     Ok(bytes)
 }
 
-// What differs where a line has so many bytes of this one, alone and before a byte that begins nothing: both are bad behind them.
-fn front_difference(alloc: Global, line: &[u8], length: usize) -> Result<String, OutOfMemory> {
+// Puts what differs where a line has so many bytes of this one, alone and before a byte that begins nothing: both are bad behind them.
+fn put_front(
+    found: &mut String,
+    alloc: Global,
+    line: &[u8],
+    length: usize,
+) -> Result<(), OutOfMemory> {
     let column = format!(in alloc; "column {}", (length as u64).saturating_add(1))?;
-    let mut bytes = cut(alloc, line, length)?;
-    let mut found = difference(alloc, bytes.as_slice(), column.as_str())?;
-    bytes.truncate(length);
+    let bytes = cut(alloc, line, length)?;
+    put_difference(found, alloc, bytes.as_slice(), column.as_str())?;
     if length > 0 {
-        found.push_str(difference(alloc, bytes.as_slice(), column.as_str())?.as_str())?;
+        let front = line.get(..length).unwrap_or(line);
+        put_difference(found, alloc, front, column.as_str())?;
     }
-    Ok(found)
+    Ok(())
 }
 
-// What differs of the fronts of a line that are none themselves.
-fn front_differences(alloc: Global, line: &[u8]) -> Result<String, OutOfMemory> {
-    let mut found = String::new(alloc);
+// Puts what differs of the fronts of a line that are none themselves.
+fn put_fronts(found: &mut String, alloc: Global, line: &[u8]) -> Result<(), OutOfMemory> {
     for length in 0..line.len() {
-        found.push_str(front_difference(alloc, line, length)?.as_str())?;
+        put_front(found, alloc, line, length)?;
     }
-    Ok(found)
+    Ok(())
 }
 
-fn differences(alloc: Global) -> Result<String, OutOfMemory> {
-    let mut found = difference(alloc, b"#\xff\x00 1 show", "blank")?;
-    found.push_str(difference(alloc, b"1 . set \"\xc3(", "column 11")?.as_str())?;
+fn put_all(found: &mut String, alloc: Global) -> Result<(), OutOfMemory> {
+    put_difference(found, alloc, b"#\xff\x00 1 show", "blank")?;
+    put_difference(found, alloc, b"1 . set \"\xc3(", "column 11")?;
     for row in LINES.split('\n') {
-        found.push_str(row_difference(alloc, row)?.as_str())?;
+        put_row(found, alloc, row)?;
     }
     for line in EXAMPLES.split('\n') {
-        found.push_str(front_differences(alloc, line.as_bytes())?.as_str())?;
+        put_fronts(found, alloc, line.as_bytes())?;
     }
-    Ok(found)
+    Ok(())
 }
 
 #[test]
 fn lines_and_their_fronts(rt: HostRuntime) -> Result<(), Fail> {
-    let found = differences(rt.alloc())?;
+    let mut found = String::new(rt.alloc());
+    put_all(&mut found, rt.alloc())?;
     assert!(rt; found.is_empty(), "{}", found.as_str());
     Ok(())
 }

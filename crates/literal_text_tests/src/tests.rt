@@ -42,13 +42,19 @@ fn told(alloc: Global, kind: &str, bytes: &[u8]) -> Result<String, OutOfMemory> 
     }
 }
 
-// What bytes are told as, where that isn't what is wanted.
-fn difference(alloc: Global, kind: &str, bytes: &[u8], want: &str) -> Result<String, OutOfMemory> {
+// Puts what bytes are told as, where that isn't what is wanted.
+fn put_difference(
+    found: &mut String,
+    alloc: Global,
+    kind: &str,
+    bytes: &[u8],
+    want: &str,
+) -> Result<(), OutOfMemory> {
     let told = told(alloc, kind, bytes)?;
-    if told.as_str() == want {
-        return Ok(String::new(alloc));
+    if told.as_str() != want {
+        write!(found, "{kind} {want} is {}\n", told.as_str())?;
     }
-    Ok(format!(in alloc; "{kind} {want} is {}\n", told.as_str())?)
+    Ok(())
 }
 
 /// What the bytes are to be, the bytes, and what they are printed as, or the place where they are bad.
@@ -99,17 +105,16 @@ const BYTES: &[(&[u8], &str)] = &[
     (b"\"a\nb\"", "place 2"),
 ];
 
-fn row_differences(alloc: Global) -> Result<String, OutOfMemory> {
-    let mut found = String::new(alloc);
+fn put_rows(found: &mut String, alloc: Global) -> Result<(), OutOfMemory> {
     for row in ROWS.split('\n') {
         let (kind, rest) = field(row);
         let (bytes, want) = field(rest);
-        found.push_str(difference(alloc, kind, bytes.as_bytes(), want)?.as_str())?;
+        put_difference(found, alloc, kind, bytes.as_bytes(), want)?;
     }
     for (bytes, want) in BYTES {
-        found.push_str(difference(alloc, "any", bytes, want)?.as_str())?;
+        put_difference(found, alloc, "any", bytes, want)?;
     }
-    Ok(found)
+    Ok(())
 }
 
 // The next field of a row, and what stands behind it.
@@ -145,8 +150,8 @@ fn long(
     Ok(text)
 }
 
-// What differs from a row of limits.
-fn limit_difference(alloc: Global, row: &str) -> Result<String, OutOfMemory> {
+// Puts what differs from a row of limits.
+fn put_limit(found: &mut String, alloc: Global, row: &str) -> Result<(), OutOfMemory> {
     let (kind, rest) = field(row);
     let (front, rest) = field(rest);
     let (piece, rest) = field(rest);
@@ -159,40 +164,52 @@ fn limit_difference(alloc: Global, row: &str) -> Result<String, OutOfMemory> {
     );
     let text = long(alloc, (front, piece, back), counts)?;
     let want = if want.is_empty() { text.as_str() } else { want };
-    difference(alloc, kind, text.as_bytes(), want)
+    put_difference(found, alloc, kind, text.as_bytes(), want)
 }
 
-fn limit_differences(alloc: Global) -> Result<String, OutOfMemory> {
-    let mut found = String::new(alloc);
+// The name of a type of the most levels.
+fn deepest(alloc: Global) -> Result<String, AllocError> {
+    let front = long(alloc, ("", "[", "int"), (63, 1))?;
+    long(alloc, (front.as_str(), "]", ""), (63, 0))
+}
+
+fn put_limits(found: &mut String, alloc: Global) -> Result<(), OutOfMemory> {
     for row in LIMITS.split('\n') {
-        found.push_str(limit_difference(alloc, row)?.as_str())?;
+        put_limit(found, alloc, row)?;
     }
-    let most = long(alloc, ("", "[", "int"), (63, 1))?;
-    let most = long(alloc, (most.as_str(), "]", ""), (63, 0))?;
-    found.push_str(difference(alloc, "type", most.as_bytes(), most.as_str())?.as_str())?;
-    Ok(found)
+    let most = deepest(alloc)?;
+    put_difference(found, alloc, "type", most.as_bytes(), most.as_str())
 }
 
-// What a text of one character is printed as, where that isn't what is wanted.
-fn printed_difference(alloc: Global, text: &str, want: &str) -> Result<String, OutOfMemory> {
-    let text = Value::Text(TaskText::of(alloc, text)?);
-    let printed = print_value(alloc, &text)?;
-    if printed.as_str() == want {
-        return Ok(String::new(alloc));
-    }
-    Ok(format!(in alloc; "{want} is {}\n", printed.as_str())?)
+// What a text of one character is printed as.
+fn printed(alloc: Global, text: &str) -> Result<TaskText, OutOfMemory> {
+    print_value(alloc, &Value::Text(TaskText::of(alloc, text)?))
 }
 
-// The same of a control character.
-fn control_difference(alloc: Global, code: u8) -> Result<String, OutOfMemory> {
+// Puts what it is printed as, where that isn't what is wanted.
+fn put_printed(
+    found: &mut String,
+    alloc: Global,
+    text: &str,
+    want: &str,
+) -> Result<(), OutOfMemory> {
+    let printed = printed(alloc, text)?;
+    if printed.as_str() != want {
+        write!(found, "{want} is {}\n", printed.as_str())?;
+    }
+    Ok(())
+}
+
+// The text of a control character, and what it is to be printed as.
+fn control(alloc: Global, code: u8) -> Result<(String, String), AllocError> {
     let text = format!(in alloc; "{}", code as char)?;
     let want = match code {
-        9 => String::from_str(alloc, "\"\\t\"")?,
-        10 => String::from_str(alloc, "\"\\n\"")?,
-        13 => String::from_str(alloc, "\"\\r\"")?,
-        _ => format!(in alloc; "\"\\x{code:02x}\"")?,
+        9 => format!(in alloc; "\"\\t\""),
+        10 => format!(in alloc; "\"\\n\""),
+        13 => format!(in alloc; "\"\\r\""),
+        _ => format!(in alloc; "\"\\x{code:02x}\""),
     };
-    printed_difference(alloc, text.as_str(), want.as_str())
+    Ok((text, want?))
 }
 
 const CHARACTERS: &[(&str, &str)] = &[
@@ -201,27 +218,27 @@ const CHARACTERS: &[(&str, &str)] = &[
     ("\"\\", "\"\\\"\\\\\""),
 ];
 
-fn character_differences(alloc: Global) -> Result<String, OutOfMemory> {
-    let mut found = String::new(alloc);
+fn put_characters(found: &mut String, alloc: Global) -> Result<(), OutOfMemory> {
     for code in 0u8..32 {
-        found.push_str(control_difference(alloc, code)?.as_str())?;
+        let (text, want) = control(alloc, code)?;
+        put_printed(found, alloc, text.as_str(), want.as_str())?;
     }
     for (text, want) in CHARACTERS {
-        found.push_str(printed_difference(alloc, text, want)?.as_str())?;
+        put_printed(found, alloc, text, want)?;
     }
-    Ok(found)
+    Ok(())
 }
 
-fn differences(alloc: Global) -> Result<String, OutOfMemory> {
-    let mut found = row_differences(alloc)?;
-    found.push_str(limit_differences(alloc)?.as_str())?;
-    found.push_str(character_differences(alloc)?.as_str())?;
-    Ok(found)
+fn put_all(found: &mut String, alloc: Global) -> Result<(), OutOfMemory> {
+    put_rows(found, alloc)?;
+    put_limits(found, alloc)?;
+    put_characters(found, alloc)
 }
 
 #[test]
 fn literals_types_and_texts(rt: HostRuntime) -> Result<(), Fail> {
-    let found = differences(rt.alloc())?;
+    let mut found = String::new(rt.alloc());
+    put_all(&mut found, rt.alloc())?;
     assert!(rt; found.is_empty(), "{}", found.as_str());
     Ok(())
 }

@@ -1,36 +1,29 @@
 mod cases;
 mod serving;
 
-use cases::{ASKED, CLOSING, GOING_ON};
-use serving::{Wire, bytes_of, differences, served};
+use cases::{CLOSING, FAILING, GOING_ON};
+use serving::{Wire, put_table};
+use std::alloc::Global;
+use std::sync::Wait;
 use std::test::Fail;
+use task_model::OutOfMemory;
 
-#[test]
-fn replies_do_not_depend_on_the_pieces(rt: HostRuntime) -> Result<(), Fail> {
+fn put_all<R: Wait>(found: &mut String, rt: &R, alloc: Global) -> Result<(), OutOfMemory> {
     for piece in [100_000, 7, 1] {
         for table in [GOING_ON, CLOSING] {
-            let found = differences(&rt, rt.alloc(), table, Wire::whole(piece))?;
-            assert!(rt; found.is_empty(), "{}", found.as_str());
+            put_table(found, rt, alloc, table, Wire::whole(piece))?;
         }
+    }
+    for (row, wire) in FAILING {
+        put_table(found, rt, alloc, row, *wire)?;
     }
     Ok(())
 }
 
 #[test]
-fn a_call_that_fails_ends_a_connection(rt: HostRuntime) -> Result<(), Fail> {
-    let sent = bytes_of(rt.alloc(), ASKED)?;
-    for (gives, takes, failing_read, failing_write, wants) in [
-        (100_000, 5, 0, 2, "WriteFault Taken 1\nHTTP/"),
-        (20, 5, 2, 0, "ReadFault\n"),
-    ] {
-        let wire = Wire {
-            gives,
-            takes,
-            failing_read,
-            failing_write,
-        };
-        let got = served(&rt, rt.alloc(), sent.as_bytes(), wire)?;
-        assert_eq!(rt; got.as_str(), wants);
-    }
+fn connections_over_links_in_memory(rt: HostRuntime) -> Result<(), Fail> {
+    let mut found = String::new(rt.alloc());
+    put_all(&mut found, &rt, rt.alloc())?;
+    assert!(rt; found.is_empty(), "{}", found.as_str());
     Ok(())
 }

@@ -33,8 +33,14 @@ fn has(v: &Value, b: &Basic) -> Result<(bool, bool), OutOfMemory> {
 // The same of a text and a list that are so much longer than the limit.
 fn long_ones_have(alloc: Global, beyond: usize) -> Result<[(bool, bool); 2], OutOfMemory> {
     let bools = Basic::List(shared(alloc, Basic::Bool)?);
-    let text = has(&text_of(alloc, TEXT_BYTE_LIMIT + beyond)?, &Basic::Text)?;
-    let list = has(&bools_of(alloc, LIST_ELEMENT_LIMIT + beyond)?, &bools)?;
+    let text = has(
+        &text_of(alloc, TEXT_BYTE_LIMIT.saturating_add(beyond))?,
+        &Basic::Text,
+    )?;
+    let list = has(
+        &bools_of(alloc, LIST_ELEMENT_LIMIT.saturating_add(beyond))?,
+        &bools,
+    )?;
     Ok([text, list])
 }
 

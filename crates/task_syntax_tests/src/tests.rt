@@ -38,13 +38,18 @@ fn shown(alloc: Global, source: &str) -> Result<String, AllocError> {
     }
 }
 
-// A source and what is shown of it, where that isn't what is wanted.
-fn difference(alloc: Global, source: &str, want: &str) -> Result<String, AllocError> {
+// Puts a source and what is shown of it, where that isn't what is wanted.
+fn put_difference(
+    found: &mut String,
+    alloc: Global,
+    source: &str,
+    want: &str,
+) -> Result<(), AllocError> {
     let told = shown(alloc, source)?;
-    if told.as_str().trim_end() == want.trim_end() {
-        return Ok(String::new(alloc));
+    if told.as_str().trim_end() != want.trim_end() {
+        write!(found, "{source:?} is {}\n", told.as_str())?;
     }
-    format!(in alloc; "{source:?} is {}\n", told.as_str())
+    Ok(())
 }
 
 /// Words, numbers and comments, each before its tokens with their spans, or its fault.
@@ -161,14 +166,13 @@ const TEXTS: &str = "\"\" => 0-2 \"\"
 
 _ \"\\q\" => BadChar at 0";
 
-// What differs from a table.
-fn differences(alloc: Global, table: &str) -> Result<String, AllocError> {
-    let mut found = String::new(alloc);
+// Puts what differs from a table.
+fn put_table(found: &mut String, alloc: Global, table: &str) -> Result<(), AllocError> {
     for row in table.split("\n\n") {
         let (source, want) = row.split_once(" => ").unwrap_or((row, ""));
-        found.push_str(difference(alloc, source, want)?.as_str())?;
+        put_difference(found, alloc, source, want)?;
     }
-    Ok(found)
+    Ok(())
 }
 
 // The signs, from the longest to the shortest, so that the first one at the front of some bytes is the longest there.
@@ -205,29 +209,27 @@ fn cut(alloc: Global, source: &str) -> Result<String, AllocError> {
     Ok(text)
 }
 
-// What differs where the one sign stands right behind the other.
-fn difference_of_signs(alloc: Global, first: &str, second: &str) -> Result<String, AllocError> {
+// Puts what differs where the one sign stands right behind the other.
+fn put_signs(
+    found: &mut String,
+    alloc: Global,
+    first: &str,
+    second: &str,
+) -> Result<(), AllocError> {
     let source = format!(in alloc; "{first}{second}")?;
     let want = cut(alloc, source.as_str())?;
-    difference(alloc, source.as_str(), want.as_str())
+    put_difference(found, alloc, source.as_str(), want.as_str())
 }
 
-// What differs where each sign stands behind this text.
-fn differences_behind(alloc: Global, first: &str) -> Result<String, AllocError> {
-    let mut found = String::new(alloc);
-    for second in &SIGNS {
-        found.push_str(difference_of_signs(alloc, first, second)?.as_str())?;
-    }
-    Ok(found)
-}
-
-// What differs of signs alone, and of each two side by side.
-fn sign_differences(alloc: Global) -> Result<String, AllocError> {
-    let mut found = differences_behind(alloc, "")?;
+// Puts what differs of signs alone, and of each two side by side.
+fn put_all_signs(found: &mut String, alloc: Global) -> Result<(), AllocError> {
     for first in &SIGNS {
-        found.push_str(differences_behind(alloc, first)?.as_str())?;
+        put_signs(found, alloc, first, "")?;
+        for second in &SIGNS {
+            put_signs(found, alloc, first, second)?;
+        }
     }
-    Ok(found)
+    Ok(())
 }
 
 /// A character so many times between two texts.
@@ -291,8 +293,8 @@ fn field(row: &str) -> (&str, &str) {
     row.split_once('@').unwrap_or((row, ""))
 }
 
-// The row, where something else is shown of its source.
-fn long_difference(alloc: Global, row: &str) -> Result<String, AllocError> {
+// Puts what differs from a row.
+fn put_long(found: &mut String, alloc: Global, row: &str) -> Result<(), AllocError> {
     let (front, rest) = field(row);
     let (character, rest) = field(rest);
     let (times, rest) = field(rest);
@@ -300,24 +302,24 @@ fn long_difference(alloc: Global, row: &str) -> Result<String, AllocError> {
     let times = times.parse::<usize>().unwrap_or(0);
     let source = repeated(alloc, front, character, times, back)?;
     let want = long_want(alloc, want, character, times)?;
-    let found = difference(alloc, source.as_str(), want.as_str())?;
-    String::from_str(alloc, if found.is_empty() { "" } else { row })
+    put_difference(found, alloc, source.as_str(), want.as_str())
 }
 
-// What differs of everything here.
-fn all_differences(alloc: Global) -> Result<String, AllocError> {
-    let mut found = differences(alloc, WORDS)?;
-    found.push_str(differences(alloc, TEXTS)?.as_str())?;
-    found.push_str(sign_differences(alloc)?.as_str())?;
+// Puts what differs of everything here.
+fn put_all(found: &mut String, alloc: Global) -> Result<(), AllocError> {
+    put_table(found, alloc, WORDS)?;
+    put_table(found, alloc, TEXTS)?;
+    put_all_signs(found, alloc)?;
     for row in LONG_SOURCES.split("\n\n") {
-        found.push_str(long_difference(alloc, row)?.as_str())?;
+        put_long(found, alloc, row)?;
     }
-    Ok(found)
+    Ok(())
 }
 
 #[test]
 fn tokens_and_faults(rt: HostRuntime) -> Result<(), Fail> {
-    let found = all_differences(rt.alloc())?;
+    let mut found = String::new(rt.alloc());
+    put_all(&mut found, rt.alloc())?;
     assert!(rt; found.is_empty(), "{}", found.as_str());
     Ok(())
 }

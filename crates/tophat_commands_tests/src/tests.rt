@@ -2,7 +2,7 @@ mod case;
 mod requests;
 mod rows;
 
-use case::{Case, SERVE, difference};
+use case::{Case, SERVE, put_difference};
 use std::alloc::Global;
 use std::sync::Wait;
 use std::test::Fail;
@@ -48,20 +48,21 @@ const NO_WORDS: Case<'static> = Case {
     ..SERVE
 };
 
-fn differences(
+fn put_all(
+    found: &mut String,
     rt: &(impl Threads + Wait + Copy + Send + Sync),
     alloc: Global,
-) -> Result<String, OutOfMemory> {
-    let mut found = String::new(alloc);
+) -> Result<(), OutOfMemory> {
     for (case, piece) in CASES {
-        found.push_str(difference(rt, alloc, case, *piece)?.as_str())?;
+        put_difference(found, rt, alloc, case, *piece)?;
     }
-    Ok(found)
+    Ok(())
 }
 
 #[test]
 fn every_command(rt: HostRuntime) -> Result<(), Fail> {
-    let found = differences(&rt, rt.alloc())?;
+    let mut found = String::new(rt.alloc());
+    put_all(&mut found, &rt, rt.alloc())?;
     assert!(rt; found.is_empty(), "{}", found.as_str());
     Ok(())
 }

@@ -9,12 +9,12 @@ mod typing;
 mod worded;
 mod worked_rows;
 
-use block::differences;
-use case::{Case, RUN, compared, told};
+use block::put_table;
+use case::{Case, RUN, put_compared, told};
 use std::alloc::Global;
 use std::test::Fail;
 use task_model::OutOfMemory;
-use typing::{block_differences, row_differences};
+use typing::{put_blocks, put_rows};
 
 /// Tables of blocks, each with the size of the pieces in which its files are read and written.
 const TABLES: &[(&str, usize)] = &[
@@ -37,61 +37,63 @@ const TABLES: &[(&str, usize)] = &[
     (scripts::LIMITS, 65_536),
 ];
 
-fn table_differences(alloc: Global) -> Result<String, OutOfMemory> {
-    let mut found = String::new(alloc);
+fn put_tables(found: &mut String, alloc: Global) -> Result<(), OutOfMemory> {
     for (table, piece) in TABLES {
-        found.push_str(differences(alloc, table, *piece)?.as_str())?;
+        put_table(found, alloc, table, *piece)?;
     }
-    Ok(found)
+    Ok(())
 }
 
 #[test]
 fn commands_on_programs_and_scripts(rt: HostRuntime) -> Result<(), Fail> {
-    let found = table_differences(rt.alloc())?;
+    let mut found = String::new(rt.alloc());
+    put_tables(&mut found, rt.alloc())?;
     assert!(rt; found.is_empty(), "{}", found.as_str());
     Ok(())
 }
 
-// Scripts of the most bytes, and of one more.
-fn long_differences(alloc: Global) -> Result<String, OutOfMemory> {
-    let longest = worded::long_script(alloc, "0", "")?;
-    let mut found = differences(alloc, longest.as_str(), 65_536)?;
-    let longer = worded::long_script(alloc, "7 tophat: input too long", "\n> #\\")?;
-    found.push_str(differences(alloc, longer.as_str(), 65_536)?.as_str())?;
-    Ok(found)
+// A script of the most bytes, and one of one more.
+fn put_long_scripts(found: &mut String, alloc: Global) -> Result<(), OutOfMemory> {
+    for (end, last) in [("0", ""), ("7 tophat: input too long", "\n> #\\")] {
+        let script = worded::long_script(alloc, end, last)?;
+        put_table(found, alloc, script.as_str(), 65_536)?;
+    }
+    Ok(())
 }
 
-fn no_text_difference(alloc: Global) -> Result<String, OutOfMemory> {
+fn put_no_text(found: &mut String, alloc: Global) -> Result<(), OutOfMemory> {
     let case = Case {
         program: b"task \xff",
         ..RUN
     };
     let told = told(alloc, &case, 5)?;
     let wanted = "= 1\ntophat: p.th: byte 5: NotUtf8\n";
-    compared(alloc, "no text", told.as_str(), wanted)
+    put_compared(found, "no text", told.as_str(), wanted)
 }
 
-fn word_differences(alloc: Global) -> Result<String, OutOfMemory> {
+fn put_wrong_words(found: &mut String, alloc: Global) -> Result<(), OutOfMemory> {
     let words = worded::wrong_words(alloc, worked_rows::WRONG_WORDS)?;
-    let mut found = differences(alloc, words.as_str(), 4_096)?;
-    let lines = worded::bad_lines(alloc, refusals::BAD_LINES)?;
-    found.push_str(differences(alloc, lines.as_str(), 7)?.as_str())?;
-    for rows in [worked_rows::DRILL_WORDS, worked_rows::SERVED_WORDS] {
-        found.push_str(worded::word_differences(alloc, rows)?.as_str())?;
-    }
-    Ok(found)
+    put_table(found, alloc, words.as_str(), 4_096)
 }
 
-fn other_differences(alloc: Global) -> Result<String, OutOfMemory> {
-    let mut found = word_differences(alloc)?;
-    found.push_str(no_text_difference(alloc)?.as_str())?;
-    found.push_str(long_differences(alloc)?.as_str())?;
-    Ok(found)
+fn put_bad_lines(found: &mut String, alloc: Global) -> Result<(), OutOfMemory> {
+    let lines = worded::bad_lines(alloc, refusals::BAD_LINES)?;
+    put_table(found, alloc, lines.as_str(), 7)
+}
+
+fn put_others(found: &mut String, alloc: Global) -> Result<(), OutOfMemory> {
+    put_wrong_words(found, alloc)?;
+    put_bad_lines(found, alloc)?;
+    worded::put_other_words(found, alloc, worked_rows::DRILL_WORDS)?;
+    worded::put_other_words(found, alloc, worked_rows::SERVED_WORDS)?;
+    put_no_text(found, alloc)?;
+    put_long_scripts(found, alloc)
 }
 
 #[test]
 fn words_lines_and_long_scripts(rt: HostRuntime) -> Result<(), Fail> {
-    let found = other_differences(rt.alloc())?;
+    let mut found = String::new(rt.alloc());
+    put_others(&mut found, rt.alloc())?;
     assert!(rt; found.is_empty(), "{}", found.as_str());
     Ok(())
 }
@@ -111,20 +113,20 @@ const WHOLE: &[&str] = &[
     typing::programs::SYMBOLS,
 ];
 
-fn type_differences(alloc: Global) -> Result<String, OutOfMemory> {
-    let mut found = String::new(alloc);
+fn put_types(found: &mut String, alloc: Global) -> Result<(), OutOfMemory> {
     for (word, rows) in ROWS {
-        found.push_str(row_differences(alloc, word, rows)?.as_str())?;
+        put_rows(found, alloc, word, rows)?;
     }
     for blocks in WHOLE {
-        found.push_str(block_differences(alloc, blocks)?.as_str())?;
+        put_blocks(found, alloc, blocks)?;
     }
-    Ok(found)
+    Ok(())
 }
 
 #[test]
 fn first_faults_of_types(rt: HostRuntime) -> Result<(), Fail> {
-    let found = type_differences(rt.alloc())?;
+    let mut found = String::new(rt.alloc());
+    put_types(&mut found, rt.alloc())?;
     assert!(rt; found.is_empty(), "{}", found.as_str());
     Ok(())
 }

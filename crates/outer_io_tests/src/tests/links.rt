@@ -41,12 +41,16 @@ fn calls<L: Link>(alloc: Global, link: &mut L) -> Result<String, OutOfMemory> {
 }
 
 // The same, and what was taken.
-fn memory_link_told(alloc: Global) -> Result<String, OutOfMemory> {
-    let mut link = memory_link(alloc)?;
-    let mut text = calls(alloc, &mut link)?;
+fn calls_and_taken(alloc: Global, link: &mut MemLink) -> Result<String, OutOfMemory> {
+    let mut text = calls(alloc, link)?;
     text.push(' ')?;
     text.push_str(str::from_utf8(link.taken()).unwrap_or("no text"))?;
     Ok(text)
+}
+
+fn memory_link_told(alloc: Global) -> Result<String, OutOfMemory> {
+    let mut link = memory_link(alloc)?;
+    calls_and_taken(alloc, &mut link)
 }
 
 #[test]

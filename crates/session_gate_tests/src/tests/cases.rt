@@ -1,6 +1,8 @@
 //! A row is what a client sends, ` => `, and what comes of it: how its connection ends, its notes, and behind a line end what is written.
 //! In both `~` is CR LF, `^` is LF, `` ` `` is CR, `§` is the page `HTML`, `¶` is `PLAIN`, and `{N PIECE}` stands for N times the piece.
 
+use super::serving::Wire;
+
 /// The program of the world of each row.
 pub(super) const PROGRAM: &str = "task main() : int = enter int >>? x . edit (x + 1)";
 
@@ -53,6 +55,24 @@ GET /?face=text HTTP/1.1~Host: a~Content-Length: 5~Connection: Close~~GET / => P
 GET /x HTTP/1.1~Host: a~Connection: close~~ => Parted Refused(404) 0^HTTP/1.1 404 Not Found~¶10~Connection: close~~not found^
 {101 GET / HTTP/1.1~Host: a~~} => Spent{100  Page 0}^{99 HTTP/1.1 200 OK~Content-Type: text/html; charset=utf-8~Content-Length: 385~~§}HTTP/1.1 200 OK~Content-Type: text/html; charset=utf-8~Content-Length: 385~Connection: close~~§"#;
 
-/// An input, and the page behind it.
-pub(super) const ASKED: &str =
-    "POST / HTTP/1.1~Host: a~Content-Length: 29~~path=.&act=set&as=int&value=4GET /?v=1&face=text HTTP/1.1~Host: a~~";
+/// An input and the page behind it, where a write fails, and where a read does.
+pub(super) const FAILING: &[(&str, Wire)] = &[
+    (
+        "POST / HTTP/1.1~Host: a~Content-Length: 29~~path=.&act=set&as=int&value=4GET /?v=1&face=text HTTP/1.1~Host: a~~ => WriteFault Taken 1^HTTP/",
+        Wire {
+            gives: 100_000,
+            takes: 5,
+            failing_read: 0,
+            failing_write: 2,
+        },
+    ),
+    (
+        "POST / HTTP/1.1~Host: a~Content-Length: 29~~path=.&act=set&as=int&value=4GET /?v=1&face=text HTTP/1.1~Host: a~~ => ReadFault^",
+        Wire {
+            gives: 20,
+            takes: 5,
+            failing_read: 2,
+            failing_write: 0,
+        },
+    ),
+];

@@ -85,20 +85,15 @@ fn with_taken(told: String, taken: &[u8]) -> Result<String, OutOfMemory> {
     Ok(text)
 }
 
-/// What comes of a connection on which this was sent.
-pub(super) fn served<R: Wait>(
-    rt: &R,
-    alloc: Global,
-    sent: &[u8],
-    wire: Wire,
-) -> Result<String, OutOfMemory> {
+// What comes of a connection on which this was sent.
+fn served<R: Wait>(rt: &R, alloc: Global, sent: &[u8], wire: Wire) -> Result<String, OutOfMemory> {
     let mut link = wire.link(alloc, sent)?;
     let told = told(rt, alloc, &mut link)?;
     with_taken(told, link.taken())
 }
 
-/// The text that a field of a row stands for.
-pub(super) fn bytes_of(alloc: Global, field: &str) -> Result<String, OutOfMemory> {
+// The text that a field of a row stands for.
+fn bytes_of(alloc: Global, field: &str) -> Result<String, OutOfMemory> {
     let mut text = String::new(alloc);
     for c in repeated(alloc, field)?.chars() {
         match c {
@@ -113,32 +108,34 @@ pub(super) fn bytes_of(alloc: Global, field: &str) -> Result<String, OutOfMemory
     Ok(text)
 }
 
-// What comes of a row, if it isn't what the row says.
-fn row_differences<R: Wait>(
+// Puts what comes of a row, if it isn't what the row says.
+fn put_row<R: Wait>(
+    found: &mut String,
     rt: &R,
     alloc: Global,
     row: &str,
     wire: Wire,
-) -> Result<String, OutOfMemory> {
+) -> Result<(), OutOfMemory> {
     let (sent, wants) = row.split_once(" => ").unwrap_or((row, ""));
     let sent = bytes_of(alloc, sent)?;
     let got = served(rt, alloc, sent.as_bytes(), wire)?;
-    if got.as_str() == bytes_of(alloc, wants)?.as_str() {
-        return Ok(String::new(alloc));
+    let wants = bytes_of(alloc, wants)?;
+    if got.as_str() != wants.as_str() {
+        write!(found, "{row}\n is {}\n", got.as_str())?;
     }
-    Ok(format!(in alloc; "{row}\n is {got}\n")?)
+    Ok(())
 }
 
-/// What differs from a table.
-pub(super) fn differences<R: Wait>(
+/// Puts what differs from a table.
+pub(super) fn put_table<R: Wait>(
+    found: &mut String,
     rt: &R,
     alloc: Global,
     table: &str,
     wire: Wire,
-) -> Result<String, OutOfMemory> {
-    let mut found = String::new(alloc);
+) -> Result<(), OutOfMemory> {
     for row in table.split('\n') {
-        found.push_str(row_differences(rt, alloc, row, wire)?.as_str())?;
+        put_row(found, rt, alloc, row, wire)?;
     }
-    Ok(found)
+    Ok(())
 }

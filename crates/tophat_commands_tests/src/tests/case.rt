@@ -146,16 +146,17 @@ fn push_bytes(alloc: Global, text: &mut String, bytes: &[u8]) -> Result<(), OutO
     Ok(())
 }
 
-/// What comes of a case in pieces of this size, where that isn't what is wanted.
-pub(super) fn difference(
+/// Puts what comes of a case in pieces of this size, where that isn't what is wanted.
+pub(super) fn put_difference(
+    found: &mut String,
     rt: &(impl Threads + Wait + Copy + Send + Sync),
     alloc: Global,
     case: &Case<'_>,
     piece: usize,
-) -> Result<String, OutOfMemory> {
+) -> Result<(), OutOfMemory> {
     let told = told(rt, alloc, case, piece.max(1))?;
-    if told.as_str() == case.want {
-        return Ok(String::new(alloc));
+    if told.as_str() != case.want {
+        write!(found, "{}\nis {}\n", case.words, told.as_str())?;
     }
-    Ok(format!(in alloc; "{}\nis {}\n", case.words, told.as_str())?)
+    Ok(())
 }

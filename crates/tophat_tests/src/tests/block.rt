@@ -1,6 +1,6 @@
 //! Tables of programs with their transcripts.
 
-use crate::tests::case::{Case, compared, told};
+use crate::tests::case::{Case, put_compared, told};
 use std::alloc::Global;
 use task_model::OutOfMemory;
 use testing_programs::repeated;
@@ -103,14 +103,13 @@ fn wanted(alloc: Global, block: &Block<'_>) -> Result<String, OutOfMemory> {
     Ok(text)
 }
 
-// What differs from a block below one of this program.
-fn block_difference(
+// What comes of a block, below one of this program.
+fn block_told(
     alloc: Global,
-    text: &str,
+    block: &Block<'_>,
     piece: usize,
     above: &str,
 ) -> Result<String, OutOfMemory> {
-    let block = block_of(text);
     let script = script_of(alloc, block.transcript)?;
     let script = with_returns(alloc, script.as_str())?;
     let case = Case {
@@ -119,8 +118,7 @@ fn block_difference(
         script: script.as_str().as_bytes(),
         fails: fails_of(block.fails),
     };
-    let told = told(alloc, &case, piece)?;
-    compared(alloc, text, told.as_str(), wanted(alloc, &block)?.as_str())
+    told(alloc, &case, piece)
 }
 
 fn program_below<'a>(program: &'a str, above: &'a str) -> &'a str {
@@ -131,16 +129,36 @@ fn program_below<'a>(program: &'a str, above: &'a str) -> &'a str {
     }
 }
 
-/// What differs from a table, whose blocks have an empty line between each two. Sources and sinks take pieces of this size.
-pub(super) fn differences(alloc: Global, table: &str, piece: usize) -> Result<String, OutOfMemory> {
-    let mut found = String::new(alloc);
+// Puts what differs from a block below one of this program, which becomes the block's.
+fn put_block(
+    found: &mut String,
+    alloc: Global,
+    text: &str,
+    piece: usize,
+    above: &mut String,
+) -> Result<(), OutOfMemory> {
+    let block = block_of(text);
+    let told = block_told(alloc, &block, piece, above.as_str())?;
+    let wanted = wanted(alloc, &block)?;
+    put_compared(found, text, told.as_str(), wanted.as_str())?;
+    if block.program != "same program" {
+        above.clear();
+        above.push_str(block.program)?;
+    }
+    Ok(())
+}
+
+/// Puts what differs from a table, whose blocks have an empty line between each two. Sources and sinks take pieces of this size.
+pub(super) fn put_table(
+    found: &mut String,
+    alloc: Global,
+    table: &str,
+    piece: usize,
+) -> Result<(), OutOfMemory> {
     let mut above = String::new(alloc);
     for block in table.trim_end().split("\n\n") {
         let text = repeated(alloc, block)?;
-        let told = block_difference(alloc, text.as_str(), piece, above.as_str())?;
-        found.push_str(told.as_str())?;
-        let program = program_below(block_of(text.as_str()).program, above.as_str());
-        above = String::from_str(alloc, program)?;
+        put_block(found, alloc, text.as_str(), piece, &mut above)?;
     }
-    Ok(found)
+    Ok(())
 }

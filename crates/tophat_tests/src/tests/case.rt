@@ -93,15 +93,15 @@ fn text_of(
     Ok(text)
 }
 
-/// A case and what comes of it, where that isn't what is wanted.
-pub(super) fn compared(
-    alloc: Global,
+/// Puts a case and what comes of it, where that isn't what is wanted.
+pub(super) fn put_compared(
+    found: &mut String,
     case: &str,
     told: &str,
     wanted: &str,
-) -> Result<String, OutOfMemory> {
-    if told == wanted {
-        return Ok(String::new(alloc));
+) -> Result<(), OutOfMemory> {
+    if told != wanted {
+        write!(found, "{case}\nis {told}\n")?;
     }
-    Ok(format!(in alloc; "{case}\nis {told}\n")?)
+    Ok(())
 }

@@ -43,47 +43,58 @@ fn is_fault(alloc: Global, told: &str, place: usize, fault: &str) -> Result<bool
     Ok(told == wanted.as_str())
 }
 
-// The text and what is told of it, where that isn't its fault.
-fn difference(alloc: Global, text: &str, fault: &str) -> Result<String, OutOfMemory> {
-    let marked = repeated(alloc, text)?;
-    let (before, behind) = marked
-        .as_str()
-        .split_once('@')
-        .unwrap_or((marked.as_str(), ""));
-    let program = format!(in alloc; "{before}{behind}")?;
-    let told = checked(alloc, program.as_str())?;
-    if is_fault(alloc, told.as_str(), before.len(), fault)? {
-        return Ok(String::new(alloc));
-    }
-    Ok(format!(in alloc; "{fault}: {text}\nis {}\n", told.as_str())?)
+// The program of a text, without its mark.
+fn unmarked(alloc: Global, text: &str) -> Result<String, OutOfMemory> {
+    let (before, behind) = text.split_once('@').unwrap_or((text, ""));
+    Ok(format!(in alloc; "{before}{behind}")?)
 }
 
-fn row_difference(alloc: Global, word: &str, row: &str) -> Result<String, OutOfMemory> {
+// Puts the text and what is told of it, where that isn't its fault.
+fn put_difference(
+    found: &mut String,
+    alloc: Global,
+    text: &str,
+    fault: &str,
+) -> Result<(), OutOfMemory> {
+    let marked = repeated(alloc, text)?;
+    let place = marked.as_str().split('@').next().unwrap_or("").len();
+    let program = unmarked(alloc, marked.as_str())?;
+    let told = checked(alloc, program.as_str())?;
+    if !is_fault(alloc, told.as_str(), place, fault)? {
+        write!(found, "{fault}: {text}\nis {}\n", told.as_str())?;
+    }
+    Ok(())
+}
+
+fn put_row(found: &mut String, alloc: Global, word: &str, row: &str) -> Result<(), OutOfMemory> {
     let (fault, rest) = row.split_once("; ").unwrap_or((row, ""));
     let (kind, body) = rest.split_once("; ").unwrap_or((rest, ""));
     let text = format!(in alloc; "{BEFORE}{word} f{PARAMETERS}{kind} = {body}{BEHIND}")?;
-    difference(alloc, text.as_str(), fault)
+    put_difference(found, alloc, text.as_str(), fault)
 }
 
-/// What differs from rows, of functions or tasks by this word.
-pub(super) fn row_differences(
+/// Puts what differs from rows, of functions or tasks by this word.
+pub(super) fn put_rows(
+    found: &mut String,
     alloc: Global,
     word: &str,
     rows: &str,
-) -> Result<String, OutOfMemory> {
-    let mut found = String::new(alloc);
+) -> Result<(), OutOfMemory> {
     for row in rows.split('\n') {
-        found.push_str(row_difference(alloc, word, row)?.as_str())?;
+        put_row(found, alloc, word, row)?;
     }
-    Ok(found)
+    Ok(())
 }
 
-/// What differs from blocks.
-pub(super) fn block_differences(alloc: Global, blocks: &str) -> Result<String, OutOfMemory> {
-    let mut found = String::new(alloc);
+/// Puts what differs from blocks.
+pub(super) fn put_blocks(
+    found: &mut String,
+    alloc: Global,
+    blocks: &str,
+) -> Result<(), OutOfMemory> {
     for block in blocks.split("\n\n") {
         let (fault, program) = block.split_once('\n').unwrap_or((block, ""));
-        found.push_str(difference(alloc, program, fault)?.as_str())?;
+        put_difference(found, alloc, program, fault)?;
     }
-    Ok(found)
+    Ok(())
 }

@@ -1,6 +1,6 @@
 //! Tables of blocks that are made of shorter rows, and what words ask for.
 
-use super::case::{Case, RUN, compared, told, words_of};
+use super::case::{Case, RUN, put_compared, told, words_of};
 use command_words::{Command, ServeWords, read_command};
 use std::alloc::Global;
 use task_model::OutOfMemory;
@@ -55,20 +55,23 @@ fn serving_text(alloc: Global, file: &str, of: ServeWords) -> Result<String, Out
     Ok(format!(in alloc; "{seats} {} {}", of.port, of.connections)?)
 }
 
-fn word_difference(alloc: Global, row: &str) -> Result<String, OutOfMemory> {
+// Puts what differs from a row of words and what they ask for.
+fn put_words(found: &mut String, alloc: Global, row: &str) -> Result<(), OutOfMemory> {
     let (words, wanted) = row.split_once(" = ").unwrap_or((row, ""));
     let asked = asked(alloc, words)?;
+    put_compared(found, words, asked.as_str(), wanted)?;
     let told = told(alloc, &Case { words, ..RUN }, 4_096)?;
-    let told = format!(in alloc; "{} {}", asked.as_str(), told.as_str())?;
-    let wanted = format!(in alloc; "{wanted} = none\n")?;
-    compared(alloc, words, told.as_str(), wanted.as_str())
+    put_compared(found, words, told.as_str(), "= none\n")
 }
 
-/// What differs from rows of words and what they ask for.
-pub(super) fn word_differences(alloc: Global, rows: &str) -> Result<String, OutOfMemory> {
-    let mut found = String::new(alloc);
+/// Puts what differs from rows of words and what they ask for, none of which is a plain command.
+pub(super) fn put_other_words(
+    found: &mut String,
+    alloc: Global,
+    rows: &str,
+) -> Result<(), OutOfMemory> {
     for row in rows.split('\n') {
-        found.push_str(word_difference(alloc, row)?.as_str())?;
+        put_words(found, alloc, row)?;
     }
-    Ok(found)
+    Ok(())
 }

@@ -46,82 +46,85 @@ struct Case<'c> {
 }
 
 impl Case<'_> {
-    // What it comes to within a budget, where that isn't what is wanted.
-    fn difference(&self, budget: u32, wanted: &str) -> Result<String, OutOfMemory> {
+    // Puts what it comes to within a budget, where that isn't what is wanted.
+    fn put_difference(
+        &self,
+        found: &mut String,
+        budget: u32,
+        wanted: &str,
+    ) -> Result<(), OutOfMemory> {
         let told = told(self.alloc, self.source, budget, self.lines)?;
-        if told.as_str() == wanted {
-            return Ok(String::new(self.alloc));
+        if told.as_str() != wanted {
+            let (source, lines) = (self.source, self.lines);
+            write!(found, "{source}\n{lines}\nat {budget}: {}\n", told.as_str())?;
         }
-        let (source, lines) = (self.source, self.lines);
-        Ok(format!(in self.alloc; "{source}\n{lines}\nat {budget}: {}\n", told.as_str())?)
+        Ok(())
     }
 
     // The same with just so many units, and that it is over with one fewer.
-    fn exact_difference(&self, units: u32, wanted: &str) -> Result<String, OutOfMemory> {
-        let mut found = self.difference(units, wanted)?;
-        if units > 1 {
-            let over = if self.lines.is_empty() {
-                "opening over"
-            } else {
-                "over"
-            };
-            found.push_str(self.difference(units - 1, over)?.as_str())?;
+    fn put_exact(&self, found: &mut String, units: u32, wanted: &str) -> Result<(), OutOfMemory> {
+        self.put_difference(found, units, wanted)?;
+        if units < 2 {
+            return Ok(());
         }
-        Ok(found)
+        let over = if self.lines.is_empty() {
+            "opening over"
+        } else {
+            "over"
+        };
+        self.put_difference(found, units - 1, over)
+    }
+
+    // Puts what differs from a row: behind its line, the units that it takes, if they are said, and what it comes to.
+    fn put_row(&self, found: &mut String, budget: u32, row: &str) -> Result<(), OutOfMemory> {
+        let (units, wanted) = row.split_once('@').unwrap_or((row, ""));
+        self.put_difference(found, budget, wanted)?;
+        match units.parse::<u32>() {
+            Ok(units) => self.put_exact(found, units, wanted),
+            Err(_) => Ok(()),
+        }
     }
 }
 
-// What differs from a row: behind its line, the units that it takes, if they are said, and what it comes to.
-fn row_difference(case: &Case<'_>, budget: u32, row: &str) -> Result<String, OutOfMemory> {
-    let (units, wanted) = row.split_once('@').unwrap_or((row, ""));
-    let mut found = case.difference(budget, wanted)?;
-    if let Ok(units) = units.parse::<u32>() {
-        found.push_str(case.exact_difference(units, wanted)?.as_str())?;
-    }
-    Ok(found)
-}
-
-// What differs from the rows of a program.
-fn rows_differences(
+// Puts what differs from a row below these lines, and its line behind them.
+fn put_line(
+    found: &mut String,
     alloc: Global,
     source: &str,
     budget: u32,
-    rows: &str,
-) -> Result<String, OutOfMemory> {
-    let mut found = String::new(alloc);
-    let mut lines = String::new(alloc);
-    for row in rows.split('\n') {
-        let row = repeated(alloc, row)?;
-        let (line, rest) = row.as_str().split_once('@').unwrap_or((row.as_str(), ""));
-        lines.push_str(line)?;
-        let case = Case {
-            alloc,
-            source,
-            lines: lines.as_str(),
-        };
-        found.push_str(row_difference(&case, budget, rest)?.as_str())?;
-        lines.push('\n')?;
-    }
-    Ok(found)
+    lines: &mut String,
+    row: &str,
+) -> Result<(), OutOfMemory> {
+    let row = repeated(alloc, row)?;
+    let (line, rest) = row.as_str().split_once('@').unwrap_or((row.as_str(), ""));
+    lines.push_str(line)?;
+    let case = Case {
+        alloc,
+        source,
+        lines: lines.as_str(),
+    };
+    case.put_row(found, budget, rest)?;
+    lines.push('\n')?;
+    Ok(())
 }
 
-fn block_differences(alloc: Global, block: &str) -> Result<String, OutOfMemory> {
+// Puts what differs from the rows of a program.
+fn put_block(found: &mut String, alloc: Global, block: &str) -> Result<(), OutOfMemory> {
     let (head, rows) = block.split_once('\n').unwrap_or((block, ""));
     let (budget, source) = head.split_once('@').unwrap_or((head, ""));
+    let budget = budget.parse::<u32>().unwrap_or(0);
     let source = repeated(alloc, source)?;
-    rows_differences(
-        alloc,
-        source.as_str(),
-        budget.parse::<u32>().unwrap_or(0),
-        rows,
-    )
+    let mut lines = String::new(alloc);
+    for row in rows.split('\n') {
+        put_line(found, alloc, source.as_str(), budget, &mut lines, row)?;
+    }
+    Ok(())
 }
 
-/// What differs from a table.
-pub(super) fn differences(alloc: Global, table: &str) -> Result<String, OutOfMemory> {
-    let mut found = String::new(alloc);
+/// Puts what differs from a table.
+pub(super) fn put_table(found: &mut String, alloc: Global, table: &str) -> Result<(), OutOfMemory> {
     for block in table.split("\n\n") {
-        found.push_str(block_differences(alloc, block)?.as_str())?;
+        put_block(found, alloc, block)?;
     }
-    Ok(found)
+    Ok(())
 }

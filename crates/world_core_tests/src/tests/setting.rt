@@ -51,22 +51,26 @@ fn marks(alloc: Global, source: &str, literals: &str) -> Result<String, OutOfMem
     Ok(text)
 }
 
-// A row with the marks that were found, where others are wanted.
-fn row_difference(alloc: Global, row: &str, literals: &str) -> Result<String, OutOfMemory> {
+// Puts a row with the marks that were found, where others are wanted.
+fn put_row(
+    found: &mut String,
+    alloc: Global,
+    row: &str,
+    literals: &str,
+) -> Result<(), OutOfMemory> {
     let (wanted, source) = row.split_once('@').unwrap_or((row, ""));
     let told = marks(alloc, source, literals)?;
-    if told.as_str() == wanted {
-        return Ok(String::new(alloc));
+    if told.as_str() != wanted {
+        write!(found, "{}@{source}\n", told.as_str())?;
     }
-    Ok(format!(in alloc; "{told}@{source}\n")?)
+    Ok(())
 }
 
-/// What differs from the marks of a table.
-pub(super) fn differences(alloc: Global, table: &str) -> Result<String, OutOfMemory> {
-    let mut all = String::new(alloc);
+/// Puts what differs from the marks of a table.
+pub(super) fn put_table(found: &mut String, alloc: Global, table: &str) -> Result<(), OutOfMemory> {
     let (literals, rows) = table.split_once('\n').unwrap_or((table, ""));
     for row in rows.split('\n') {
-        all.push_str(row_difference(alloc, row, literals)?.as_str())?;
+        put_row(found, alloc, row, literals)?;
     }
-    Ok(all)
+    Ok(())
 }
