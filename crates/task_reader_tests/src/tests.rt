@@ -37,25 +37,31 @@ fn token_place(alloc: Global, source: &str, token: usize) -> Result<u64, AllocEr
     }
 }
 
-// A source and what is told of it, where that isn't what is wanted.
-fn compared(alloc: Global, source: &str, wanted: &str) -> Result<String, AllocError> {
+/// Puts a source and what is told of it, where that isn't what is wanted.
+fn put_compared(
+    found: &mut String,
+    alloc: Global,
+    source: &str,
+    wanted: &str,
+) -> Result<(), AllocError> {
     let told = told(alloc, source.as_bytes())?;
-    if told.as_str() == wanted {
-        return Ok(String::new(alloc));
+    if told.as_str() != wanted {
+        write!(found, "{source}\nis {}\n", told.as_str())?;
     }
-    format!(in alloc; "{source}\nis {}\n", told.as_str())
+    Ok(())
 }
 
-/// What differs where the first fault of a source is to be this token, and why.
-fn fault_difference(
+/// Puts what differs where the first fault of a source is to be this token, and why.
+fn put_fault(
+    found: &mut String,
     alloc: Global,
     source: &str,
     token: usize,
     kind: &str,
-) -> Result<String, AllocError> {
+) -> Result<(), AllocError> {
     let place = token_place(alloc, source, token)?;
     let wanted = format!(in alloc; "{kind} at {place}")?;
-    compared(alloc, source, wanted.as_str())
+    put_compared(found, alloc, source, wanted.as_str())
 }
 
 /// The first field of a row of a table, which ends at `@`, and what stands behind it.

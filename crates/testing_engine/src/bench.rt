@@ -1,5 +1,5 @@
 use crate::parts::step_in;
-use crate::runs::{applied, first_started, main_started, settled, strode};
+use crate::runs::{first_applied, first_started, main_started, settled, strode};
 use observe_inputs::offers;
 use shared_store::Store;
 use std::alloc::Global;
@@ -146,17 +146,13 @@ impl Bench {
     /// step or the value has another type.
     pub fn apply(&mut self, v: &Value, purse: &mut Purse) -> Option<Result<(), Stop>> {
         let t = self.tree.take()?;
-        let step = step_in(&t)?;
-        let v = copy_value(v).ok()?;
-        if !value_has(&v, step.takes) {
-            return None;
-        }
-        match applied(&self.engine, step.cont, v, &mut self.store, purse) {
-            Ok(u) => {
+        match first_applied(&self.engine, &t, v, &mut self.store, purse) {
+            None => None,
+            Some(Ok(u)) => {
                 self.tree = Some(u);
                 Some(Ok(()))
             }
-            Err(stop) => Some(Err(stop)),
+            Some(Err(stop)) => Some(Err(stop)),
         }
     }
 

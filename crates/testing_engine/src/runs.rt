@@ -12,13 +12,15 @@ ghost use Rattle.typing_laws.specs.Well.{MayAsk};
 ghost use Rattle.host_eval.specs.NamesTerm.{names_term};
 ghost use Rattle.task_engine.specs.Fitting.{ContFits};
 
+use crate::parts::step_in;
 use host_eval::Names;
 use shared_store::Store;
 use std::alloc::Global;
 use task_engine::{apply, normalise, settle, stride};
 use task_evaluation::{Engine, evaluate};
 use task_model::{
-    Checked, Cont, DefBody, OutOfMemory, Purse, Row, Stop, Task, TaskText, Tree, Value,
+    Checked, Cont, DefBody, OutOfMemory, Purse, Row, Stop, Task, TaskText, Tree, Value, copy_value,
+    value_has,
 };
 
 /// The task of the first definition, where it has no parameters.
@@ -134,7 +136,7 @@ pub(crate) fn settled(
     settle(engine, t, store, purse)
 }
 
-pub(crate) fn applied(
+fn applied(
     engine: &Engine,
     k: &Cont,
     v: Value,
@@ -147,4 +149,24 @@ pub(crate) fn applied(
     // The program of an engine is accepted.
     let _accepted = engine.checked().program();
     apply(engine, k, v, store, purse)
+}
+
+/// The cont of the first step of a tree whose left part is an editor, applied to a copy of a value. None where there is no such step, the
+/// value has another type, or there is no memory for the copy.
+pub(crate) fn first_applied(
+    engine: &Engine,
+    t: &Tree,
+    v: &Value,
+    store: &mut Store<Value>,
+    purse: &mut Purse,
+) -> Option<Result<Tree, Stop>>
+    requires { Fits (checked_term engine.now) (at (tree_term t.now) (map value_term store.old.list)) }
+    ensures { IfSome result (λ r. IfOk r (λ u. Fits (checked_term engine.now) (at (tree_term u) (map value_term store.new.list)))) }
+{
+    let step = step_in(t)?;
+    let v = copy_value(v).ok()?;
+    if !value_has(&v, step.takes) {
+        return None;
+    }
+    Some(applied(engine, step.cont, v, store, purse))
 }

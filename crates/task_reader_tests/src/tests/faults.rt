@@ -1,6 +1,6 @@
 //! Where a text ends too early, and tokens in place of others.
 
-use super::{FUNCTION, TASK, compared, fault_difference, field, told};
+use super::{FUNCTION, TASK, field, put_compared, put_fault, told};
 use std::alloc::{AllocError, Global};
 use std::test::Fail;
 use task_syntax::{LexStop, lex};
@@ -120,34 +120,46 @@ fn token_count(alloc: Global, source: &str) -> Result<usize, AllocError> {
     }
 }
 
-// What differs of a text that ends too early, and of it with what it wants.
-fn cut_difference(alloc: Global, head: &str, row: &str, end: &str) -> Result<String, AllocError> {
+// Puts what differs of a text that ends too early.
+fn put_early(found: &mut String, alloc: Global, early: &str) -> Result<(), AllocError> {
+    let many = token_count(alloc, early)?;
+    let kind = format!(in alloc; "Unexpected {{ token: {many} }}")?;
+    put_fault(found, alloc, early, many, kind.as_str())
+}
+
+// The same, and of it with what it wants.
+fn put_cut(
+    found: &mut String,
+    alloc: Global,
+    head: &str,
+    row: &str,
+    end: &str,
+) -> Result<(), AllocError> {
     let (piece, rest) = field(row);
     let early = format!(in alloc; "{head}{piece}")?;
-    let many = token_count(alloc, early.as_str())?;
-    let kind = format!(in alloc; "Unexpected {{ token: {many} }}")?;
-    let mut found = fault_difference(alloc, early.as_str(), many, kind.as_str())?;
-    let whole = format!(in alloc; "{early}{rest}{end}", early = early.as_str())?;
-    found.push_str(compared(alloc, whole.as_str(), "read")?.as_str())?;
-    Ok(found)
+    put_early(found, alloc, early.as_str())?;
+    let whole = format!(in alloc; "{head}{piece}{rest}{end}")?;
+    put_compared(found, alloc, whole.as_str(), "read")
 }
 
-// What differs of these rows behind a head, and before an end.
-fn cut_differences(alloc: Global, head: &str, rows: &str, end: &str) -> Result<String, AllocError> {
-    let mut found = String::new(alloc);
+// Puts what differs of these rows behind a head, and before an end.
+fn put_cuts(
+    found: &mut String,
+    alloc: Global,
+    head: &str,
+    rows: &str,
+    end: &str,
+) -> Result<(), AllocError> {
     for row in rows.split('\n') {
-        found.push_str(cut_difference(alloc, head, row, end)?.as_str())?;
+        put_cut(found, alloc, head, row, end)?;
     }
-    Ok(found)
+    Ok(())
 }
 
-fn productions_differences(alloc: Global) -> Result<String, AllocError> {
-    let mut found = cut_differences(alloc, "", DEFINITIONS, "")?;
-    let head = format!(in alloc; "{FUNCTION}(")?;
-    found.push_str(cut_differences(alloc, head.as_str(), EXPRESSIONS, ")")?.as_str())?;
-    let head = format!(in alloc; "{TASK}(")?;
-    found.push_str(cut_differences(alloc, head.as_str(), TASKS, ")")?.as_str())?;
-    Ok(found)
+// The same within a parenthesis that the head goes on with.
+fn put_inside(found: &mut String, alloc: Global, head: &str, rows: &str) -> Result<(), AllocError> {
+    let head = format!(in alloc; "{head}(")?;
+    put_cuts(found, alloc, head.as_str(), rows, ")")
 }
 
 // A program with most of the forms, its tokens with a space between each two.
@@ -198,17 +210,17 @@ fn replaced(alloc: Global, at: usize, word: &str) -> Result<String, AllocError> 
     Ok(source)
 }
 
-// What differs from a row.
-fn replaced_difference(alloc: Global, row: &str) -> Result<String, AllocError> {
+// Puts what differs from a row.
+fn put_replaced(found: &mut String, alloc: Global, row: &str) -> Result<(), AllocError> {
     let (at, rest) = field(row);
     let (word, fault) = field(rest);
     let source = replaced(alloc, at.parse::<usize>().unwrap_or(0), word)?;
     match fault.parse::<usize>() {
         Ok(token) => {
             let kind = format!(in alloc; "Unexpected {{ token: {token} }}")?;
-            fault_difference(alloc, source.as_str(), token, kind.as_str())
+            put_fault(found, alloc, source.as_str(), token, kind.as_str())
         }
-        Err(_) => compared(alloc, source.as_str(), "read"),
+        Err(_) => put_compared(found, alloc, source.as_str(), "read"),
     }
 }
 
@@ -222,23 +234,36 @@ const SOURCES: &[(&[u8], &str)] = &[
     (b") 9223372036854775808", "Lex(WideNumber) at 2"),
 ];
 
-// What differs where a text ends too early, where a token stands in place of another, and of sources that have no tokens.
-fn all_differences(alloc: Global) -> Result<String, AllocError> {
-    let mut found = productions_differences(alloc)?;
+fn put_source(
+    found: &mut String,
+    alloc: Global,
+    source: &[u8],
+    wanted: &str,
+) -> Result<(), AllocError> {
+    if told(alloc, source)?.as_str() != wanted {
+        write!(found, "{wanted} is not told\n")?;
+    }
+    Ok(())
+}
+
+// Puts what differs where a text ends too early, where a token stands in place of another, and of sources that have no tokens.
+fn put_all(found: &mut String, alloc: Global) -> Result<(), AllocError> {
+    put_cuts(found, alloc, "", DEFINITIONS, "")?;
+    put_inside(found, alloc, FUNCTION, EXPRESSIONS)?;
+    put_inside(found, alloc, TASK, TASKS)?;
     for row in REPLACED.split('\n') {
-        found.push_str(replaced_difference(alloc, row)?.as_str())?;
+        put_replaced(found, alloc, row)?;
     }
     for (source, wanted) in SOURCES {
-        if told(alloc, source)?.as_str() != *wanted {
-            write!(found, "{wanted} is not told\n")?;
-        }
+        put_source(found, alloc, source, wanted)?;
     }
-    Ok(found)
+    Ok(())
 }
 
 #[test]
 fn first_faults(rt: HostRuntime) -> Result<(), Fail> {
-    let found = all_differences(rt.alloc())?;
+    let mut found = String::new(rt.alloc());
+    put_all(&mut found, rt.alloc())?;
     assert!(rt; found.is_empty(), "{}", found.as_str());
     Ok(())
 }

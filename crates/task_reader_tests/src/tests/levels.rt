@@ -1,6 +1,6 @@
 //! Programs of 200 levels and of one more, by each kind of nesting.
 
-use super::{compared, fault_difference, field};
+use super::{field, put_compared, put_fault};
 use std::alloc::{AllocError, Global};
 use std::test::Fail;
 
@@ -70,32 +70,31 @@ fn source(alloc: Global, nesting: &str, times: usize) -> Result<String, AllocErr
     )
 }
 
-// What differs from a row.
-fn level_difference(alloc: Global, row: &str) -> Result<String, AllocError> {
+// Puts what differs from a row.
+fn put_row(found: &mut String, alloc: Global, row: &str) -> Result<(), AllocError> {
     let (counts, nesting) = field(row);
     let (most, token) = counts.split_once(' ').unwrap_or((counts, ""));
     let most = most.parse::<usize>().unwrap_or(0);
-    let deep = source(alloc, nesting, most)?;
-    let mut found = compared(alloc, deep.as_str(), "read")?;
-    let deeper = source(alloc, nesting, most.saturating_add(1))?;
     let token = token.parse::<usize>().unwrap_or(0);
-    found.push_str(fault_difference(alloc, deeper.as_str(), token, "TooNested")?.as_str())?;
-    Ok(found)
+    let deep = source(alloc, nesting, most)?;
+    put_compared(found, alloc, deep.as_str(), "read")?;
+    let deeper = source(alloc, nesting, most.saturating_add(1))?;
+    put_fault(found, alloc, deeper.as_str(), token, "TooNested")
 }
 
-fn differences(alloc: Global) -> Result<String, AllocError> {
-    let mut found = String::new(alloc);
+fn put_all(found: &mut String, alloc: Global) -> Result<(), AllocError> {
     for rows in [TYPES, EXPRESSIONS, TASKS] {
         for row in rows.split('\n') {
-            found.push_str(level_difference(alloc, row)?.as_str())?;
+            put_row(found, alloc, row)?;
         }
     }
-    Ok(found)
+    Ok(())
 }
 
 #[test]
 fn levels(rt: HostRuntime) -> Result<(), Fail> {
-    let found = differences(rt.alloc())?;
+    let mut found = String::new(rt.alloc());
+    put_all(&mut found, rt.alloc())?;
     assert!(rt; found.is_empty(), "{}", found.as_str());
     Ok(())
 }

@@ -170,101 +170,91 @@ fn printed(alloc: Global, source: &str) -> Result<String, OutOfMemory> {
     }
 }
 
-// A source and what is printed for it, where that isn't what is wanted.
-fn difference(alloc: Global, source: &str, wanted: &str) -> Result<String, OutOfMemory> {
+// Puts a source and what is printed for it, where that isn't what is wanted.
+fn put_printed(
+    found: &mut String,
+    alloc: Global,
+    source: &str,
+    wanted: &str,
+) -> Result<(), OutOfMemory> {
     let printed = printed(alloc, source)?;
-    if printed.as_str() == wanted {
-        return Ok(String::new(alloc));
+    if printed.as_str() != wanted {
+        write!(found, "{source}\nis {}\n", printed.as_str())?;
     }
-    Ok(format!(in alloc; "{source}\nis {}\n", printed.as_str())?)
+    Ok(())
 }
 
-/// Places for parts, behind a head.
-#[derive(Clone, Copy)]
-struct Places<'p> {
-    head: &'p str,
-    rows: &'p [&'p str],
-}
-
-// What differs of a part that was written in parentheses: it keeps those that it needs.
-fn part_difference(
+// Puts what differs of a part that was written in parentheses: it keeps those that it needs.
+fn put_part(
+    found: &mut String,
     alloc: Global,
     head: &str,
     place: &str,
     part: &str,
     is_bare: bool,
-) -> Result<String, OutOfMemory> {
+) -> Result<(), OutOfMemory> {
     let (before, behind) = field(place);
     let grouped = format!(in alloc; "{head}{before}( {part} ){behind}\n")?;
-    let bare = format!(in alloc; "{head}{before}{part}{behind}\n")?;
     if !is_bare {
-        return difference(alloc, grouped.as_str(), grouped.as_str());
+        return put_printed(found, alloc, grouped.as_str(), grouped.as_str());
     }
-    let mut found = difference(alloc, grouped.as_str(), bare.as_str())?;
-    found.push_str(difference(alloc, bare.as_str(), bare.as_str())?.as_str())?;
-    Ok(found)
+    let bare = format!(in alloc; "{head}{before}{part}{behind}\n")?;
+    put_printed(found, alloc, grouped.as_str(), bare.as_str())?;
+    put_printed(found, alloc, bare.as_str(), bare.as_str())
 }
 
-// What differs of these parts at a place.
-fn parts_differences(
+// The same of parts at a place, if it is one.
+fn put_at(
+    found: &mut String,
     alloc: Global,
     head: &str,
     place: &str,
     parts: &str,
     is_bare: bool,
-) -> Result<String, OutOfMemory> {
-    let mut found = String::new(alloc);
-    if !place.is_empty() {
-        for part in parts.split('\n') {
-            found.push_str(part_difference(alloc, head, place, part, is_bare)?.as_str())?;
-        }
+) -> Result<(), OutOfMemory> {
+    if place.is_empty() {
+        return Ok(());
     }
-    Ok(found)
+    for part in parts.split('\n') {
+        put_part(found, alloc, head, place, part, is_bare)?;
+    }
+    Ok(())
 }
 
-// What differs of these parts, which are so loose, at all places.
-fn differences(
+// The same of parts that are so loose, at all places behind a head.
+fn put_parts(
+    found: &mut String,
     alloc: Global,
-    places: Places<'_>,
+    head: &str,
+    places: &[&str],
     parts: &str,
     looseness: usize,
-) -> Result<String, OutOfMemory> {
-    let mut found = String::new(alloc);
-    for (loosest, rows) in places.rows.iter().enumerate() {
+) -> Result<(), OutOfMemory> {
+    for (loosest, rows) in places.iter().enumerate() {
         for place in rows.split('\n') {
-            let is_bare = looseness <= loosest;
-            let told = parts_differences(alloc, places.head, place, parts, is_bare)?;
-            found.push_str(told.as_str())?;
+            put_at(found, alloc, head, place, parts, looseness <= loosest)?;
         }
     }
-    Ok(found)
+    Ok(())
 }
 
-// What differs of all parts, from the tightest ones to the loosest.
-fn all_differences(alloc: Global, places: Places<'_>, all: &[&str]) -> Result<String, OutOfMemory> {
-    let mut found = String::new(alloc);
+// The same of all parts, from the tightest ones to the loosest.
+fn put_places(
+    found: &mut String,
+    alloc: Global,
+    head: &str,
+    places: &[&str],
+    all: &[&str],
+) -> Result<(), OutOfMemory> {
     for (looseness, parts) in all.iter().enumerate() {
-        found.push_str(differences(alloc, places, parts, looseness)?.as_str())?;
+        put_parts(found, alloc, head, places, parts, looseness)?;
     }
-    Ok(found)
+    Ok(())
 }
 
-// What differs of expressions and tasks at the places of functions and tasks.
-fn place_differences(alloc: Global) -> Result<String, OutOfMemory> {
-    let functions = Places {
-        head: "fun f ( ) : int = ",
-        rows: &IN_FUNCTIONS,
-    };
-    let mut found = all_differences(alloc, functions, &EXPRESSIONS)?;
-    let mut tasks = Places {
-        head: "task f ( ) : int = ",
-        rows: &IN_TASKS,
-    };
-    found.push_str(all_differences(alloc, tasks, &EXPRESSIONS)?.as_str())?;
-    tasks.rows = &OF_TASKS;
-    found.push_str(all_differences(alloc, tasks, &TASKS)?.as_str())?;
-    Ok(found)
-}
+const FUN: &str = "fun f ( ) : int = ";
+
+const TASK: &str = "task f ( ) : int = ";
 
 const WHOLE: &[(&str, &str)] = &[
     ("", ""),
@@ -278,17 +268,20 @@ const WHOLE: &[(&str, &str)] = &[
     ),
 ];
 
-fn printing_differences(alloc: Global) -> Result<String, OutOfMemory> {
-    let mut found = place_differences(alloc)?;
+fn put_all(found: &mut String, alloc: Global) -> Result<(), OutOfMemory> {
+    put_places(found, alloc, FUN, &IN_FUNCTIONS, &EXPRESSIONS)?;
+    put_places(found, alloc, TASK, &IN_TASKS, &EXPRESSIONS)?;
+    put_places(found, alloc, TASK, &OF_TASKS, &TASKS)?;
     for (source, wanted) in WHOLE {
-        found.push_str(difference(alloc, source, wanted)?.as_str())?;
+        put_printed(found, alloc, source, wanted)?;
     }
-    Ok(found)
+    Ok(())
 }
 
 #[test]
 fn printed_again(rt: HostRuntime) -> Result<(), Fail> {
-    let found = printing_differences(rt.alloc())?;
+    let mut found = String::new(rt.alloc());
+    put_all(&mut found, rt.alloc())?;
     assert!(rt; found.is_empty(), "{}", found.as_str());
     Ok(())
 }
