@@ -115,18 +115,25 @@ fn read_of_dripping<L: Link>(
     Ok(40)
 }
 
-// Whether bytes are carried, a client that asks nothing has its link ended, and a request that drips has one time for all its bytes: each
-// over a connection of its own.
+/// What is tried over a connection of its own: whether bytes are carried, a client that asks nothing has its link ended, and a request that
+/// drips has one time for all its bytes.
+#[derive(Clone, Copy, Debug)]
+enum Trial {
+    Carries,
+    AsksTooLate,
+    Drips,
+}
+
 fn tried<L: Link>(
     rt: &HostRuntime,
     client: &mut TcpStream,
     link: &mut L,
-    number: u32,
+    trial: Trial,
 ) -> Result<bool, Fail> {
-    match number {
-        0 => Ok(asked_and_replied(client, link)? == *b"askreply"),
-        1 => too_late(client, link),
-        _ => {
+    match trial {
+        Trial::Carries => Ok(asked_and_replied(client, link)? == *b"askreply"),
+        Trial::AsksTooLate => too_late(client, link),
+        Trial::Drips => {
             let read = read_of_dripping(rt, client, link)?;
             Ok(0 < read && read < 40)
         }
@@ -135,10 +142,10 @@ fn tried<L: Link>(
 
 #[test]
 fn connections_of_this_machine(rt: HostRuntime) -> Result<(), Fail> {
-    for number in 0..3 {
+    for trial in [Trial::Carries, Trial::AsksTooLate, Trial::Drips] {
         let (mut client, stream) = connected(&rt)?;
         let mut link = StreamLink::new(stream, &rt, times());
-        assert!(rt; tried(&rt, &mut client, &mut link, number)?, "{number}");
+        assert!(rt; tried(&rt, &mut client, &mut link, trial)?, "{trial:?}");
     }
     Ok(())
 }
