@@ -1,9 +1,6 @@
-//! What `input_lines` reads and prints: tests alone, of lines, their columns, the soak
-//! and the entries of histories.
+//! What `input_lines` reads and prints: tests alone, of lines, their columns and the soak.
 #![tactic(auto)]
 
-#[cfg(test)]
-mod entries;
 #[cfg(test)]
 mod limits;
 #[cfg(test)]
