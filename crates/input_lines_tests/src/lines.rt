@@ -4,18 +4,28 @@ use input_lines::{Line, parse_line, print_entry};
 use line_frame::LineStop;
 use std::alloc::Global;
 use std::test::Fail;
-use task_model::OutOfMemory;
+use task_model::{Entry, OutOfMemory};
 
-// Whether it is blank, which seat it shows, the entry as it is printed, or the column.
+// An entry as it is printed, without its line end.
+fn entry_text(alloc: Global, entry: &Entry) -> Result<String, OutOfMemory> {
+    let text = print_entry(alloc, entry)?;
+    let line = text.as_str().strip_suffix('\n').unwrap_or("no line");
+    Ok(String::from_str(alloc, line)?)
+}
+
+// Whether it is blank, which seat it shows, or the entry.
+fn line_text(alloc: Global, line: &Line) -> Result<String, OutOfMemory> {
+    match line {
+        Line::Blank => Ok(String::from_str(alloc, "blank")?),
+        Line::Show { seat } => Ok(format!(in alloc; "shows {seat}")?),
+        Line::Act(entry) => entry_text(alloc, entry),
+    }
+}
+
+// What a line asks for, or the column at which it is bad.
 fn told(alloc: Global, bytes: &[u8]) -> Result<String, OutOfMemory> {
-    match &parse_line(alloc, bytes) {
-        Ok(Line::Blank) => Ok(String::from_str(alloc, "blank")?),
-        Ok(Line::Show { seat }) => Ok(format!(in alloc; "shows {seat}")?),
-        Ok(Line::Act(e)) => {
-            let text = print_entry(alloc, e)?;
-            let line = text.as_str().strip_suffix('\n').unwrap_or("no line");
-            Ok(String::from_str(alloc, line)?)
-        }
+    match parse_line(alloc, bytes) {
+        Ok(line) => line_text(alloc, &line),
         Err(LineStop::Bad { column }) => Ok(format!(in alloc; "column {column}")?),
         Err(LineStop::Memory) => Err(OutOfMemory),
     }

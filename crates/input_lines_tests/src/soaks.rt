@@ -1,7 +1,9 @@
 //! The program of a soak, and its first inputs.
 
 use input_lines::{print_entry, soak_entry, soak_program};
+use std::alloc::Global;
 use std::test::Fail;
+use task_model::{Entry, OutOfMemory};
 
 #[test]
 fn program(rt: HostRuntime) -> Result<(), Fail> {
@@ -28,14 +30,32 @@ const INPUTS: &str = "3@2088359638719790806@1 .FFFFFFFFFFFFFFFFFFFFFFFFFFFFS nex
 0@1442695040888963407@1 .S left
 18446744073709551615@13525302890751722018@1 .FFFFFFFFFFFFFFFFFFFFFFFS next";
 
-#[test]
-fn inputs(rt: HostRuntime) -> Result<(), Fail> {
+// The state behind this one, and the input that it gives.
+fn told(alloc: Global, state: u64) -> Result<String, OutOfMemory> {
+    let (reached, entry) = soak_entry(alloc, state)?;
+    reached_text(alloc, reached, &entry)
+}
+
+fn reached_text(alloc: Global, reached: u64, entry: &Entry) -> Result<String, OutOfMemory> {
+    let text = print_entry(alloc, entry)?;
+    Ok(format!(in alloc; "{reached}@{}", text.as_str().trim_end())?)
+}
+
+fn put_all(found: &mut String, alloc: Global) -> Result<(), OutOfMemory> {
     for row in INPUTS.split('\n') {
         let (state, rest) = row.split_once('@').unwrap_or((row, ""));
-        let (reached, entry) = soak_entry(rt.alloc(), state.parse::<u64>().unwrap_or(1))?;
-        let text = print_entry(rt.alloc(), &entry)?;
-        let told = format!(in rt.alloc(); "{reached}@{}", text.as_str().trim_end())?;
-        assert_eq!(rt; told.as_str(), rest);
+        let told = told(alloc, state.parse::<u64>().unwrap_or(1))?;
+        if told.as_str() != rest {
+            write!(found, "{row}\nis {}\n", told.as_str())?;
+        }
     }
+    Ok(())
+}
+
+#[test]
+fn inputs(rt: HostRuntime) -> Result<(), Fail> {
+    let mut found = String::new(rt.alloc());
+    put_all(&mut found, rt.alloc())?;
+    assert!(rt; found.is_empty(), "{}", found.as_str());
     Ok(())
 }

@@ -1,4 +1,5 @@
 //! A case: one call of the command, and what comes of it.
+ghost use Rattle.std.specs.Prelude.{◌<◌};
 
 use outer_io::{MemFiles, MemSink, MemSource};
 use std::alloc::Global;
@@ -50,7 +51,9 @@ fn files(alloc: Global, program: &[u8], failing: u64) -> Result<MemFiles, OutOfM
     Ok(MemFiles::new(names, contents, one(alloc, failing)?))
 }
 
-fn sink(alloc: Global, piece: usize, failing: u64) -> Result<MemSink, OutOfMemory> {
+fn sink(alloc: Global, piece: usize, failing: u64) -> Result<MemSink, OutOfMemory>
+    requires { 0 < piece }
+{
     Ok(MemSink::new(alloc, piece, one(alloc, failing)?))
 }
 
