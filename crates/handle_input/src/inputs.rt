@@ -8,10 +8,11 @@ ghost use Rattle.task_model.specs.Terms.Held.{IsHeldAct};
 ghost use Rattle.task_model.specs.Checking.Accepted.{IsAccepted};
 ghost use Rattle.task_model.specs.Running.Checked.{checked_term};
 ghost use Rattle.task_model.specs.Checking.Fits.{Fits};
+ghost use Rattle.task_model.specs.Running.Spends.{Spends};
 ghost use Rattle.task_model.specs.Syntax.Calls.{RunsPlan};
 ghost use Rattle.typing_laws.specs.Well.{Well};
 ghost use Rattle.kept_nodes.specs.Along.{DiffersAlong};
-ghost use Rattle.handle_input.specs.Answers.{told_tree, TellsOutcome};
+ghost use Rattle.handle_input.specs.Answers.{plan_answer, told_tree, TellsOutcome};
 
 use crate::ending::ended;
 use crate::handling::handled;
@@ -21,6 +22,31 @@ use task_engine::settle;
 use task_evaluation::Engine;
 use task_laws::inputs_act_at_their_address;
 use task_model::{ActStop, Input, Purse, Stop, Tree, Value};
+
+/// Handles an input: the tree that it leads to, over the values that it leaves in the store. `NotOffered` comes where the input is
+/// lacking, and `Over` where neither shows within the purse. A refusal leaves the values as they were.
+pub fn handle(
+    engine: &Engine,
+    t: &Tree,
+    store: &mut Store<Value>,
+    input: &Input,
+    purse: &mut Purse,
+) -> Result<Tree, ActStop>
+    requires fits { Fits (checked_term engine.now) (at (tree_term t.now) (map value_term store.old.list)) }
+    ensures layers { store.new.layers ≡ store.old.layers }
+    ensures refused { OnErr result (store.new.list ≡ store.old.list) }
+    ensures held { OnOk result (IsHeldAct (input_term input.now).act) }
+    ensures handles { Spends
+        (model.Handled (checked_term engine.now) (at (tree_term t.now) (map value_term store.old.list)) (input_term input.now))
+        (option_map (λ u. at (tree_term u) (map value_term store.new.list))) purse.old purse.new (plan_answer result) }
+{
+    // The program of an engine is accepted.
+    let _accepted = engine.checked().program();
+    store.begin()?;
+    let turns = input.path.turns.as_slice();
+    let answer = handled(engine, t, store, turns, &input.act, purse);
+    ended(answer, store)
+}
 
 /// Handles an input and settles the state that it leads to, with a purse of so many units and the full height. `Ok` has the tree,
 /// over the values that the store has then. A refusal leaves the values as they were.

@@ -9,5 +9,5 @@ mod inputs;
 mod led;
 mod rebuilding;
 
-pub use inputs::interact;
+pub use inputs::{handle, interact};
 pub use led::Led;
