@@ -4,9 +4,9 @@ use Rattle.task_model.specs.Terms.Text.{Text}
 use Rattle.task_model.specs.Terms.Basic.{BasicTerm}
 use Rattle.task_model.specs.Terms.Value.{ValueTerm}
 use Rattle.task_model.specs.Syntax.Literal.{basic_text, value_text}
-use Rattle.task_model.specs.Showing.Widget.{WidgetTerm}
-use Rattle.task_model.specs.Showing.Page.{widget_line, head_text, page_text}
-use Rattle.task_model.specs.Showing.Html.{widget_fragment, paragraph, editor_text, shown_value, html_text}
+use Rattle.task_model.specs.Showing.Widget.{ShapeTerm, WidgetTerm}
+use Rattle.task_model.specs.Showing.Page.{shape_text, widget_line, head_text, page_text}
+use Rattle.task_model.specs.Showing.Html.{shape_fragment, widget_fragment, paragraph, editor_text, shown_value, html_text}
 use Rattle.task_model.specs.declared.widget.Face.{Face}
 use Rattle.task_model.specs.declared.widget.Face.TheVariants as faces
 
@@ -18,6 +18,10 @@ pub record FragmentTerm : Type 0 where
 -- the fragment of a widget
 abbrev pub fragment_of : WidgetTerm → FragmentTerm
 fragment_of w = record { line = widget_line w; html = widget_fragment w }
+
+-- the same by its path as text, and what is shown there
+abbrev pub shape_at : Text → ShapeTerm → FragmentTerm
+shape_at path shape = record { line = path ++ shape_text shape ++ codes "\n"; html = shape_fragment path shape }
 
 -- the fragment of an editor with a value, by its path and what it is called
 abbrev pub valued_fragment : Text → Text → BasicTerm → ValueTerm → FragmentTerm

@@ -1,20 +1,19 @@
 ghost use Rattle.std.specs.Prelude.{◌≡◌, ◌++◌, codes, OnOk, string_bytes};
 ghost use Rattle.task_model.specs.Terms.Basic.{basic_term};
 ghost use Rattle.task_model.specs.Syntax.Literal.{basic_text};
-ghost use Rattle.task_model.specs.Showing.Page.{path_text};
 ghost use Rattle.task_model.specs.Showing.Html as model;
 ghost use Rattle.html_pages.specs.FormParts.{form_end, form_start, literal_fields, text_field};
 
 use crate::escaping::push_escaped;
-use task_model::{Basic, OutOfMemory, Sign, Turn};
-use terminal_view::{push, push_path};
+use task_model::{Basic, OutOfMemory, Sign};
+use terminal_view::push;
 
 /// A line of its own behind the text, of a path and a word.
-pub(crate) fn push_line(text: &mut String, path: &[Turn], word: &str) -> Result<(), OutOfMemory>
-    ensures { OnOk result (string_bytes text.new ≡ string_bytes text.old ++ model.paragraph (path_text path.now ++ word.now)) }
+pub(crate) fn push_line(text: &mut String, path: &str, word: &str) -> Result<(), OutOfMemory>
+    ensures { OnOk result (string_bytes text.new ≡ string_bytes text.old ++ model.paragraph (path.now ++ word.now)) }
 {
     push(text, "<p>")?;
-    push_path(text, path)?;
+    push(text, path)?;
     push(text, word)?;
     push(text, "</p>\n")
 }
@@ -22,11 +21,11 @@ pub(crate) fn push_line(text: &mut String, path: &[Turn], word: &str) -> Result<
 /// The form of an act behind the text, where it is offered.
 pub(crate) fn push_sign(
     text: &mut String,
-    path: &[Turn],
+    path: &str,
     act: &str,
     sign: Sign,
 ) -> Result<(), OutOfMemory>
-    ensures { OnOk result (string_bytes text.new ≡ string_bytes text.old ++ model.sign_form (path_text path.now) act.now sign) }
+    ensures { OnOk result (string_bytes text.new ≡ string_bytes text.old ++ model.sign_form path.now act.now sign) }
 {
     match sign {
         Sign::No => Ok(()),
@@ -44,7 +43,7 @@ pub(crate) fn push_sign(
 /// An editor behind the text: a line, and the form that sets it. Its type's name is given, and what its field shows without entities.
 pub(crate) fn push_editor(
     text: &mut String,
-    path: &[Turn],
+    path: &str,
     word: &str,
     b: &Basic,
     name: &str,
@@ -52,7 +51,7 @@ pub(crate) fn push_editor(
 ) -> Result<(), OutOfMemory>
     requires { name.now ≡ basic_text (basic_term b.now) }
     ensures { OnOk result (string_bytes text.new ≡ string_bytes text.old
-        ++ model.editor_text (path_text path.now) word.now (basic_term b.now) (model.html_escaped shown.now)) }
+        ++ model.editor_text path.now word.now (basic_term b.now) (model.html_escaped shown.now)) }
 {
     push_editor_line(text, path, word, name)?;
     push_form(text, path, "set")?;
@@ -62,15 +61,15 @@ pub(crate) fn push_editor(
 
 fn push_editor_line(
     text: &mut String,
-    path: &[Turn],
+    path: &str,
     word: &str,
     name: &str,
 ) -> Result<(), OutOfMemory>
     ensures { OnOk result (string_bytes text.new ≡ string_bytes text.old
-        ++ model.paragraph (path_text path.now ++ codes " " ++ word.now ++ codes " " ++ name.now)) }
+        ++ model.paragraph (path.now ++ codes " " ++ word.now ++ codes " " ++ name.now)) }
 {
     push(text, "<p>")?;
-    push_path(text, path)?;
+    push(text, path)?;
     push(text, " ")?;
     push(text, word)?;
     push(text, " ")?;
@@ -79,14 +78,14 @@ fn push_editor_line(
 }
 
 // The beginning of a form that sends an act at a path.
-fn push_form(text: &mut String, path: &[Turn], act: &str) -> Result<(), OutOfMemory>
-    ensures { OnOk result (string_bytes text.new ≡ string_bytes text.old ++ form_start (path_text path.now) act.now) }
+fn push_form(text: &mut String, path: &str, act: &str) -> Result<(), OutOfMemory>
+    ensures { OnOk result (string_bytes text.new ≡ string_bytes text.old ++ form_start path.now act.now) }
 {
     push(
         text,
         "<form method=\"post\" action=\"/\"><input type=\"hidden\" name=\"path\" value=\"",
     )?;
-    push_path(text, path)?;
+    push(text, path)?;
     push(text, "\"><input type=\"hidden\" name=\"act\" value=\"")?;
     push(text, act)?;
     push(text, "\">")

@@ -1,59 +1,85 @@
-ghost use Rattle.std.specs.Prelude.{◌≡◌, ◌++◌, codes, IfOk, string_bytes};
+ghost use Rattle.std.specs.Prelude.{◌≡◌, ◌++◌, [], codes, IfOk, string_bytes};
 ghost use Rattle.task_model.specs.Terms.Basic.{basic_term, text_type};
 ghost use Rattle.task_model.specs.Terms.Value.{value_term};
 ghost use Rattle.task_model.specs.Syntax.Literal.{value_text};
-ghost use Rattle.task_model.specs.Showing.Widget.{widget_term};
-ghost use Rattle.task_model.specs.Showing.Page.{path_text, widget_line};
+ghost use Rattle.task_model.specs.Showing.Widget.{shape_term, widget_term};
+ghost use Rattle.task_model.specs.Showing.Page.{shape_text};
 ghost use Rattle.task_model.specs.Showing.Html as model;
-ghost use Rattle.html_pages.specs.Fragments.{empty_fragment, fragment_of, valued_fragment};
+ghost use Rattle.html_pages.specs.Fragments.{empty_fragment, fragment_of, shape_at, valued_fragment};
 
 use crate::forms::{push_editor, push_line, push_sign};
 use crate::texts::Texts;
 use literal_text::{print_basic, print_value};
 use std::alloc::Global;
-use task_model::{Basic, OutOfMemory, Shape, Sign, Turn, Value, Widget};
-use terminal_view::{push_empty_editor, push_valued_editor};
+use task_model::{Basic, OutOfMemory, Shape, Sign, Value, Widget};
+use terminal_view::{print_path, push_empty_editor, push_shape, push_valued_editor};
 
-/// The texts of a widget, with its value's literal printed once for both.
+// So many bytes more than its path has, where it stands twice, the HTML text of an editor seldom has, and that of a word never.
+const EDITOR: usize = 320;
+
+const WORD: usize = 16;
+
+/// The texts of a widget, with its path and its value's literal printed once for both.
 pub(crate) fn draw_texts(alloc: Global, w: &Widget) -> Result<Texts, OutOfMemory>
     ensures { IfOk result (λ texts. texts ≡ fragment_of (widget_term w.now)) }
 {
-    let path = w.path.turns.as_slice();
-    match &w.shape {
+    let path = print_path(alloc, w.path.turns.as_slice())?;
+    draw_shape(alloc, path.as_str(), &w.shape)
+}
+
+// The texts of what is shown at a path.
+fn draw_shape(alloc: Global, path: &str, shape: &Shape) -> Result<Texts, OutOfMemory>
+    ensures { IfOk result (λ texts. texts ≡ shape_at path.now (shape_term shape.now)) }
+{
+    match shape {
         Shape::Edit(b, v) => draw_valued(alloc, path, "edit", b, v),
         Shape::Enter(b) => draw_empty(alloc, path, b),
         Shape::Share(b, v) => draw_valued(alloc, path, "share", b, v),
-        Shape::Then => with_line(alloc, w, draw_word(alloc, path, " then")?),
-        Shape::Step(sign) => with_line(alloc, w, draw_step(alloc, path, *sign)?),
-        Shape::Fail => with_line(alloc, w, draw_word(alloc, path, " fail")?),
-        Shape::And => with_line(alloc, w, draw_word(alloc, path, " and")?),
-        Shape::Or => with_line(alloc, w, draw_word(alloc, path, " or")?),
-        Shape::Pick(left, right) => with_line(alloc, w, draw_pick(alloc, path, *left, *right)?),
+        Shape::Then => with_line(alloc, path, shape, draw_word(alloc, path, " then")?),
+        Shape::Step(sign) => with_line(alloc, path, shape, draw_step(alloc, path, *sign)?),
+        Shape::Fail => with_line(alloc, path, shape, draw_word(alloc, path, " fail")?),
+        Shape::And => with_line(alloc, path, shape, draw_word(alloc, path, " and")?),
+        Shape::Or => with_line(alloc, path, shape, draw_word(alloc, path, " or")?),
+        Shape::Pick(left, right) => {
+            with_line(alloc, path, shape, draw_pick(alloc, path, *left, *right)?)
+        }
     }
 }
 
-fn with_line(alloc: Global, w: &Widget, html: String) -> Result<Texts, OutOfMemory>
-    ensures { IfOk result (λ texts. texts ≡ record { line = widget_line (widget_term w.now); html = string_bytes html }) }
+// An empty text with room for a path twice, and for so many bytes more.
+fn roomy(alloc: Global, path: &str, more: usize) -> Result<String, OutOfMemory>
+    ensures { IfOk result (λ text. string_bytes text ≡ []) }
+{
+    let mut text = String::new(alloc);
+    text.reserve(path.len().saturating_mul(2).saturating_add(more))?;
+    Ok(text)
+}
+
+fn with_line(alloc: Global, path: &str, shape: &Shape, html: String) -> Result<Texts, OutOfMemory>
+    ensures { IfOk result (λ texts. texts ≡ record {
+      line = path.now ++ shape_text (shape_term shape.now) ++ codes "\n";
+      html = string_bytes html;
+    }) }
 {
     let mut line = String::new(alloc);
-    terminal_view::push_line(alloc, &mut line, w)?;
+    push_shape(alloc, &mut line, path, shape)?;
     Ok(Texts { line, html })
 }
 
 fn draw_valued(
     alloc: Global,
-    path: &[Turn],
+    path: &str,
     word: &str,
     b: &Basic,
     v: &Value,
 ) -> Result<Texts, OutOfMemory>
-    ensures { IfOk result (λ texts. texts ≡ valued_fragment (path_text path.now) word.now (basic_term b.now) (value_term v.now)) }
+    ensures { IfOk result (λ texts. texts ≡ valued_fragment path.now word.now (basic_term b.now) (value_term v.now)) }
 {
     let name = print_basic(alloc, b)?;
     let literal = print_value(alloc, v)?;
     let mut line = String::new(alloc);
     push_valued_editor(&mut line, path, word, name.as_str(), literal.as_str())?;
-    let mut html = String::new(alloc);
+    let mut html = roomy(alloc, path, EDITOR)?;
     push_editor(
         &mut html,
         path,
@@ -65,13 +91,13 @@ fn draw_valued(
     Ok(Texts { line, html })
 }
 
-fn draw_empty(alloc: Global, path: &[Turn], b: &Basic) -> Result<Texts, OutOfMemory>
-    ensures { IfOk result (λ texts. texts ≡ empty_fragment (path_text path.now) (basic_term b.now)) }
+fn draw_empty(alloc: Global, path: &str, b: &Basic) -> Result<Texts, OutOfMemory>
+    ensures { IfOk result (λ texts. texts ≡ empty_fragment path.now (basic_term b.now)) }
 {
     let name = print_basic(alloc, b)?;
     let mut line = String::new(alloc);
     push_empty_editor(&mut line, path, name.as_str())?;
-    let mut html = String::new(alloc);
+    let mut html = roomy(alloc, path, EDITOR)?;
     push_editor(&mut html, path, "enter", b, name.as_str(), "")?;
     Ok(Texts { line, html })
 }
@@ -106,27 +132,27 @@ fn content<'a>(v: &'a Value, literal: &'a str) -> &'a str
     }
 }
 
-fn draw_word(alloc: Global, path: &[Turn], word: &str) -> Result<String, OutOfMemory>
-    ensures { IfOk result (λ html. string_bytes html ≡ model.paragraph (path_text path.now ++ word.now)) }
+fn draw_word(alloc: Global, path: &str, word: &str) -> Result<String, OutOfMemory>
+    ensures { IfOk result (λ html. string_bytes html ≡ model.paragraph (path.now ++ word.now)) }
 {
-    let mut html = String::new(alloc);
+    let mut html = roomy(alloc, path, WORD)?;
     push_line(&mut html, path, word)?;
     Ok(html)
 }
 
-fn draw_step(alloc: Global, path: &[Turn], sign: Sign) -> Result<String, OutOfMemory>
+fn draw_step(alloc: Global, path: &str, sign: Sign) -> Result<String, OutOfMemory>
     ensures { IfOk result (λ html. string_bytes html
-        ≡ model.paragraph (path_text path.now ++ codes " step") ++ model.sign_form (path_text path.now) (codes "next") sign) }
+        ≡ model.paragraph (path.now ++ codes " step") ++ model.sign_form path.now (codes "next") sign) }
 {
     let mut html = draw_word(alloc, path, " step")?;
     push_sign(&mut html, path, "next", sign)?;
     Ok(html)
 }
 
-fn draw_pick(alloc: Global, path: &[Turn], left: Sign, right: Sign) -> Result<String, OutOfMemory>
+fn draw_pick(alloc: Global, path: &str, left: Sign, right: Sign) -> Result<String, OutOfMemory>
     ensures { IfOk result (λ html. string_bytes html
-        ≡ model.paragraph (path_text path.now ++ codes " pick") ++ model.sign_form (path_text path.now) (codes "left") left
-        ++ model.sign_form (path_text path.now) (codes "right") right) }
+        ≡ model.paragraph (path.now ++ codes " pick") ++ model.sign_form path.now (codes "left") left
+        ++ model.sign_form path.now (codes "right") right) }
 {
     let mut html = draw_word(alloc, path, " pick")?;
     push_sign(&mut html, path, "left", left)?;

@@ -5,6 +5,6 @@ mod line;
 mod page;
 mod writing;
 
-pub use line::{draw_line, push_empty_editor, push_line, push_valued_editor};
+pub use line::{draw_line, push_empty_editor, push_shape, push_valued_editor};
 pub use page::{draw_terminal, push_head};
-pub use writing::{push, push_path};
+pub use writing::{print_path, push};

@@ -1,6 +1,7 @@
-ghost use Rattle.std.specs.Prelude.{◌≡◌, ◌++◌, ◌∷◌, [], OnOk, string_bytes};
+ghost use Rattle.std.specs.Prelude.{◌≡◌, ◌++◌, ◌∷◌, [], IfOk, OnOk, string_bytes};
 ghost use Rattle.task_model.specs.Showing.Page as model;
 
+use std::alloc::Global;
 use task_model::{OutOfMemory, Turn};
 
 /// These bytes behind the text.
@@ -10,8 +11,17 @@ pub fn push(text: &mut String, piece: &str) -> Result<(), OutOfMemory>
     Ok(text.push_str(piece)?)
 }
 
-/// A path behind the text: a dot, and a letter for each turn.
-pub fn push_path(text: &mut String, path: &[Turn]) -> Result<(), OutOfMemory>
+/// The text of a path: a dot, and a letter for each turn.
+pub fn print_path(alloc: Global, path: &[Turn]) -> Result<String, OutOfMemory>
+    ensures { IfOk result (λ text. string_bytes text ≡ model.path_text path.now) }
+{
+    let mut text = String::new(alloc);
+    text.reserve(path.len())?;
+    push_path(&mut text, path)?;
+    Ok(text)
+}
+
+fn push_path(text: &mut String, path: &[Turn]) -> Result<(), OutOfMemory>
     ensures { OnOk result (string_bytes text.new ≡ string_bytes text.old ++ model.path_text path.now) }
 {
     push(text, ".")?;

@@ -2,7 +2,6 @@ use Rattle.std.specs.Prelude.{string_bytes}
 use Rattle.std.proofs.Common.{◌++◌, codes, ap, ◌∙◌}
 use Rattle.task_model.specs.Terms.Text.{Text}
 use Rattle.task_model.specs.Terms.Basic.{basic_term}
-use Rattle.task_model.specs.Showing.Page.{path_text}
 use Rattle.task_model.specs.Showing.Html.{editor_fields, form_text, html_escaped, paragraph}
 use Rattle.html_pages.specs.FormParts.{form_start, form_end}
 use Rattle.html_pages.proofs.Pieces.{on_ok, more, form_parts}
@@ -10,7 +9,7 @@ use Rattle.html_pages.proofs.forms.push_editor.Goals as goal
 
 pub returns : goal.returns
 returns c =
-    let path = path_text c.args.path.now in
+    let path = c.args.path.now in
     let line = paragraph (path ++ codes " " ++ c.args.word.now ++ codes " " ++ c.args.name.now) in
     let start = form_start path (codes "set") in
     let fields = editor_fields (basic_term c.args.b.now) (html_escaped c.args.shown.now) in
