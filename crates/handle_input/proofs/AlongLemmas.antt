@@ -1,8 +1,8 @@
 -- What an input leads to where no stride changes anything differs along its path alone.
-use Rattle.std.proofs.Common.{◌≡◌, ◌↔◌, ◌≤◌, ℕ, zero, suc, true, List, Option, None, Some, Result, Ok, Err, refl, sym, ap, ◌∙◌, subst, arith}
-use Rattle.std.specs.Prelude.{IfOk, IfSome}
+use Rattle.std.proofs.Common.{◌≡◌, ◌↔◌, ◌≤◌, ℕ, zero, suc, Bool, true, List, map, Option, None, Some, Result, Ok, Err, refl, sym, ap, ◌∙◌, subst, arith}
+use Rattle.std.specs.Prelude.{IfOk, IfSome, slice_get}
 use Rattle.task_model.specs.Terms.Left.{Left}
-use Rattle.task_model.specs.Terms.Value.{ValueTerm}
+use Rattle.task_model.specs.Terms.Value.{ValueTerm, value_term}
 use Rattle.task_model.specs.Terms.Tree.{TreeTerm, tree_term, State, at}
 use Rattle.task_model.specs.Terms.Input.{ActTerm, InputTerm}
 use Rattle.task_model.specs.Running.Address.{Address, address_turns, address_of, with_node}
@@ -15,8 +15,11 @@ use Rattle.task_model.specs.Running.Spends.{Spends}
 use Rattle.task_model.specs.Running.Work.{Work, gives}
 use Rattle.task_model.specs.declared.input.Turn.{Turn}
 use Rattle.task_model.specs.declared.purse.Stop.{Stop}
-use Rattle.task_model.specs.declared.tree.Tree.{Tree}
+use Rattle.task_engine.specs.Quiet.{IsQuiet, IsQuietBeside, FiresNothing}
+use Rattle.handle_input.specs.Beside.{FiresNothingBeside}
+use Rattle.task_engine.proofs.QuietLemmas.{beside_address}
 use Rattle.task_laws.specs.ActsAt.{ActsAt}
+use Rattle.task_model.specs.declared.value.Value.{Value}
 use Rattle.kept_nodes.specs.Along.{DiffersAlong}
 use Rattle.handle_input.specs.declared.led.Led.{Led}
 
@@ -38,7 +41,7 @@ settles_once c s t (suc k) n h d is =
     let sum = all.units in
     all.two.value ∙ one_stride _ s all.middle all.n1 all.h1 all.one (omega (arith, none, sum, is))
 
-pub settled_same : (c : CheckedTerm) (s : State) (view : Tree → State) (old new : Left) (u : Tree)
+pub settled_same : {X : Type 0} (c : CheckedTerm) (s : State) (view : X → State) (old new : Left) (u : X)
     → Spends (Settles c s) view old new (Ok u) → old.units ≡ suc new.units → view u ≡ s
 settled_same c s view old new u q one =
     let spent = q.4 in settles_once c s (view u) q.2.0 q.0 q.1 q.2.1 (omega (arith, spent, one))
@@ -92,3 +95,42 @@ pub along_led : (r : Result (Option Led) Stop) (path : List Turn) (t u : TreeTer
 along_led (Ok None) path t u d h = tt
 along_led (Ok (Some led)) path t u d h = λ e. subst (DiffersAlong path t) (sym (h e)) d
 along_led (Err stop) path t u d h = tt
+
+-- ---- beside the path of an input to a tree in which nothing fires
+beside_at : (path : List Turn) (old new : TreeTerm) (σ : List ValueTerm) (j : ℕ) → DiffersAlong path old new → IsQuiet old σ j
+    → IsQuietBeside path new σ j
+beside_at path old new σ j d q =
+    subst (λ z. IsQuietBeside path z σ j) (sym d.replaced)
+    (subst (λ z. IsQuietBeside z (with_node old d.address d.after) σ j) d.turns
+    (beside_address old d.before d.after d.address σ j d.there q))
+
+beside_along : {path : List Turn} {old new : TreeTerm} {σ : List ValueTerm} → DiffersAlong path old new → FiresNothing old σ
+    → FiresNothingBeside path new σ
+beside_along {path = path} {old = old} {new = new} {σ = σ} d r = record { quiet = beside_at path old new σ 999 d r.quiet }
+
+some_list : {xs ys : List Value} → Some xs ≡ Some ys → xs ≡ ys
+some_list e = cc
+
+-- the same of the path that is told, if one is
+pub beside_told : {X : Type 0} (now : X → List Turn) (o : Option X) (path turns : List Turn) (t u : TreeTerm) (σ τ : List Value)
+    (ls ls' : List (List Value)) (quiet : Bool) → turns ≡ path → ls' ≡ ls → slice_get ls 0 ≡ Some σ
+    → (quiet ≡ true → FiresNothing t (map value_term σ)) → DiffersAlong path t u
+    → IfSome o (λ x. (now x ≡ turns) × (quiet ≡ true) × (slice_get ls' 0 ≡ Some τ))
+    → IfSome o (λ x. FiresNothingBeside (now x) u (map value_term τ))
+beside_told now None path turns t u σ τ ls ls' quiet way layers begun fires d h = tt
+beside_told now (Some x) path turns t u σ τ ls ls' quiet way layers begun fires d h =
+    let same : τ ≡ σ = some_list (sym h.2 ∙ ap (λ z. slice_get z 0) layers ∙ begun) in
+    subst (λ z. FiresNothingBeside z u (map value_term τ)) (sym (h.0 ∙ way))
+    (subst (λ z. FiresNothingBeside path u (map value_term z)) (sym same) (beside_along d (fires h.1)))
+
+-- at the height that settling leaves
+pub beside_below : {X : Type 0} (now : X → List Turn) (o : Option X) (t : TreeTerm) (σ : List ValueTerm) (height : ℕ) → height ≡ 1000
+    → IfSome o (λ x. FiresNothingBeside (now x) t σ)
+    → IfSome o (λ x. (below : ℕ) → height ≡ suc below → IsQuietBeside (now x) t σ below)
+beside_below now None t σ height full h = tt
+beside_below now (Some x) t σ height full h =
+    λ below e. let same : 999 ≡ below = omega (arith, full, e) in subst (λ (j : ℕ). IsQuietBeside (now x) t σ j) same h.quiet
+
+pub fires_below : (t : TreeTerm) (σ : List ValueTerm) (height : ℕ) → height ≡ 1000
+    → ((below : ℕ) → height ≡ suc below → IsQuiet t σ below) → FiresNothing t σ
+fires_below t σ height full f = record { quiet = f 999 full }

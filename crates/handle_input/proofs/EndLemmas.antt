@@ -44,6 +44,12 @@ pub each_ended : {X : Type 0} (P : X → Type 0) (r : Result X ActStop) (answer 
 each_ended P (Ok x) answer e h = subst (λ z. IfOk z (λ o. IfSome o P)) (sym e) h
 each_ended P (Err s) answer e h = tt
 
+-- the same of what is said over values that stay
+pub values_ended : {X : Type 0} (P : List Value → X → Type 0) (τ τ' : List Value) (r : Result X ActStop) (answer : Result (Option X) Stop)
+    → plan_answer r ≡ answer → OnOk r (τ' ≡ τ) → IfOk answer (λ o. IfSome o (P τ)) → IfOk r (P τ')
+values_ended P τ τ' (Ok x) answer e same h = subst (λ z. P z x) (sym same) (subst (λ z. IfOk z (λ o. IfSome o (P τ))) (sym e) h)
+values_ended P τ τ' (Err s) answer e same h = tt
+
 pub held_ended : {X : Type 0} (P : Type 0) (r : Result X ActStop) (answer : Result (Option X) Stop) → plan_answer r ≡ answer
     → IfOk answer (λ o. IfSome o (λ x. P)) → OnOk r P
 held_ended P (Ok x) answer e h = subst (λ z. IfOk z (λ o. IfSome o (λ x. P))) (sym e) h

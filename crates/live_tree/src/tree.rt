@@ -17,10 +17,10 @@ ghost use Rattle.kept_nodes.specs.Changed.{AreChanges};
 ghost use Rattle.kept_nodes.specs.Along.{DiffersAlong};
 ghost use Rattle.node_rows.specs.Rows.{AreRows};
 ghost use Rattle.node_rows.specs.TreeNodes.{tree_nodes};
-ghost use Rattle.live_tree.specs.Live.{DiffersAsTold, IsLive, bare_tree, led_tree, most_steps};
+ghost use Rattle.live_tree.specs.Live.{DiffersAsTold, IsLive, QuietAsTold, bare_tree, led_tree, most_steps};
 
 use crate::counting::count_nodes;
-use handle_input::{Led, interact};
+use handle_input::interact;
 use html_pages::Fragments;
 use interface::widgets;
 use kept_nodes::{Changed, Marks, changed_places, kept, kept_along};
@@ -43,6 +43,8 @@ pub struct LiveTree {
     rows: Option<NodeRows>,
     // The path along which alone it differs from the tree that it was led from, where that is known and that tree's table was made.
     along: Option<Turns>,
+    // Whether it is known that nothing fires in it.
+    quiet: bool,
 }
 
 impl Model for LiveTree {
@@ -54,7 +56,7 @@ impl Model for LiveTree {
 
     ghost coded = { Prim.hlevel (codes, trees.the_row.coded) };
 
-    ghost view = { λ t. record { tree = t.tree; rows = t.rows; along = t.along } };
+    ghost view = { λ t. record { tree = t.tree; rows = t.rows; along = t.along; quiet = t.quiet } };
 }
 
 impl LiveTree {
@@ -66,6 +68,7 @@ impl LiveTree {
             tree,
             rows: None,
             along: None,
+            quiet: false,
         }
     }
 
@@ -79,12 +82,14 @@ impl LiveTree {
         budget: u32,
     ) -> Result<LiveTree, ActStop>
         requires fits { Fits (checked_term engine.now) (at (tree_term self.now.tree) (map value_term store.old.list)) }
+        requires quiet { QuietAsTold (map value_term store.old.list) self.now }
         ensures refused { OnErr result (store.new ≡ store.old) }
         ensures layer { OnOk result (store.new.layers ≡ store.old.list ∷ store.old.layers) }
         ensures held { OnOk result (IsHeldAct (input_term input.now).act) }
         ensures outcome { TellsOutcome (checked_term engine.now) budget (at (tree_term self.now.tree) (map value_term store.old.list))
             (input_term input.now) (map value_term store.new.list) (led_tree result) }
         ensures bare { IfOk result (λ t. t.rows ≡ None) }
+        ensures quiet { IfOk result (QuietAsTold (map value_term store.new.list)) }
         ensures along { IfOk result (DiffersAsTold (tree_term self.now.tree)) }
     {
         store.begin()?;
@@ -106,19 +111,22 @@ impl LiveTree {
         budget: u32,
     ) -> Result<LiveTree, ActStop>
         requires fits { Fits (checked_term engine.now) (at (tree_term self.now.tree) (map value_term store.old.list)) }
+        requires quiet { QuietAsTold (map value_term store.old.list) self.now }
         ensures layers { store.new.layers ≡ store.old.layers }
         ensures held { OnOk result (IsHeldAct (input_term input.now).act) }
         ensures outcome { TellsOutcome (checked_term engine.now) budget (at (tree_term self.now.tree) (map value_term store.old.list))
             (input_term input.now) (map value_term store.new.list) (led_tree result) }
         ensures bare { IfOk result (λ t. t.rows ≡ None) }
+        ensures quiet { IfOk result (QuietAsTold (map value_term store.new.list)) }
         ensures along { IfOk result (DiffersAsTold (tree_term self.now.tree)) }
     {
-        let Led { tree, along_path } = interact(engine, self.tree(), store, input, budget)?;
-        let along = path_told(engine.alloc(), input, along_path && self.rows.is_some())?;
+        let led = interact(engine, self.tree(), self.quiet, store, input, budget)?;
+        let along = path_told(engine.alloc(), input, led.along_path, self.rows.is_some())?;
         Ok(LiveTree {
-            tree,
+            tree: led.tree,
             rows: None,
             along,
+            quiet: led.quiet,
         })
     }
 
@@ -135,6 +143,7 @@ impl LiveTree {
         requires live { IsLive (checked_term engine.now) budget (map value_term store.old.list) self.old }
         ensures store { store.new ≡ store.old }
         ensures tree { self.new.tree ≡ self.old.tree }
+        ensures quiet { self.new.quiet ≡ self.old.quiet }
         ensures live { IsLive (checked_term engine.now) budget (map value_term store.old.list) self.new }
         ensures drawn { OnOk result (IsSome self.new.rows) }
         ensures steps { OnOk result (steps.new ≤ steps.old + most_steps (is_some self.old.rows) (tree_term self.old.tree)) }
@@ -164,6 +173,7 @@ impl LiveTree {
         requires along { DiffersAsTold (tree_term before.now.tree) self.old }
         ensures store { store.new ≡ store.old }
         ensures tree { self.new.tree ≡ self.old.tree }
+        ensures quiet { self.new.quiet ≡ self.old.quiet }
         ensures along { self.new.along ≡ self.old.along }
         ensures live { IsLive (checked_term engine.now) budget (map value_term store.old.list) self.new }
         ensures drawn { OnOk result (IsSome self.new.rows) }
@@ -269,11 +279,16 @@ impl LiveTree {
     }
 }
 
-// The path of an input, where it is told.
-fn path_told(alloc: Global, input: &Input, is_told: bool) -> Result<Option<Turns>, OutOfMemory>
-    ensures { IfOk result (λ o. (path : List Turn) → o ≡ Some path → (is_told ≡ true) × (path ≡ (input_term input.now).path)) }
+// The path of an input, where the tree that it led to differs along it alone, and a table was made before.
+fn path_told(
+    alloc: Global,
+    input: &Input,
+    along_path: bool,
+    was_drawn: bool,
+) -> Result<Option<Turns>, OutOfMemory>
+    ensures { IfOk result (λ o. (path : List Turn) → o ≡ Some path → (along_path ≡ true) × (path ≡ (input_term input.now).path)) }
 {
-    if is_told {
+    if along_path && was_drawn {
         Ok(Some(Turns::of(alloc, input.path.turns.as_slice())?))
     } else {
         Ok(None)

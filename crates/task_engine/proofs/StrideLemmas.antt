@@ -29,6 +29,9 @@ use Rattle.typing_laws.proofs.TreeLemmas.{good_applied, good_trial, good_side}
 use Rattle.task_engine.specs.Fitting.{ContFits, SideFits}
 use Rattle.typing_laws.proofs.RuleLemmas.{derives_typed}
 use Rattle.task_laws.proofs.RanLemmas.{ran_give}
+use Rattle.task_model.specs.Running.Spends.{Spends}
+use Rattle.task_model.specs.Running.Work.{Work}
+use Rattle.task_engine.specs.declared.settled.Settled.{Settled}
 use Rattle.task_engine.specs.declared.strode.Strode.{Strode}
 use Rattle.task_engine.specs.Strides.{after_stride, state_at, attempt, after_attempt, Binds, BindsNone, AnswersStride}
 
@@ -284,3 +287,20 @@ pub some_moved : (t : TreeTerm) (σ τ τ' : List Value) (r : Result (Option tre
 some_moved t σ τ τ' (Ok None) l k = k
 some_moved t σ τ τ' (Ok (Some u)) l k = λ e. k (ap (λ ys. at (tree_term u) (map value_term ys)) (sym l) ∙ e)
 some_moved t σ τ τ' (Err e) l k = tt
+
+-- ---- a tree that settled
+abbrev pub tree_alone : Result Settled Stop → Result tree.Tree Stop
+tree_alone (Ok s) = Ok s.tree
+tree_alone (Err e) = Err e
+
+pub ran_alone : {c : CheckedTerm} {p : Plan State} {old new : Left} (σ : List ValueTerm) (r : Result Settled Stop)
+    → RunsPlan c p (λ s. at (tree_term s.tree) σ) old new r → RunsPlan c p (λ u. at (tree_term u) σ) old new (tree_alone r)
+ran_alone σ (Ok s) a = record { runs = a.runs }
+ran_alone σ (Err Over) a = record { runs = a.runs }
+ran_alone σ (Err Memory) a = record { runs = tt }
+
+pub spends_alone : (work : Work State) (old new : Left) (σ : List ValueTerm) (r : Result Settled Stop)
+    → Spends work (λ s. at (tree_term s.tree) σ) old new r → Spends work (λ u. at (tree_term u) σ) old new (tree_alone r)
+spends_alone work old new σ (Ok s) a = a
+spends_alone work old new σ (Err Over) a = a
+spends_alone work old new σ (Err Memory) a = tt

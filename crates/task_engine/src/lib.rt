@@ -2,12 +2,15 @@
 //! layers.
 #![tactic(auto)]
 
+mod beside;
 mod quiet;
+mod settled;
 mod signs;
 mod states;
 mod strode;
 mod tree_rules;
 mod unchanged;
 
+pub use settled::Settled;
 pub use signs::{test_next, test_side};
-pub use states::{apply, failing, normalise, normalise_body, settle, stride};
+pub use states::{apply, failing, normalise, normalise_body, settle, settle_beside, stride};

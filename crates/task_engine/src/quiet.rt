@@ -1,9 +1,8 @@
-ghost use Rattle.std.specs.Prelude.{◌+◌, IfSome};
+ghost use Rattle.std.specs.Prelude.{suc, IfSome};
 ghost use Rattle.std.specs.Arc.{arc_value};
 ghost use Rattle.task_model.specs.Terms.Tree as trees;
 ghost use Rattle.task_model.specs.Terms.Tree.{cont_term, tree_term};
-ghost use Rattle.task_model.specs.Running.Checked.{CheckedTerm};
-ghost use Rattle.task_engine.specs.Quiet.{IsQuiet};
+ghost use Rattle.task_engine.specs.Quiet.{TellsQuiet};
 ghost use Rattle.task_evaluation.specs.Stores.{values_in};
 
 use shared_store::Store;
@@ -11,11 +10,10 @@ use std::sync::Arc;
 use task_model::{Cont, Tree, Value};
 use task_tree::has_value;
 
-/// Whether a tree has a value, where it is known that a stride within a height fires nothing in it: no internal step has a value on its
-/// left, and no internal choice has one. It takes no memory.
+/// Whether a tree has a value, where it is known that nothing fires in it within a height. It takes no memory.
 #[cycle(quiet)]
 pub(crate) fn quiet_value(t: &Tree, store: &Store<Value>, height: u32) -> Option<bool>
-    ensures { IfSome result (λ valued. (c : CheckedTerm) → IsQuiet c (tree_term t.now) (values_in store.now) height valued) }
+    ensures { IfSome result (TellsQuiet (tree_term t.now) (values_in store.now) height) }
 {
     match height.checked_sub(1) {
         Some(below) => quiet_form(t, store, below),
@@ -26,7 +24,7 @@ pub(crate) fn quiet_value(t: &Tree, store: &Store<Value>, height: u32) -> Option
 // One form, with the height that its parts may have.
 #[cycle(quiet)]
 fn quiet_form(t: &Tree, store: &Store<Value>, below: u32) -> Option<bool>
-    ensures { IfSome result (λ valued. (c : CheckedTerm) → IsQuiet c (tree_term t.now) (values_in store.now) (below + 1) valued) }
+    ensures { IfSome result (TellsQuiet (tree_term t.now) (values_in store.now) (suc below)) }
 {
     match t {
         Tree::Edit(..) => Some(true),
@@ -43,8 +41,7 @@ fn quiet_form(t: &Tree, store: &Store<Value>, below: u32) -> Option<bool>
 
 #[cycle(quiet)]
 fn quiet_then(left: &Tree, k: &Cont, store: &Store<Value>, below: u32) -> Option<bool>
-    ensures { IfSome result (λ valued. (c : CheckedTerm)
-        → IsQuiet c (trees.then_tree (tree_term left.now) (cont_term k.now)) (values_in store.now) (below + 1) valued) }
+    ensures { IfSome result (TellsQuiet (trees.then_tree (tree_term left.now) (cont_term k.now)) (values_in store.now) (suc below)) }
 {
     let valued = quiet_value(left, store, below)?;
     if valued { None } else { Some(false) }
@@ -52,8 +49,7 @@ fn quiet_then(left: &Tree, k: &Cont, store: &Store<Value>, below: u32) -> Option
 
 #[cycle(quiet)]
 fn quiet_next(left: &Tree, k: &Cont, store: &Store<Value>, below: u32) -> Option<bool>
-    ensures { IfSome result (λ valued. (c : CheckedTerm)
-        → IsQuiet c (trees.next_tree (tree_term left.now) (cont_term k.now)) (values_in store.now) (below + 1) valued) }
+    ensures { IfSome result (TellsQuiet (trees.next_tree (tree_term left.now) (cont_term k.now)) (values_in store.now) (suc below)) }
 {
     quiet_value(left, store, below)?;
     Some(false)
@@ -61,8 +57,8 @@ fn quiet_next(left: &Tree, k: &Cont, store: &Store<Value>, below: u32) -> Option
 
 #[cycle(quiet)]
 fn quiet_and(a: &Arc<Tree>, b: &Arc<Tree>, store: &Store<Value>, below: u32) -> Option<bool>
-    ensures { IfSome result (λ valued. (c : CheckedTerm)
-        → IsQuiet c (trees.and_tree (tree_term (arc_value a.now)) (tree_term (arc_value b.now))) (values_in store.now) (below + 1) valued) }
+    ensures { IfSome result
+        (TellsQuiet (trees.and_tree (tree_term (arc_value a.now)) (tree_term (arc_value b.now))) (values_in store.now) (suc below)) }
 {
     let first = quiet_value(a, store, below)?;
     let second = quiet_value(b, store, below)?;
@@ -71,8 +67,8 @@ fn quiet_and(a: &Arc<Tree>, b: &Arc<Tree>, store: &Store<Value>, below: u32) -> 
 
 #[cycle(quiet)]
 fn quiet_or(a: &Arc<Tree>, b: &Arc<Tree>, store: &Store<Value>, below: u32) -> Option<bool>
-    ensures { IfSome result (λ valued. (c : CheckedTerm)
-        → IsQuiet c (trees.or_tree (tree_term (arc_value a.now)) (tree_term (arc_value b.now))) (values_in store.now) (below + 1) valued) }
+    ensures { IfSome result
+        (TellsQuiet (trees.or_tree (tree_term (arc_value a.now)) (tree_term (arc_value b.now))) (values_in store.now) (suc below)) }
 {
     let first = quiet_value(a, store, below)?;
     if first {

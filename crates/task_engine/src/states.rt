@@ -1,4 +1,4 @@
-ghost use Rattle.std.specs.Prelude.{◌≡◌, map, slice_get, IfOk, IfSome, IsSome, None};
+ghost use Rattle.std.specs.Prelude.{◌≡◌, ℕ, suc, true, map, slice_get, IfOk, IfSome, IsSome, None};
 ghost use Rattle.task_model.specs.Terms.Value.{value_term};
 ghost use Rattle.task_model.specs.Terms.Task.{task_term};
 ghost use Rattle.task_model.specs.Terms.Tree.{cont_term, tree_term, at};
@@ -9,13 +9,15 @@ ghost use Rattle.task_model.specs.Running.Spends.{Spends};
 ghost use Rattle.typing_laws.specs.Well.{MayAsk};
 ghost use Rattle.host_eval.specs.NamesTerm.{names_term};
 ghost use Rattle.task_engine.specs.Fitting.{ContFits};
+ghost use Rattle.task_engine.specs.Quiet.{IsQuiet, IsQuietBeside};
 ghost use Rattle.task_engine.specs.Strides.{after_stride};
 
+use crate::settled::Settled;
 use crate::tree_rules::{apply_at, fails_at, normal_at, settle_at, stride_at};
 use host_eval::Names;
 use shared_store::Store;
 use task_evaluation::Engine;
-use task_model::{Cont, Purse, Stop, Task, Tree, Value};
+use task_model::{Cont, Purse, Stop, Task, Tree, Turn, Value};
 
 /// Whether a tree is failing. The store stays, after a stop too.
 pub fn failing(
@@ -64,9 +66,31 @@ pub fn settle(
     ensures spends { Spends (judgements.Settles (checked_term engine.now) (at (tree_term t) (map value_term store.old.list)))
         (λ u. at (tree_term u) (map value_term store.new.list)) purse.old purse.new result }
 {
+    let settled = settle_beside(engine, t, None, store, purse)?;
+    Ok(settled.tree)
+}
+
+/// The same, and whether it is known of the tree that it leads to that nothing fires in it. Where nothing fires beside a path, if there is one,
+/// no more than what stands along the path is looked at, unless something fires there.
+pub fn settle_beside(
+    engine: &Engine,
+    t: Tree,
+    beside: Option<&[Turn]>,
+    store: &mut Store<Value>,
+    purse: &mut Purse,
+) -> Result<Settled, Stop>
+    requires may { MayAsk (checked_term engine.now) (settles (at (tree_term t) (map value_term store.old.list))) }
+    requires beside { IfSome beside (λ path. (below : ℕ) → purse.old.height ≡ suc below
+        → IsQuietBeside path.now (tree_term t) (map value_term store.old.list) below) }
+    ensures layers { store.new.layers ≡ store.old.layers }
+    ensures spends { Spends (judgements.Settles (checked_term engine.now) (at (tree_term t) (map value_term store.old.list)))
+        (λ s. at (tree_term s.tree) (map value_term store.new.list)) purse.old purse.new result }
+    ensures quiet { IfOk result (λ s. s.quiet ≡ true → (below : ℕ) → purse.old.height ≡ suc below
+        → IsQuiet (tree_term s.tree) (map value_term store.new.list) below) }
+{
     // The program of an engine is accepted.
     let _accepted = engine.checked().program();
-    settle_at(engine, t, store, purse)
+    settle_at(engine, t, beside, store, purse)
 }
 
 /// A task is evaluated, and its state settles.

@@ -1,4 +1,4 @@
-ghost use Rattle.std.specs.Prelude.{◌≡◌, ◌↔◌, ◌<◌, ◌∷◌, List, length, map, slice_get, IfOk, IfSome, IsTrue, None, OnOk, Some};
+ghost use Rattle.std.specs.Prelude.{◌≡◌, ◌↔◌, ◌<◌, ℕ, suc, true, ◌∷◌, List, length, map, slice_get, IfOk, IfSome, IsTrue, None, OnOk, Some};
 ghost use Rattle.std.specs.Arc.{arc_value};
 ghost use Rattle.task_model.specs.declared.value.Value as values;
 ghost use Rattle.task_model.specs.Terms.Value.{value_term};
@@ -14,6 +14,7 @@ ghost use Rattle.typing_laws.specs.Well.{MayAsk, Well};
 ghost use Rattle.host_eval.specs.NamesTerm.{names_term};
 ghost use Rattle.task_evaluation.specs.FirstParts.{parts_at};
 ghost use Rattle.task_evaluation.specs.Stores.{values_in, state_in};
+ghost use Rattle.task_engine.specs.Quiet.{IsQuiet, IsQuietBeside};
 ghost use Rattle.task_engine.specs.Strides.{
   after_stride,
   TellsValue,
@@ -27,7 +28,8 @@ ghost use Rattle.task_engine.specs.Strides.{
   RunsStride,
 };
 
-use crate::quiet::quiet_value;
+use crate::beside::is_quiet;
+use crate::settled::Settled;
 use crate::strode::{Strode, and_of, or_of, step_of, still, strode_tree, strode_value};
 use crate::unchanged::is_unchanged;
 use host_eval::Names;
@@ -35,7 +37,7 @@ use shared_store::Store;
 use std::alloc::Global;
 use std::sync::Arc;
 use task_evaluation::{Engine, FirstPart, StepKind, binder_of, evaluate_at};
-use task_model::{Cont, Delay, OutOfMemory, Purse, Slot, Stop, Task, Tree, Value};
+use task_model::{Cont, Delay, OutOfMemory, Purse, Slot, Stop, Task, Tree, Turn, Value};
 use task_tree::{has_value, same};
 
 /// Whether a tree is failing. The store stays.
@@ -291,83 +293,74 @@ fn normal_form(
         purse.old purse.new result }
 {
     let u = evaluate_at(engine, t, parts, names, store, purse)?;
-    stride_all(engine, u, store, purse)
+    let settled = stride_all(engine, u, None, store, purse)?;
+    Ok(settled.tree)
 }
 
-/// Strides until one changes nothing, each for one unit besides its own.
+/// Strides until one changes nothing, each for one unit besides its own. A tree in which nothing fires is looked through without the rules, and
+/// where nothing fires beside a path, if there is one, no more than what stands along it.
 #[cycle(engine)]
-pub(crate) fn stride_all(
+fn stride_all(
     engine: &Engine,
     t: Tree,
+    beside: Option<&[Turn]>,
     store: &mut Store<Value>,
     purse: &mut Purse,
-) -> Result<Tree, Stop>
+) -> Result<Settled, Stop>
     requires accepted { IsAccepted (checked_term engine.now) }
     requires may { MayStride engine.now (tree_term t) store.old }
+    requires beside { IfSome beside (λ path. IsQuietBeside path.now (tree_term t) (values_in store.old) purse.old.height) }
     ensures height { OnOk result (purse.new.height ≡ purse.old.height) }
     ensures layers { store.new.layers ≡ store.old.layers }
-    ensures ran { RunsPlan (checked_term engine.now) (stride_on (state_in store.old t) give) (state_in store.new)
+    ensures ran { RunsPlan (checked_term engine.now) (stride_on (state_in store.old t) give) (λ s. state_in store.new s.tree)
         purse.old purse.new result }
+    ensures quiet { IfOk result (λ s. s.quiet ≡ true → IsQuiet (tree_term s.tree) (values_in store.new) purse.new.height) }
 {
     let mut tree = t;
+    let mut known = beside;
     'strides: loop {
         purse.spend()?;
+        if is_quiet(&tree, known, store, purse.height_left()) {
+            return Ok(Settled { tree, quiet: true });
+        }
+        known = None;
         let changed = changing(engine, &tree, store, purse)?;
         match changed {
-            None => return Ok(tree),
+            None => return Ok(Settled { tree, quiet: false }),
             Some(next) => tree = next,
         }
     }
 }
 
+/// The same under the rule of settling.
 pub(crate) fn settle_at(
     engine: &Engine,
     t: Tree,
+    beside: Option<&[Turn]>,
     store: &mut Store<Value>,
     purse: &mut Purse,
-) -> Result<Tree, Stop>
+) -> Result<Settled, Stop>
     requires accepted { IsAccepted (checked_term engine.now) }
     requires may { MayAsk (checked_term engine.now) (settles (state_in store.old t)) }
+    requires beside { IfSome beside (λ path. (below : ℕ) → purse.old.height ≡ suc below
+        → IsQuietBeside path.now (tree_term t) (values_in store.old) below) }
     ensures height { OnOk result (purse.new.height ≡ purse.old.height) }
     ensures layers { store.new.layers ≡ store.old.layers }
-    ensures asked { RunsJudgement (checked_term engine.now) (settles (state_in store.old t)) (state_in store.new)
+    ensures asked { RunsJudgement (checked_term engine.now) (settles (state_in store.old t)) (λ s. state_in store.new s.tree)
         purse.old purse.new result }
+    ensures quiet { IfOk result (λ s. s.quiet ≡ true → (below : ℕ) → purse.old.height ≡ suc below
+        → IsQuiet (tree_term s.tree) (values_in store.new) below) }
 {
     let height = purse.height_left();
     purse.enter()?;
-    let u = stride_all(engine, t, store, purse)?;
+    let settled = stride_all(engine, t, beside, store, purse)?;
     purse.leave(height);
-    Ok(u)
+    Ok(settled)
 }
 
-// One stride, which answers nothing where it changes neither tree nor store. A tree in which nothing fires is looked through without the
-// rules.
+// One stride by the rules, under a layer, which answers nothing where it changes neither tree nor store.
 #[cycle(engine)]
 fn changing(
-    engine: &Engine,
-    t: &Tree,
-    store: &mut Store<Value>,
-    purse: &mut Purse,
-) -> Result<Option<Tree>, Stop>
-    requires accepted { IsAccepted (checked_term engine.now) }
-    requires may { MayStride engine.now (tree_term t.now) store.old }
-    ensures height { OnOk result (purse.new.height ≡ purse.old.height) }
-    ensures layers { store.new.layers ≡ store.old.layers }
-    ensures none { IfOk result (λ o. o ≡ None → values_in store.new ≡ values_in store.old) }
-    ensures other { IfOk result
-        (λ o. IfSome o (λ u. at (tree_term u) (values_in store.new) ≡ at (tree_term t.now) (values_in store.old) → ⊥)) }
-    ensures asked { RunsJudgement (checked_term engine.now) (strides (state_in store.old t.now)) (state_after (tree_term t.now) store.new)
-        purse.old purse.new result }
-{
-    match quiet_value(t, store, purse.height_left()) {
-        Some(_) => Ok(None),
-        None => changing_by_rules(engine, t, store, purse),
-    }
-}
-
-// The same by the rules, under a layer.
-#[cycle(engine)]
-fn changing_by_rules(
     engine: &Engine,
     t: &Tree,
     store: &mut Store<Value>,

@@ -1,5 +1,5 @@
 -- What a world's fields hold, before and after each part of an event.
-use Rattle.std.proofs.Common.{◌≡◌, ℕ, ◌<◌, List, [], ◌∷◌, ◌++◌, drop, length, map, ◌-◌, true, Option, Some, None, Result, Ok, Err, refl, sym, ap, ◌∙◌, subst, arith, length-append}
+use Rattle.std.proofs.Common.{◌≡◌, ℕ, ◌<◌, List, [], ◌∷◌, ◌++◌, drop, length, map, ◌-◌, true, false, Option, Some, None, Result, Ok, Err, refl, sym, ap, ◌∙◌, subst, arith, length-append}
 use Rattle.std.specs.Prelude.{IfOk, IsSome, slice_get, unwrap_or}
 use Rattle.std.specs.Option.{is_some, option_map}
 use Rattle.std.proofs.lemmas.List.{map-append, length-map}
@@ -8,11 +8,11 @@ use Rattle.task_model.specs.Terms.Rowed.{Rowed}
 use Rattle.task_model.specs.Terms.Value.{ValueTerm, value_term}
 use Rattle.task_model.specs.Terms.Tree.{tree_term, State, at}
 use Rattle.task_model.specs.Terms.Input.{EntryTerm}
-use Rattle.task_model.specs.Terms.Item.{took, item_term, history_term}
+use Rattle.task_model.specs.Terms.Item.{opened, took, item_term, history_term}
 use Rattle.task_model.specs.Running.Checked.{SeenChecked, CheckedTerm, checked_term}
-use Rattle.task_model.specs.Showing.Widget.{WidgetTerm}
 use Rattle.task_model.specs.Checking.Fits.{Fits}
-use Rattle.task_model.specs.Running.State.{IsEntry, version_of}
+use Rattle.task_model.specs.Checking.Accepted.{IsAccepted}
+use Rattle.task_model.specs.Running.State.{IsBudget, IsEntry, IsOpening, version_of}
 use Rattle.task_model.specs.declared.tree.Tree.{Tree}
 use Rattle.task_model.specs.declared.value.Value.{Value}
 use Rattle.task_model.specs.declared.item.Item.{Item}
@@ -24,9 +24,10 @@ use Rattle.kept_nodes.specs.Kept.{IsRedrawn}
 use Rattle.kept_nodes.specs.Along.{DiffersAlong}
 use Rattle.world_core.specs.World.{SeenWorld, WorldTerm, NextTerm, next_term, world_term, drawn_as, IsStanding, at_rest, with_item, with_prepared, Prepares, Commits}
 use Rattle.task_model.specs.declared.widget.Face.{Face}
-use Rattle.html_pages.specs.Fragments.{FragmentTerm, PageTerm, fragment_of}
+use Rattle.html_pages.specs.Fragments.{FragmentTerm, PageTerm}
 use Rattle.node_rows.specs.Rows.{RowsTerm}
-use Rattle.live_tree.specs.Live.{SeenLive, AreRowsIfMade, IsLive, DiffersAsTold}
+use Rattle.task_engine.specs.Quiet.{FiresNothing}
+use Rattle.live_tree.specs.Live.{SeenLive, AreRowsIfMade, IsLive, QuietAsTold, DiffersAsTold}
 use Rattle.world_core.specs.Pages.{AreStateFragments, AreFragments, IsNextVersion, IsStatePage, IsWorldPage}
 use Rattle.world_core.specs.Inside.{newest_layer, seen_next, next_made, seen_world, FieldsAgree}
 use Rattle.world_core.specs.declared.prepared.Prepared.{Prepared}
@@ -53,6 +54,11 @@ tree_shown c budget σ before live fs same e k =
     subst (λ (t : Tree). AreStateFragments c budget (at (tree_term t) σ) fs) same
     (rows_shown c budget (at (tree_term live.tree) σ) live.rows fs e k)
 
+-- what is told stays told of the same tree
+pub quiet_moved : (σ : List ValueTerm) (live live' : SeenLive) → live'.tree ≡ live.tree → live'.quiet ≡ live.quiet → QuietAsTold σ live
+    → QuietAsTold σ live'
+quiet_moved σ live live' tree told q = λ e. subst (λ (t : Tree). FiresNothing (tree_term t) σ) (sym tree) (q (sym told ∙ e))
+
 -- a table that wasn't made is none of another state
 pub bare_live : (c : CheckedTerm) (budget : ℕ) (σ : List ValueTerm) (live : SeenLive) → live.rows ≡ None → IsLive c budget σ live
 bare_live c budget σ live e = subst (AreRowsIfMade c budget (tree_term live.tree) σ) (sym e) tt
@@ -72,24 +78,32 @@ module _ (c : SeenChecked) (budget : ℕ) (h : Rowed Item) (live : SeenLive) (s 
   rest_live None k e = k.rows
   rest_live (Some p) k e = absurd cc
 
+  pub rest_quiet : (next : Option Prepared) → FieldsAgree c budget h live s next → next ≡ None
+      → QuietAsTold (map value_term s.list) live
+  rest_quiet None k e = k.quiet
+  rest_quiet (Some p) k e = absurd cc
+
   -- the present state's table was made, or stays
   module _ (live' : SeenLive) (s' : Layered Value) (tree : live'.tree ≡ live.tree) (same : s' ≡ s) where
     pub drawn_world : (next : Option Prepared) → seen_world c budget h.list live' s' next
         ≡ drawn_as (is_some live'.rows) (next_made next) (seen_world c budget h.list live s next)
     drawn_world next =
-        ap (λ (t : Tree). seen_world c budget h.list (record { tree = t; rows = live'.rows; along = live'.along }) s' next) tree
+        ap (λ (t : Tree). seen_world c budget h.list (record { tree = t; rows = live'.rows; along = live'.along; quiet = live'.quiet }) s' next) tree
         ∙ ap (λ (z : Layered Value). drawn_as (is_some live'.rows) (next_made next) (seen_world c budget h.list live z next)) same
 
     pub drawn_kept : (next : Option Prepared) → next ≡ None → IsLive (checked_term c) budget (map value_term s.list) live'
-        → FieldsAgree c budget h live s next → FieldsAgree c budget h live' s' next
-    drawn_kept None e rows k = record {
+        → live'.quiet ≡ live.quiet → FieldsAgree c budget h live s next → FieldsAgree c budget h live' s' next
+    drawn_kept None e rows quiet k = record {
       standing = subst (λ w. IsStanding (world_term w)) (sym (drawn_world None)) k.standing;
       room = ap (λ (z : Layered Value). z.layers) same ∙ k.room;
       rows = subst (λ (z : Layered Value). IsLive (checked_term c) budget (map value_term z.list) live') (sym same) rows;
       next_rows = tt;
       next_differs = tt;
+      quiet = subst (λ (z : Layered Value). QuietAsTold (map value_term z.list) live') (sym same)
+          (quiet_moved (map value_term s.list) live live' tree quiet k.quiet);
+      next_quiet = tt;
     }
-    drawn_kept (Some p) e rows k = absurd cc
+    drawn_kept (Some p) e rows quiet k = absurd cc
 
   -- what is drawn of the present state is that of its history
   pub fragments_shown : {E : Type 0} (next : Option Prepared) (r : Result (List FragmentTerm) E) → next ≡ None
@@ -125,8 +139,40 @@ module _ (c : SeenChecked) (budget : ℕ) (h : Rowed Item) (live : SeenLive) (s 
     rows = subst (λ (z : Layered Value). IsLive (checked_term c) budget (map value_term z.list) live) (sym q) k.rows;
     next_rows = tt;
     next_differs = tt;
+    quiet = subst (λ (z : Layered Value). QuietAsTold (map value_term z.list) live) (sym q) k.quiet;
+    next_quiet = tt;
   }
   same_kept h' s' (Some p) e f q k = absurd cc
+
+  -- where nothing is prepared nothing was
+  pub none_kept : (next next' : Option Prepared) → is_some next ≡ false → next' ≡ None → FieldsAgree c budget h live s next
+      → FieldsAgree c budget h live s next'
+  none_kept None next' e none k = subst (FieldsAgree c budget h live s) (sym none) k
+  none_kept (Some p) next' e none k = absurd cc
+
+  -- the opening
+  pub opened_kept : IsAccepted (checked_term c) → IsBudget budget
+      → history_term h.list ≡ opened (checked_term c).program budget ∷ [] → s.layers ≡ []
+      → IsOpening (checked_term c) budget (at (tree_term live.tree) (map value_term s.list))
+      → IsLive (checked_term c) budget (map value_term s.list) live → QuietAsTold (map value_term s.list) live
+      → FieldsAgree c budget h live s None
+  opened_kept accepted within begins layers opening rows quiet = record {
+    standing = record {
+      accepted = accepted;
+      budget = within;
+      entries = [];
+      begins = begins;
+      valid = tt;
+      reached = (at (tree_term live.tree) (map value_term s.list), opening, refl);
+      follows = tt;
+    };
+    room = layers;
+    rows = rows;
+    next_rows = tt;
+    next_differs = tt;
+    quiet = quiet;
+    next_quiet = tt;
+  }
 
   -- a refusal, told at the state at rest
   pub refused : (h' : Rowed Item) (s' : Layered Value) (next : Option Prepared) (e : EntryTerm) (stop : ActStop) (σ : List ValueTerm)
@@ -175,8 +221,9 @@ module _ (c : SeenChecked) (budget : ℕ) (h : Rowed Item) (live : SeenLive) (s 
         → TellsOutcome (checked_term c) budget (at (tree_term live.tree) (map value_term s.list)) e.input (map value_term s'.list)
         (Ok p.live.tree)
         → IsLive (checked_term c) budget (map value_term s'.list) p.live → DiffersAsTold (tree_term live.tree) p.live
+        → QuietAsTold (map value_term s'.list) p.live
         → FieldsAgree c budget h live s next → FieldsAgree c budget h' live s' (Some p)
-    prepared_kept None e r is entry spare o rows differs k = record {
+    prepared_kept None e r is entry spare o rows differs quiet k = record {
       standing = subst IsStanding (sym (prepared_is e is))
           (standing_next (world None) (Some (record { item = took e; state = prepared_state })) k.standing
           (record { entry = e; is = refl; valid = entry; taken = o }));
@@ -184,8 +231,10 @@ module _ (c : SeenChecked) (budget : ℕ) (h : Rowed Item) (live : SeenLive) (s 
       rows = subst (λ σ. IsLive (checked_term c) budget (map value_term σ) live) (sym (ap newest_layer layers)) k.rows;
       next_rows = rows;
       next_differs = differs;
+      quiet = subst (λ σ. QuietAsTold (map value_term σ) live) (sym (ap newest_layer layers)) k.quiet;
+      next_quiet = quiet;
     }
-    prepared_kept (Some n) e r is entry spare o rows differs k = absurd cc
+    prepared_kept (Some n) e r is entry spare o rows differs quiet k = absurd cc
 
   -- ---- what is prepared is taken, or given up
   module _ (p : Prepared) (k : FieldsAgree c budget h live s (Some p)) where
@@ -218,13 +267,13 @@ module _ (c : SeenChecked) (budget : ℕ) (h : Rowed Item) (live : SeenLive) (s 
       next_drawn_world =
           ap (λ (t : Tree). seen_world c budget h.list live s' (Some (record {
             item = p.item;
-            live = record { tree = t; rows = live'.rows; along = live'.along };
+            live = record { tree = t; rows = live'.rows; along = live'.along; quiet = live'.quiet };
           }))) tree
           ∙ ap (λ (z : Layered Value). drawn_as (is_some live.rows) (is_some live'.rows) (seen_world c budget h.list live z (Some p))) same
 
       pub next_drawn_kept : live'.along ≡ p.live.along → IsLive (checked_term c) budget (map value_term s.list) live'
-          → FieldsAgree c budget h live s' (Some drawn_next)
-      next_drawn_kept along rows = record {
+          → live'.quiet ≡ p.live.quiet → FieldsAgree c budget h live s' (Some drawn_next)
+      next_drawn_kept along rows quiet = record {
         standing = subst (λ w. IsStanding (world_term w)) (sym next_drawn_world) k.standing;
         room = (
           k.room.0,
@@ -235,6 +284,9 @@ module _ (c : SeenChecked) (budget : ℕ) (h : Rowed Item) (live : SeenLive) (s 
         next_rows = subst (λ (z : Layered Value). IsLive (checked_term c) budget (map value_term z.list) live') (sym same) rows;
         next_differs = λ path e. subst (λ (t : Tree). DiffersAlong path (tree_term live.tree) (tree_term t)) (sym tree)
             (k.next_differs path (sym along ∙ e));
+        quiet = subst (λ (z : Layered Value). QuietAsTold (map value_term (newest_layer z.layers)) live) (sym same) k.quiet;
+        next_quiet = subst (λ (z : Layered Value). QuietAsTold (map value_term z.list) live') (sym same)
+            (quiet_moved (map value_term s.list) p.live live' tree quiet k.next_quiet);
       }
 
     -- the present values are the one layer
@@ -295,6 +347,8 @@ module _ (c : SeenChecked) (budget : ℕ) (h : Rowed Item) (live : SeenLive) (s 
         rows = subst (λ σ. IsLive (checked_term c) budget (map value_term σ) p.live) (sym same) k.next_rows;
         next_rows = tt;
         next_differs = tt;
+        quiet = subst (λ σ. QuietAsTold (map value_term σ) p.live) (sym same) k.next_quiet;
+        next_quiet = tt;
       }
 
       pub commits : (next next' : Option Prepared) (n : ℕ) → next ≡ Some p → next' ≡ None → s'.layers ≡ drop 1 s.layers
@@ -325,6 +379,8 @@ module _ (c : SeenChecked) (budget : ℕ) (h : Rowed Item) (live : SeenLive) (s 
         rows = subst (λ σ. IsLive (checked_term c) budget (map value_term σ) live) (ap newest_layer dropped) k.rows;
         next_rows = tt;
         next_differs = tt;
+        quiet = subst (λ σ. QuietAsTold (map value_term σ) live) (ap newest_layer dropped) k.quiet;
+        next_quiet = tt;
       }
 
   -- the version once what is prepared is committed

@@ -7,7 +7,7 @@ use Rattle.task_model.specs.Running.Checked.{SeenChecked, CheckedTerm, checked_t
 use Rattle.task_model.specs.declared.value.Value.{Value}
 use Rattle.task_model.specs.declared.item.Item.{Item}
 use Rattle.shared_store.specs.Layered.{Layered}
-use Rattle.live_tree.specs.Live.{SeenLive, IsLive, DiffersAsTold}
+use Rattle.live_tree.specs.Live.{SeenLive, IsLive, QuietAsTold, DiffersAsTold}
 use Rattle.world_core.specs.World.{SeenNext, SeenWorld, world_term, IsStanding}
 use Rattle.world_core.specs.declared.prepared.Prepared.{Prepared}
 
@@ -53,6 +53,11 @@ abbrev pub NextIsLive : CheckedTerm → ℕ → Option Prepared → List Value �
 NextIsLive c budget None σ = Unit {0}
 NextIsLive c budget (Some p) σ = IsLive c budget (map value_term σ) p.live
 
+-- nothing fires in the tree of what is prepared, if anything is, over the values that it leads to, if that is told
+abbrev pub NextIsQuiet : Option Prepared → List Value → Type 0
+NextIsQuiet None σ = Unit {0}
+NextIsQuiet (Some p) σ = QuietAsTold (map value_term σ) p.live
+
 -- the tree of what is prepared, if anything is, differs from the present one along the path that it tells, if it tells one
 abbrev pub NextDiffers : Option Prepared → SeenLive → Type 0
 NextDiffers None live = Unit {0}
@@ -66,3 +71,5 @@ pub record FieldsAgree (c : SeenChecked) (budget : ℕ) (history : Rowed Item) (
   pub rows : IsLive (checked_term c) budget (map value_term (present_values next store)) live
   pub next_rows : NextIsLive (checked_term c) budget next store.list
   pub next_differs : NextDiffers next live
+  pub quiet : QuietAsTold (map value_term (present_values next store)) live
+  pub next_quiet : NextIsQuiet next store.list

@@ -38,6 +38,7 @@ pub(crate) fn drawn_fragments<L: Ledger>(
     requires live { IsLive (checked_term engine.now) budget (map value_term store.old.list) live.old }
     ensures store { store.new ≡ store.old }
     ensures tree { live.new.tree ≡ live.old.tree }
+    ensures quiet { live.new.quiet ≡ live.old.quiet }
     ensures live { IsLive (checked_term engine.now) budget (map value_term store.old.list) live.new }
     ensures fragments { IfOk result (AreStateFragments (checked_term engine.now) budget
         (at (tree_term live.old.tree) (map value_term store.old.list))) }
@@ -67,6 +68,7 @@ pub(crate) fn next_drawn_fragments<L: Ledger>(
     requires along { DiffersAsTold (tree_term before.now.tree) live.old }
     ensures store { store.new ≡ store.old }
     ensures tree { live.new.tree ≡ live.old.tree }
+    ensures quiet { live.new.quiet ≡ live.old.quiet }
     ensures along { live.new.along ≡ live.old.along }
     ensures live { IsLive (checked_term engine.now) budget (map value_term store.old.list) live.new }
     ensures fragments { IfOk result (AreStateFragments (checked_term engine.now) budget
@@ -96,6 +98,7 @@ pub(crate) fn drawn_page<L: Ledger>(
     requires live { IsLive (checked_term engine.now) budget (map value_term store.old.list) live.old }
     ensures store { store.new ≡ store.old }
     ensures tree { live.new.tree ≡ live.old.tree }
+    ensures quiet { live.new.quiet ≡ live.old.quiet }
     ensures live { IsLive (checked_term engine.now) budget (map value_term store.old.list) live.new }
     ensures version { IfOk result (λ page. page.version ≡ framing.version) }
     ensures page { IfOk result (λ page. IsStatePage (checked_term engine.now) budget

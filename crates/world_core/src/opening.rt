@@ -6,7 +6,7 @@ ghost use Rattle.task_model.specs.Terms.Item.{opened, history_term};
 ghost use Rattle.task_model.specs.Running.Checked.{checked_term};
 ghost use Rattle.task_model.specs.Terms.Program.{main_name};
 ghost use Rattle.task_model.specs.Running.State.{IsOpening};
-ghost use Rattle.live_tree.specs.Live.{IsLive};
+ghost use Rattle.live_tree.specs.Live.{IsLive, QuietAsTold};
 
 use crate::answers::OpenStop;
 use host_eval::Names;
@@ -42,6 +42,7 @@ pub(crate) fn opened_tree(
     ensures ok { IfOk result (λ live. IsOpening (checked_term engine.now) budget
         (at (tree_term live.tree) (map value_term store.new.list))) }
     ensures rows { IfOk result (λ live. IsLive (checked_term engine.now) budget (map value_term store.new.list) live) }
+    ensures quiet { IfOk result (QuietAsTold (map value_term store.new.list)) }
     ensures over { IfErr result (λ stop. stop ≡ OpenStop.Over → (s : State) → IsOpening (checked_term engine.now) budget s → ⊥) }
 {
     let call = call_of_main(engine.alloc())?;
@@ -70,6 +71,7 @@ fn evaluated(
     ensures ok { IfOk result (λ live. IsOpening (checked_term engine.now) budget
         (at (tree_term live.tree) (map value_term store.new.list))) }
     ensures rows { IfOk result (λ live. IsLive (checked_term engine.now) budget (map value_term store.new.list) live) }
+    ensures quiet { IfOk result (QuietAsTold (map value_term store.new.list)) }
     ensures over { IfErr result (λ stop. stop ≡ OpenStop.Over → (s : State) → IsOpening (checked_term engine.now) budget s → ⊥) }
 {
     // The program of an engine is accepted.

@@ -62,7 +62,7 @@ tree_send = search (as_row_send, texts.the_send, texts.the_sync, rows.the_send, 
 pub live_tree_send : IsSend node_rows.the_row → IsSend live_tree.the_row
 live_tree_send r =
     let parts : FieldsHave IsSend live_inside.the_type.parts =
-    (tree_send, (options.the_send node_rows.the_row r, (options.the_send turns.the_row turns_send.the_send, tt)))
+    (tree_send, (options.the_send node_rows.the_row r, (options.the_send turns.the_row turns_send.the_send, (search sendable, tt))))
     in view_send _ _ _ _ _ (declared_send live_inside.the_type parts)
 
 world_parts_send :

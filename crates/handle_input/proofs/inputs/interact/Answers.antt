@@ -1,13 +1,22 @@
-use Rattle.std.proofs.Common.{◌∙◌, map, arith}
+use Rattle.std.proofs.Common.{◌≡◌, ◌∙◌, List, true, refl, map, arith}
 use Rattle.task_model.specs.Terms.Value.{value_term}
+use Rattle.task_model.specs.declared.value.Value.{Value}
 use Rattle.task_model.specs.Terms.Tree.{tree_term, at}
 use Rattle.task_model.specs.Terms.Input.{input_term}
 use Rattle.task_model.specs.Running.Checked.{checked_term}
-use Rattle.handle_input.proofs.EndLemmas.{outcome_ended, held_ended, each_ended}
+use Rattle.task_engine.specs.Quiet.{FiresNothing}
+use Rattle.handle_input.specs.declared.led.Led.{Led}
+use Rattle.handle_input.proofs.EndLemmas.{outcome_ended, held_ended, each_ended, values_ended}
 use Rattle.handle_input.proofs.inputs.interact.Goals as goal
 
 pub interacted-answer-requires-clause-fits : goal.interacted-answer-requires-clause-fits
 interacted-answer-requires-clause-fits c = rw c.in_ok-begin.ensures.list c.requires.fits
+
+pub interacted-answer-requires-clause-quiet : goal.interacted-answer-requires-clause-quiet
+interacted-answer-requires-clause-quiet c = rw c.in_ok-begin.ensures.list c.requires.quiet
+
+pub interacted-answer-requires-clause-begun : goal.interacted-answer-requires-clause-begun
+interacted-answer-requires-clause-begun c = rw (c.in_ok-begin.ensures.ok, c.in_ok-begin.ensures.list) refl
 
 pub ended-requires : goal.ended-requires
 ended-requires c = rw (c.interacted-answer.ensures.layers, c.in_ok-begin.ensures.ok) (omega arith)
@@ -29,3 +38,8 @@ returns-clause-outcome c =
 
 pub returns-clause-along : goal.returns-clause-along
 returns-clause-along c = each_ended _ _ _ c.ended.ensures.answer c.interacted-answer.ensures.along
+
+pub returns-clause-quiet : goal.returns-clause-quiet
+returns-clause-quiet c =
+    values_ended (λ (τ : List Value) (led : Led). led.quiet ≡ true → FiresNothing (tree_term led.tree) (map value_term τ)) _ _ _ _
+    c.ended.ensures.answer c.ended.ensures.kept c.interacted-answer.ensures.quiet

@@ -1,4 +1,5 @@
 use Rattle.std.proofs.Common.{Option, Some, refl, map}
+use Rattle.std.proofs.lemmas.Option.{slice_get_within}
 use Rattle.std.specs.Option.{option_map}
 use Rattle.task_model.specs.Terms.Value.{value_term}
 use Rattle.task_model.specs.Terms.Tree.{tree_term, at}
@@ -9,7 +10,7 @@ use Rattle.task_model.specs.Running.Handling.{settled}
 use Rattle.task_laws.proofs.RanLemmas.{stopped, ran_give, ran_after, ran_after_stops}
 use Rattle.task_engine.proofs.SignLemmas.{ran_spends}
 use Rattle.handle_input.proofs.FitLemmas.{settling_well}
-use Rattle.handle_input.proofs.AlongLemmas.{handled_along, along_led}
+use Rattle.handle_input.proofs.AlongLemmas.{handled_along, along_led, beside_told}
 use Rattle.handle_input.proofs.inputs.interacted.Goals as goal
 
 pub returns-in_err-led-clause-ran : goal.returns-in_err-led-clause-ran
@@ -19,10 +20,30 @@ returns-in_err-led-clause-ran c = rw (stopped _ c.in_err-led.field-0.0 c.from_re
 pub returns-in-None-clause-ran : goal.returns-in-None-clause-ran
 returns-in-None-clause-ran c = ran_after settled (rw c.as_slice-turns.ensures at c.in_ok-led.ensures.ran) (rw c.in-None.is (ran_give refl))
 
-pub settled-requires : goal.settled-requires
-settled-requires c =
+pub settled-requires-clause-well : goal.settled-requires-clause-well
+settled-requires-clause-well c =
     rw c.in-Some.is at (settling_well (input_term c.args.input.now) c.requires.accepted c.requires.fits
     (rw c.as_slice-turns.ensures at c.in_ok-led.ensures.ran))
+
+pub path_alone-beside-requires : goal.path_alone-beside-requires
+path_alone-beside-requires c =
+    rw c.in_ok-led.ensures.layers (slice_get_within c.args.store.now.layers 0 c.args.store.now.list c.requires.begun)
+
+pub settled-requires-clause-beside : goal.settled-requires-clause-beside
+settled-requires-clause-beside c =
+    let law = c.inputs_act_at_their_address.ensures in
+    let old = tree_term c.args.t.now in
+    let σ = map value_term c.args.store.now.list in
+    let led = tree_term c.in-Some.u in
+    let i = input_term c.args.input.now in
+    let ran = rw (c.as_slice-turns.ensures, c.in-Some.is) at c.in_ok-led.ensures.ran in
+    let view = option_map (λ (u : Tree). at (tree_term u) (map value_term c.handled.new.store.list)) in
+    let differs = handled_along law.acts law.lacking law.turns (checked_term c.args.engine.now) old led σ
+    (map value_term c.handled.new.store.list) i {X = Option Tree} view c.args.purse.now c.handled.new.purse {x = Some c.in-Some.u} refl
+    (ran_spends ran) in
+    beside_told (λ x. x.now) c.path_alone-beside.result i.path c.as_slice-turns.result.now old led c.args.store.now.list
+    c.handled.new.store.list c.args.store.now.layers c.handled.new.store.layers c.args.quiet c.as_slice-turns.ensures
+    c.in_ok-led.ensures.layers c.requires.begun c.requires.quiet differs c.path_alone-beside.ensures
 
 pub returns-in-Some-clause-ran : goal.returns-in-Some-clause-ran
 returns-in-Some-clause-ran c = ran_after settled (rw c.as_slice-turns.ensures at c.in_ok-led.ensures.ran)

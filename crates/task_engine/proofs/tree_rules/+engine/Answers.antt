@@ -1,4 +1,4 @@
-use Rattle.std.proofs.Common.{◌≡◌, Ok, Some, None, Bool, Option, List, map, sym, ap, ◌∙◌, refl, rules, arith}
+use Rattle.std.proofs.Common.{◌≡◌, Ok, Err, Some, None, Bool, true, false, Option, List, map, sym, ap, ◌∙◌, refl, subst, rules, arith}
 use Rattle.task_model.specs.Terms.Rowed.{Rowed}
 use Rattle.task_model.specs.Terms.Value.{ValueTerm, value_term}
 use Rattle.task_model.specs.Terms.Env.{slot_term}
@@ -16,8 +16,9 @@ use Rattle.task_model.specs.declared.purse.Stop.TheVariants.{Over}
 use Rattle.host_eval.proofs.RunLemmas.{ran_is, ran_known_ok}
 use Rattle.host_eval.proofs.WellLemmas.{well_is, well_found}
 use Rattle.typing_laws.proofs.CallLemmas.{well_rule, well_ask, well_next, well_first, well_after, well_known}
+use Rattle.task_engine.specs.Quiet.{IsQuiet}
 use Rattle.task_engine.specs.Strides.{after_stride}
-use Rattle.task_engine.proofs.StrideLemmas.{may_fail, may_stride, well_fails, well_strides, may_stride_on, well_stride_on, sides_bind, then_binds, side_env, restored, same_store, fired_is, attempt_is, with_some, with_none, asked_judged, ran_kept, judged_none, judged_some, judged_keeps, none_moved, some_moved, none_is, ran_strode}
+use Rattle.task_engine.proofs.StrideLemmas.{may_fail, may_stride, well_fails, well_strides, may_stride_on, well_stride_on, sides_bind, then_binds, side_env, restored, same_store, fired_is, attempt_is, with_some, with_none, asked_judged, ran_kept, judged_none, judged_some, judged_keeps, none_moved, some_moved, none_is, ran_strode, ran_alone}
 use Rattle.task_engine.proofs.QuietLemmas.{quiet_runs}
 use Rattle.task_engine.proofs.ValuedLemmas.{share_valued, stays_in_and, stays_in_or}
 use Rattle.task_engine.proofs.tree_rules.+engine.Goals as goal
@@ -261,11 +262,16 @@ normal_form-evaluate_at-requires t c =
 
 pub normal_form-stride_all-requires : goal.normal_form-stride_all-requires
 normal_form-stride_all-requires t c =
-    (search rules, (c.requires.accepted, well_stride_on (well_next c.requires.accepted c.requires.well c.in_ok-u.ensures.asked)))
+    (search rules, (c.requires.accepted, (well_stride_on (well_next c.requires.accepted c.requires.well c.in_ok-u.ensures.asked), tt)))
+
+pub normal_form-returns-in_err-settled-clause-ran : goal.normal_form-returns-in_err-settled-clause-ran
+normal_form-returns-in_err-settled-clause-ran t c =
+    rw (stopped _ c.in_err-settled.field-0.0 c.from_residual-in_err-settled.ensures.1)
+    (ran_ask _ c.in_ok-u.ensures.asked (ran_alone _ (Err c.in_err-settled.field-0.0) c.in_err-settled.ensures.ran))
 
 pub normal_form-returns-clause-ran : goal.normal_form-returns-clause-ran
 normal_form-returns-clause-ran t c =
-    ran_ask _ c.in_ok-u.ensures.asked c.stride_all.ensures.ran
+    ran_ask _ c.in_ok-u.ensures.asked (ran_alone _ (Ok c.in_ok-settled.settled) c.in_ok-settled.ensures.ran)
 
 -- ---- strides
 pub stride_all-changing-requires : goal.stride_all-changing-requires
@@ -285,12 +291,28 @@ stride_all-returns-in_err-changed-clause-ran t c =
     (c.strides.invariant.rest _ _ _
     (ran_stride_stops _ give _ _ _ c.spend.new.self c.spend.new.self _ c.in_ok-spend.ensures.ok _ _ c.in_err-changed.ensures.asked))
 
+pub stride_all-returns-then-is_quiet-clause-ran : goal.stride_all-returns-then-is_quiet-clause-ran
+stride_all-returns-then-is_quiet-clause-ran t c =
+    let σ = map value_term c.strides.store.list in
+    let va : Option tree.Tree → State = λ o. at (after_stride (tree_term c.strides.tree) o) σ in
+    let quiet = subst (IsQuiet (tree_term c.strides.tree) σ) c.height_left.ensures (c.is_quiet.ensures c.if-is_quiet.true) in
+    c.strides.invariant.rest _ _ _
+    (ran_last_stride _ give (λ s. at (tree_term s.tree) σ) _ _ c.spend.new.self c.spend.new.self
+    c.spend.new.self c.in_ok-spend.ensures.ok va None (Ok (record { tree = c.strides.tree; quiet = true }))
+    (quiet_runs (checked_term c.args.engine.now) (tree_term c.strides.tree) σ c.spend.new.self va refl quiet) refl (ran_give refl))
+
+pub stride_all-returns-then-is_quiet-clause-quiet : goal.stride_all-returns-then-is_quiet-clause-quiet
+stride_all-returns-then-is_quiet-clause-quiet t c = λ _.
+    subst (IsQuiet (tree_term c.strides.tree) (map value_term c.strides.store.list)) c.height_left.ensures
+    (c.is_quiet.ensures c.if-is_quiet.true)
+
 pub stride_all-returns-in-None-clause-ran : goal.stride_all-returns-in-None-clause-ran
 stride_all-returns-in-None-clause-ran t c =
     let va : Option tree.Tree → State = λ o. at (after_stride (tree_term c.strides.tree) o) (map value_term c.changing.new.store.list) in
     c.strides.invariant.rest _ _ _
-    (ran_last_stride _ give (λ u. at (tree_term u) (map value_term c.changing.new.store.list)) _ _ c.spend.new.self c.changing.new.purse
-    c.changing.new.purse c.in_ok-spend.ensures.ok va None (Ok c.strides.tree) (rw c.in-None.is at c.in_ok-changed.ensures.asked)
+    (ran_last_stride _ give (λ s. at (tree_term s.tree) (map value_term c.changing.new.store.list)) _ _ c.spend.new.self c.changing.new.purse
+    c.changing.new.purse c.in_ok-spend.ensures.ok va None (Ok (record { tree = c.strides.tree; quiet = false }))
+    (rw c.in-None.is at c.in_ok-changed.ensures.asked)
     (ap (at (tree_term c.strides.tree)) (c.in_ok-changed.ensures.none c.in-None.is)) (ran_give refl))
 
 pub stride_all-strides-preserved : goal.stride_all-strides-preserved
@@ -299,48 +321,44 @@ stride_all-strides-preserved t c =
     record {
       height = search rules;
       layers = search rules;
+      beside = tt;
       may = may_stride_on c.requires.accepted c.strides.invariant.may (rw c.in-Some.is at c.in_ok-changed.ensures.asked);
       rest = λ σ new r a. c.strides.invariant.rest σ new r
-          (ran_more_strides _ give (λ u. at (tree_term u) σ) _ _ c.spend.new.self c.changing.new.purse new c.in_ok-spend.ensures.ok va
+          (ran_more_strides _ give (λ s. at (tree_term s.tree) σ) _ _ c.spend.new.self c.changing.new.purse new c.in_ok-spend.ensures.ok va
           (Some c.in-Some.next) r (rw c.in-Some.is at c.in_ok-changed.ensures.asked) (rw c.in-Some.is at c.in_ok-changed.ensures.other) a);
     }
 
-pub changing-returns-in-Some-clause-asked : goal.changing-returns-in-Some-clause-asked
-changing-returns-in-Some-clause-asked t c =
-    quiet_runs (checked_term c.args.engine.now) (tree_term c.args.t.now) (map value_term c.args.store.now.list) c.args.purse.now
-    c.height_left.result c.in-Some.field-0 _ refl c.height_left.ensures (c.in-Some.ensures (checked_term c.args.engine.now))
-
-pub changing_by_rules-stride_at-strode-requires : goal.changing_by_rules-stride_at-strode-requires
-changing_by_rules-stride_at-strode-requires t c =
+pub changing-stride_at-strode-requires : goal.changing-stride_at-strode-requires
+changing-stride_at-strode-requires t c =
     (search rules, (c.requires.accepted, rw c.in_ok-begin.ensures.list c.requires.may))
 
-pub changing_by_rules-judged-requires : goal.changing_by_rules-judged-requires
-changing_by_rules-judged-requires t c =
+pub changing-judged-requires : goal.changing-judged-requires
+changing-judged-requires t c =
     rw (c.stride_at-strode.ensures.layers, c.in_ok-begin.ensures.ok) (omega arith)
 
-pub changing_by_rules-returns-clause-layers : goal.changing_by_rules-returns-clause-layers
-changing_by_rules-returns-clause-layers t c =
+pub changing-returns-clause-layers : goal.changing-returns-clause-layers
+changing-returns-clause-layers t c =
     c.judged.ensures.layers _ _ (c.stride_at-strode.ensures.layers ∙ c.in_ok-begin.ensures.ok)
 
-pub changing_by_rules-returns-clause-asked : goal.changing_by_rules-returns-clause-asked
-changing_by_rules-returns-clause-asked t c =
+pub changing-returns-clause-asked : goal.changing-returns-clause-asked
+changing-returns-clause-asked t c =
     asked_judged _ _ _ _ _ _ (c.judged.ensures.judged _ _ (c.stride_at-strode.ensures.layers ∙ c.in_ok-begin.ensures.ok))
     c.judged.ensures.list
     (rw c.in_ok-begin.ensures.list at c.stride_at-strode.ensures.asked)
 
-pub changing_by_rules-returns-clause-height : goal.changing_by_rules-returns-clause-height
-changing_by_rules-returns-clause-height t c =
+pub changing-returns-clause-height : goal.changing-returns-clause-height
+changing-returns-clause-height t c =
     judged_keeps (c.stride_at-strode.new.purse.height ≡ c.args.purse.now.height) _ _ _ _ _
     (c.judged.ensures.judged _ _ (c.stride_at-strode.ensures.layers ∙ c.in_ok-begin.ensures.ok)) c.stride_at-strode.ensures.height
 
-pub changing_by_rules-returns-clause-none : goal.changing_by_rules-returns-clause-none
-changing_by_rules-returns-clause-none t c =
+pub changing-returns-clause-none : goal.changing-returns-clause-none
+changing-returns-clause-none t c =
     none_moved _ _ _ _ c.judged.ensures.list (judged_none _ _ _ _ _
     (c.judged.ensures.judged _ _ (c.stride_at-strode.ensures.layers ∙ c.in_ok-begin.ensures.ok))
     (rw c.in_ok-begin.ensures.list at c.stride_at-strode.ensures.kept))
 
-pub changing_by_rules-returns-clause-other : goal.changing_by_rules-returns-clause-other
-changing_by_rules-returns-clause-other t c =
+pub changing-returns-clause-other : goal.changing-returns-clause-other
+changing-returns-clause-other t c =
     some_moved _ _ _ _ _ c.judged.ensures.list
     (judged_some _ _ _ _ _ (c.judged.ensures.judged _ _ (c.stride_at-strode.ensures.layers ∙ c.in_ok-begin.ensures.ok)))
 

@@ -1,4 +1,5 @@
 use Rattle.std.proofs.Common.{◌≡◌, ◌+◌, ◌*◌, List, Result, map}
+use Rattle.std.specs.Prelude.{IfSome}
 use Rattle.task_model.specs.Terms.Left.{Left}
 use Rattle.task_model.specs.Terms.Value.{ValueTerm, value_term}
 use Rattle.task_model.specs.Terms.Tree.{tree_term, at}
@@ -6,8 +7,9 @@ use Rattle.task_model.specs.Running.Checked.{checked_term}
 use Rattle.task_model.specs.Running.Plan.{give, strides, stride_on}
 use Rattle.task_model.specs.Syntax.Calls.{RunsPlan}
 use Rattle.task_model.specs.declared.purse.Stop.{Stop}
-use Rattle.task_model.specs.declared.tree.Tree.{Tree}
 use Rattle.typing_laws.specs.Well.{MayAsk}
+use Rattle.task_engine.specs.Quiet.{IsQuietBeside}
+use Rattle.task_engine.specs.declared.settled.Settled.{Settled}
 use Rattle.task_engine.proofs.tree_rules.+engine.Given as goal
 
 -- the height falls at each rule
@@ -43,9 +45,6 @@ decreases-fired l = 8 * l.purse.now.height + 4
 
 abbrev pub decreases-stride_at : goal.decreases-stride_at
 decreases-stride_at l = 8 * l.purse.now.height + 1
-
-abbrev pub decreases-changing_by_rules : goal.decreases-changing_by_rules
-decreases-changing_by_rules l = 8 * l.purse.now.height + 2
 
 abbrev pub decreases-changing : goal.decreases-changing
 decreases-changing l = 8 * l.purse.now.height + 3
@@ -89,10 +88,11 @@ abbrev pub invariant-stride_all-strides : goal.invariant-stride_all-strides
 invariant-stride_all-strides l = record {
   height : l.purse.height ≡ l.initial.purse.height;
   layers : l.store.layers ≡ l.initial.store.layers;
+  beside : IfSome l.known (λ path. IsQuietBeside path.now (tree_term l.tree) (map value_term l.store.list) l.purse.height);
   may : MayAsk (checked_term l.engine) (strides (at (tree_term l.tree) (map value_term l.store.list)));
-  rest : (σ : List ValueTerm) (new : Left) (r : Result Tree Stop)
+  rest : (σ : List ValueTerm) (new : Left) (r : Result Settled Stop)
       → RunsPlan (checked_term l.engine) (stride_on (at (tree_term l.tree) (map value_term l.store.list)) give)
-      (λ u. at (tree_term u) σ) l.purse new r
+      (λ s. at (tree_term s.tree) σ) l.purse new r
       → RunsPlan (checked_term l.engine) (stride_on (at (tree_term l.fn.t) (map value_term l.initial.store.list)) give)
-      (λ u. at (tree_term u) σ) l.initial.purse new r;
+      (λ s. at (tree_term s.tree) σ) l.initial.purse new r;
 }

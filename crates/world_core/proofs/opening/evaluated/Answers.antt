@@ -21,6 +21,9 @@ returns-in-Ok-clause-ok c =
     (task_term c.args.call.now) (names_term c.of_params-names.result) _ _ _ c.requires.main c.of_params-names.ensures
     (ap (map value_term) c.requires.empty) c.new.ensures.units c.new.ensures.height _ c.in-Ok.ensures.spends)
 
+pub returns-in-Ok-clause-quiet : goal.returns-in-Ok-clause-quiet
+returns-in-Ok-clause-quiet c = rw c.of.ensures (λ e. absurd cc)
+
 pub returns-in-Err-Over-clause-over : goal.returns-in-Err-Over-clause-over
 returns-in-Err-Over-clause-over c = λ _ s o.
     opening_never (λ (u : Tree). at (tree_term u) (map value_term c.normalise.new.store.list)) (checked_term c.args.engine.now)

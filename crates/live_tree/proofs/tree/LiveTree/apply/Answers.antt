@@ -13,7 +13,7 @@ pub returns-in_err-begin-clause-refused : goal.returns-in_err-begin-clause-refus
 returns-in_err-begin-clause-refused c = on_err _ (same_store c.in_err-begin.ensures.list c.in_err-begin.ensures.err)
 
 pub led-requires : goal.led-requires
-led-requires c = record { fits = rw c.in_ok-begin.ensures.list c.requires.fits }
+led-requires c = record { fits = rw c.in_ok-begin.ensures.list c.requires.fits; quiet = rw c.in_ok-begin.ensures.list c.requires.quiet }
 
 pub drop_layer-requires : goal.drop_layer-requires
 drop_layer-requires c = rw (c.led.ensures.layers, c.in_ok-begin.ensures.ok) (omega arith)

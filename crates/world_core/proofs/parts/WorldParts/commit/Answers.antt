@@ -1,4 +1,4 @@
-use Rattle.std.proofs.Common.{sym, ◌∙◌, ap, subst, length, ◌-◌}
+use Rattle.std.proofs.Common.{true≢false, sym, ◌∙◌, ap, subst, length, ◌-◌}
 use Rattle.world_core.specs.Inside.{FieldsAgree, next_made, seen_world}
 use Rattle.world_core.specs.World.{SeenWorld, world_term, Commits}
 use Rattle.world_core.proofs.KeptLemmas.{committed_kept, commits}
@@ -30,3 +30,10 @@ pub returns-clause-made : goal.returns-clause-made
 returns-clause-made c =
     let is = sym c.take.ensures.value ∙ c.in-Some.is in
     sym (ap next_made is) ∙ ap (λ (w : SeenWorld). w.next_drawn) c.self.view_is
+
+pub unreachable-requires-in-Err : goal.unreachable-requires-in-Err
+unreachable-requires-in-Err c =
+    let is = sym c.take.ensures.value ∙ c.in-Some.is in
+    let kept = subst (FieldsAgree c.self.inside.engine c.self.inside.budget c.self.inside.history c.self.inside.live c.self.inside.store) is
+    c.self.invariant in
+    true≢false (sym (c.in-Err.ensures.room kept.room.0))

@@ -1,7 +1,7 @@
 use Rattle.std.proofs.Common.{◌≡◌, ◌≤◌, ◌+◌, ap, ◌∙◌, subst}
 use Rattle.std.specs.Prelude.{IfOk, OnOk, is_some}
 use Rattle.task_model.specs.Terms.Item.{history_term}
-use Rattle.world_core.specs.World.{SeenWorld, drawn_as, world_term}
+use Rattle.world_core.specs.World.{SeenWorld, drawn_as}
 use Rattle.world_core.specs.Pages.{AreFragments}
 use Rattle.world_core.specs.Inside.{next_made, seen_world}
 use Rattle.live_tree.specs.Live.{most_steps}
@@ -24,7 +24,7 @@ invariant_of-self g c =
     let rest = rest_is c.self.inside.next c.self.inside.store.list (ap (λ (w : SeenWorld). w.next) c.self.view_is ∙ c.requires.rest) in
     drawn_kept c.self.inside.engine c.self.inside.budget c.self.inside.history c.self.inside.live c.self.inside.store
     c.drawn_fragments.new.live c.drawn_fragments.new.store c.drawn_fragments.ensures.tree c.drawn_fragments.ensures.store
-    c.self.inside.next rest c.drawn_fragments.ensures.live c.self.invariant
+    c.self.inside.next rest c.drawn_fragments.ensures.live c.drawn_fragments.ensures.quiet c.self.invariant
 
 pub returns-clause-world : goal.returns-clause-world
 returns-clause-world g c =

@@ -33,7 +33,7 @@ invariant_of-self g c =
     next_drawn_kept c.self.inside.engine c.self.inside.budget c.self.inside.history c.self.inside.live c.self.inside.store
     c.in-Some.prepared kept c.next_drawn_fragments-fragments.new.live c.next_drawn_fragments-fragments.new.store c.next_drawn_fragments-fragments.ensures.tree
     c.next_drawn_fragments-fragments.ensures.store c.next_drawn_fragments-fragments.ensures.along
-    c.next_drawn_fragments-fragments.ensures.live
+    c.next_drawn_fragments-fragments.ensures.live c.next_drawn_fragments-fragments.ensures.quiet
 
 pub returns-clause-world : goal.returns-clause-world
 returns-clause-world g c =

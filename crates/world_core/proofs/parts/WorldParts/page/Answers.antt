@@ -27,7 +27,7 @@ invariant_of-self g c =
     let rest = rest_is c.self.inside.next c.self.inside.store.list (ap (λ (w : SeenWorld). w.next) c.self.view_is ∙ c.requires.rest) in
     drawn_kept c.self.inside.engine c.self.inside.budget c.self.inside.history c.self.inside.live c.self.inside.store
     c.drawn_page.new.live c.drawn_page.new.store c.drawn_page.ensures.tree c.drawn_page.ensures.store
-    c.self.inside.next rest c.drawn_page.ensures.live c.self.invariant
+    c.self.inside.next rest c.drawn_page.ensures.live c.drawn_page.ensures.quiet c.self.invariant
 
 pub returns-clause-world : goal.returns-clause-world
 returns-clause-world g c =
