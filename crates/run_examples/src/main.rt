@@ -1,4 +1,5 @@
-//! Runs each program of examples/ on its script, and says whether it writes what its file of answers holds.
+//! Runs each program of examples/ on its script, and says whether it writes what its file of answers holds. Then it is the process of the
+//! program, with the text of its end on the standard output, too, so that a stored run shows that beside its status.
 #![tactic(auto)]
 
 use outer_io::{
@@ -8,6 +9,7 @@ use std::alloc::Global;
 use std::process::ExitCode;
 use task_model::{OutOfMemory, Row, TaskText};
 use tophat::plain;
+use tophat_process::run_process;
 
 /// The examples: NAME.th, with its script NAME.script and what it writes, NAME.out.
 const EXAMPLES: &[&str] = &[
@@ -28,7 +30,7 @@ const EXAMPLES: &[&str] = &[
 const LONGEST: u64 = 65_536;
 
 /// What becomes of an example.
-#[derive(Clone, Copy, Debug, PartialEq, Eq)]
+#[derive(Clone, Copy)]
 enum Outcome {
     AsExpected,
     Differs,
@@ -50,20 +52,16 @@ impl Outcome {
 fn main(rt: HostRuntime) -> ExitCode {
     let mut out = WriterSink::new(rt.stdout());
     let mut files = SystemFiles::new(&rt);
-    let mut status = 0;
     for name in EXAMPLES {
         let outcome = match try_example(rt.alloc(), &mut files, name) {
             Ok(outcome) => outcome,
             Err(OutOfMemory) => Outcome::OutOfMemory,
         };
-        if outcome != Outcome::AsExpected {
-            status = 1;
-        }
         if !says(&mut out, name, outcome.text()) {
-            status = 1;
+            return ExitCode::from(1);
         }
     }
-    ExitCode::from(status)
+    run_process(&rt, rt.alloc(), rt.stdin(), rt.stdout(), rt.stdout())
 }
 
 /// Whether both texts were written.
