@@ -16,38 +16,35 @@ use std::test::Fail;
 use task_model::OutOfMemory;
 use typing::{put_blocks, put_rows};
 
-/// Tables of blocks, each with the size of the pieces in which its files are read and written.
-const TABLES: &[(&str, usize)] = &[
-    (worked_rows::WORKED_ROWS, 4_096),
-    (worked_rows::LONG_TEXTS, 4_096),
-    (worked_rows::LONG_WALKS, 4_096),
-    (worked_rows::SOAKS, 4_096),
-    (worked_rows::WORDS, 4_096),
-    (worked_rows::MILLION, 4_096),
-    (tutorial::TUTORIAL, 4_096),
-    (tutorial::REFUSED, 4_096),
-    (programs::PROGRAMS, 4_096),
-    (budgets::BUDGETS, 4_096),
-    (budgets::HEIGHTS, 4_096),
-    (refusals::REFUSALS, 4_096),
-    (scripts::SCRIPTS, 1),
-    (scripts::SCRIPTS, 7),
-    (scripts::SCRIPTS, 4_096),
-    (scripts::FAULTS, 10),
-    (scripts::LIMITS, 65_536),
-];
+fn put_rows_of_programs(found: &mut String, alloc: Global) -> Result<(), OutOfMemory> {
+    put_table(found, alloc, worked_rows::WORKED_ROWS, 4_096)?;
+    put_table(found, alloc, worked_rows::LONG_TEXTS, 4_096)?;
+    put_table(found, alloc, worked_rows::LONG_WALKS, 4_096)?;
+    put_table(found, alloc, worked_rows::SOAKS, 4_096)?;
+    put_table(found, alloc, worked_rows::WORDS, 4_096)?;
+    put_table(found, alloc, worked_rows::MILLION, 4_096)?;
+    put_table(found, alloc, tutorial::TUTORIAL, 4_096)?;
+    put_table(found, alloc, tutorial::REFUSED, 4_096)?;
+    put_table(found, alloc, programs::PROGRAMS, 4_096)?;
+    put_table(found, alloc, budgets::BUDGETS, 4_096)?;
+    put_table(found, alloc, budgets::HEIGHTS, 4_096)?;
+    put_table(found, alloc, refusals::REFUSALS, 4_096)
+}
 
-fn put_tables(found: &mut String, alloc: Global) -> Result<(), OutOfMemory> {
-    for (table, piece) in TABLES {
-        put_table(found, alloc, table, *piece)?;
-    }
-    Ok(())
+/// Scripts in pieces of some sizes, in which files are read and written, too.
+fn put_rows_of_scripts(found: &mut String, alloc: Global) -> Result<(), OutOfMemory> {
+    put_table(found, alloc, scripts::SCRIPTS, 1)?;
+    put_table(found, alloc, scripts::SCRIPTS, 7)?;
+    put_table(found, alloc, scripts::SCRIPTS, 4_096)?;
+    put_table(found, alloc, scripts::FAULTS, 10)?;
+    put_table(found, alloc, scripts::LIMITS, 65_536)
 }
 
 #[test]
 fn commands_on_programs_and_scripts(rt: HostRuntime) -> Result<(), Fail> {
     let mut found = String::new(rt.alloc());
-    put_tables(&mut found, rt.alloc())?;
+    put_rows_of_programs(&mut found, rt.alloc())?;
+    put_rows_of_scripts(&mut found, rt.alloc())?;
     assert!(rt; found.is_empty(), "{}", found.as_str());
     Ok(())
 }

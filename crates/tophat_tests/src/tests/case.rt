@@ -57,28 +57,65 @@ fn sink(alloc: Global, piece: usize, failing: u64) -> Result<MemSink, OutOfMemor
     Ok(MemSink::new(alloc, piece, one(alloc, failing)?))
 }
 
+fn source(
+    alloc: Global,
+    script: &[u8],
+    piece: usize,
+    failing: u64,
+) -> Result<MemSource, OutOfMemory>
+    requires { 0 < piece }
+{
+    let script = bytes(alloc, script)?;
+    Ok(MemSource::new(script, piece, one(alloc, failing)?))
+}
+
+/// What a call is given, in memory.
+#[derive(Drop)]
+struct Objects {
+    files: MemFiles,
+    input: MemSource,
+    out: MemSink,
+    err: MemSink,
+}
+
+/// Both sinks: the output, and that of errors.
+fn sinks(alloc: Global, case: &Case<'_>, piece: usize) -> Result<(MemSink, MemSink), OutOfMemory>
+    requires { 0 < piece }
+{
+    let out = sink(alloc, piece, case.fails[2])?;
+    Ok((out, sink(alloc, piece, case.fails[3])?))
+}
+
+impl Objects {
+    fn of(alloc: Global, case: &Case<'_>, piece: usize) -> Result<Objects, OutOfMemory>
+        requires { 0 < piece }
+    {
+        let files = files(alloc, case.program, case.fails[0])?;
+        let input = source(alloc, case.script, piece, case.fails[1])?;
+        let (out, err) = sinks(alloc, case, piece)?;
+        Ok(Objects {
+            files,
+            input,
+            out,
+            err,
+        })
+    }
+}
+
 /// What comes of a case in pieces of this size: `= ` and the status, or `= none` where the words ask for no plain command, and behind that line
-/// what the error sink and then what the output took.
+/// what the error sink and then the output took.
 pub(super) fn told(alloc: Global, case: &Case<'_>, piece: usize) -> Result<String, OutOfMemory> {
     let words = words_of(alloc, case.words)?;
-    let piece = piece.max(1);
-    let mut files = files(alloc, case.program, case.fails[0])?;
-    let mut input = MemSource::new(
-        bytes(alloc, case.script)?,
-        piece,
-        one(alloc, case.fails[1])?,
-    );
-    let mut out = sink(alloc, piece, case.fails[2])?;
-    let mut err = sink(alloc, piece, case.fails[3])?;
+    let mut objects = Objects::of(alloc, case, piece.max(1))?;
     let status = plain(
         alloc,
         words.as_slice(),
-        &mut files,
-        &mut input,
-        &mut out,
-        &mut err,
+        &mut objects.files,
+        &mut objects.input,
+        &mut objects.out,
+        &mut objects.err,
     );
-    text_of(alloc, status, &out, &err)
+    text_of(alloc, status, &objects.out, &objects.err)
 }
 
 fn text_of(
