@@ -1,7 +1,7 @@
 -- How the plan of an input comes together.
 use Rattle.std.proofs.Common.{◌≡◌, ◌≤◌, ◌-◌, ℕ, Bool, true, false, List, [], ◌∷◌, length, take, drop, Option, Some, None, Result, Ok, Err, cond, refl, sym, ap, ◌∙◌, arith}
 use Rattle.std.specs.Option.{option_map}
-use Rattle.std.specs.Prelude.{slice_set, get_or, IfSome}
+use Rattle.std.specs.Prelude.{slice_set, get_or, IfErr, IfOk, IfSome}
 use Rattle.task_model.specs.Terms.Left.{Left}
 use Rattle.task_model.specs.Terms.Basic.{BasicTerm}
 use Rattle.task_model.specs.Terms.Value.{ValueTerm, value_has}
@@ -19,7 +19,7 @@ use Rattle.task_model.specs.declared.tree.Tree as tree
 use Rattle.task_model.specs.declared.input.Turn.{Turn}
 use Rattle.task_model.specs.declared.input.Turn.TheVariants as turns
 use Rattle.task_laws.proofs.PlanLemmas.{under_at, low_derives}
-use Rattle.task_laws.proofs.RanLemmas.{ran_give}
+use Rattle.task_laws.proofs.RanLemmas.{ran_give, ran_memory}
 use Rattle.host_eval.proofs.ListLemmas.{in_front}
 use Rattle.host_eval.proofs.RunLemmas.{ran_is, tail_of}
 use Rattle.task_evaluation.specs.Kinds.{pair_tree}
@@ -49,6 +49,22 @@ pub ran_made_option : {c : CheckedTerm} (x : Option TreeTerm) (σ : List ValueTe
     → option_map tree_term o ≡ x
     → RunsPlan c (give (option_map (λ u. at u σ) x)) (option_map (λ u. at (tree_term u) σ)) old old (Ok o)
 ran_made_option x σ {o = o} e = ran_give (option_map-at σ o ∙ ap (option_map (λ u. at u σ)) e)
+
+-- what is made, unless memory ran out
+pub ran_made : {c : CheckedTerm} {A X : Type 0} {x : A} {view : X → A} {old : Left} (r : Result X Stop) → IfOk r (λ y. view y ≡ x)
+    → IfErr r (λ stop. stop ≡ Memory) → RunsPlan c (give x) view old old r
+ran_made (Ok y) e m = ran_give e
+ran_made (Err stop) e m = ran_memory (ap Err m)
+
+made_over : (x : Option TreeTerm) (σ : List ValueTerm) (r : Result (Option tree.Tree) Stop) → IfOk r (λ o. option_map tree_term o ≡ x)
+    → IfOk r (λ o. option_map (λ u. at (tree_term u) σ) o ≡ option_map (λ u. at u σ) x)
+made_over x σ (Ok o) e = option_map-at σ o ∙ ap (option_map (λ u. at u σ)) e
+made_over x σ (Err stop) e = tt
+
+pub ran_edited : {c : CheckedTerm} (x : Option TreeTerm) (σ : List ValueTerm) {old : Left} (r : Result (Option tree.Tree) Stop)
+    → IfOk r (λ o. option_map tree_term o ≡ x) → IfErr r (λ stop. stop ≡ Memory)
+    → RunsPlan c (give (option_map (λ u. at u σ) x)) (option_map (λ u. at (tree_term u) σ)) old old r
+ran_edited x σ r e m = ran_made r (made_over x σ r e) m
 
 typed_tree : (b : BasicTerm) (v : ValueTerm) (t : Bool) (σ : List ValueTerm) → if_typed t (at (edit_tree b v) σ)
     ≡ give (option_map (λ u. at u σ) (edited_tree b (cond t (Some v) None)))

@@ -1,4 +1,4 @@
-ghost use Rattle.std.specs.Prelude.{◌≡◌, ◌<◌, length, map, IfOk, IfSome};
+ghost use Rattle.std.specs.Prelude.{◌≡◌, ◌<◌, length, map, IfErr, IfOk, IfSome};
 ghost use Rattle.std.specs.Option.{option_map};
 ghost use Rattle.task_model.specs.Terms.Basic.{basic_term};
 ghost use Rattle.task_model.specs.Terms.Value.{value_term};
@@ -8,7 +8,7 @@ ghost use Rattle.task_model.specs.Terms.Held.{IsHeld, IsHeldAct};
 ghost use Rattle.handle_input.specs.Editing as words;
 
 use shared_store::Store;
-use task_model::{Act, Basic, OutOfMemory, Tree, Turn, Value, copy_basic, copy_value, value_has};
+use task_model::{Act, Basic, Stop, Tree, Turn, Value, copy_basic, copy_value, value_has};
 
 /// The value that an input puts into an editor of this type.
 fn value_put<'a>(b: &Basic, path: &[Turn], act: &'a Act) -> Option<&'a Value>
@@ -28,8 +28,10 @@ fn typed<'a>(b: &Basic, v: &'a Value) -> Option<&'a Value>
     if value_has(v, b) { Some(v) } else { None }
 }
 
-/// An editor with the value that an input puts into it.
-pub(crate) fn edited(b: &Basic, path: &[Turn], act: &Act) -> Result<Option<Tree>, OutOfMemory>
+/// An editor with the value that an input puts into it. It fails only where memory runs out.
+#[inline(never)]
+pub(crate) fn edited(b: &Basic, path: &[Turn], act: &Act) -> Result<Option<Tree>, Stop>
+    ensures memory { IfErr result (λ stop. stop ≡ Stop.Memory) }
     ensures held { IfOk result (λ o. IfSome o (λ t. IsHeldAct (act_term act.now))) }
     ensures edited { IfOk result
         (λ o. option_map tree_term o
@@ -42,16 +44,18 @@ pub(crate) fn edited(b: &Basic, path: &[Turn], act: &Act) -> Result<Option<Tree>
     Ok(Some(Tree::Edit(b, copy_value(v)?)))
 }
 
-/// A shared editor, whose value is written into the store.
+/// A shared editor, whose value is written into the store. It fails only where memory runs out.
+#[inline(never)]
 pub(crate) fn edited_place(
     b: &Basic,
     place: u64,
     store: &mut Store<Value>,
     path: &[Turn],
     act: &Act,
-) -> Result<Option<Tree>, OutOfMemory>
+) -> Result<Option<Tree>, Stop>
     requires within { place < length store.old.list }
     ensures held { IfOk result (λ o. IfSome o (λ t. IsHeldAct (act_term act.now))) }
+    ensures memory { IfErr result (λ stop. stop ≡ Stop.Memory) }
     ensures layers { store.new.layers ≡ store.old.layers }
     ensures written { IfOk result (λ o. option_map (λ u. at (tree_term u) (map value_term store.new.list)) o
         ≡ words.edited_state (basic_term b.now) place (map value_term store.old.list)

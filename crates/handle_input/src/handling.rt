@@ -27,7 +27,8 @@ use task_model::{Act, Cont, Delay, OutOfMemory, Purse, Stop, Tree, Turn, Value};
 use task_tree::value;
 
 /// Handles an act at the place that a path leads to: the tree that it leads to, or none where it is lacking. What doesn't lie on
-/// the path is shared with the tree that was.
+/// the path is shared with the tree that was. (It is called once for each node of a path, so what forms other than pairs need stands in functions that
+/// aren't put into it.)
 #[cycle(handled)]
 pub(crate) fn handled(
     engine: &Engine,
@@ -47,13 +48,10 @@ pub(crate) fn handled(
         (option_map (state_in store.new)) purse.old purse.new result }
 {
     match t {
-        Tree::Edit(b, _) => Ok(edited(b, path, act)?),
-        Tree::Enter(b) => Ok(edited(b, path, act)?),
-        Tree::Share(b, place) => Ok(edited_place(b, *place, store, path, act)?),
-        Tree::Then(left, k) => {
-            let led = handled(engine, left, store, path, act, purse)?;
-            Ok(in_step(engine.alloc(), StepKind::Then, led, k)?)
-        }
+        Tree::Edit(b, _) => edited(b, path, act),
+        Tree::Enter(b) => edited(b, path, act),
+        Tree::Share(b, place) => edited_place(b, *place, store, path, act),
+        Tree::Then(left, k) => at_then(engine, left, k, store, path, act, purse),
         Tree::Next(left, k) => at_next(engine, left, k, store, path, act, purse),
         Tree::Fail => Ok(None),
         Tree::And(a, b) => at_pair(engine, PairKind::And, a, b, store, path, act, purse),
@@ -62,7 +60,34 @@ pub(crate) fn handled(
     }
 }
 
+// At an internal step: an act goes on in its left part.
+#[inline(never)]
+#[cycle(handled)]
+fn at_then(
+    engine: &Engine,
+    left: &Arc<Tree>,
+    k: &Cont,
+    store: &mut Store<Value>,
+    path: &[Turn],
+    act: &Act,
+    purse: &mut Purse,
+) -> Result<Option<Tree>, Stop>
+    requires accepted { IsAccepted (checked_term engine.now) }
+    requires fits { Fits (checked_term engine.now)
+        (at (trees.then_tree (tree_term (arc_value left.now)) (cont_term k.now)) (values_in store.old)) }
+    ensures held { IfOk result (λ o. IfSome o (λ t. IsHeldAct (act_term act.now))) }
+    ensures height { OnOk result (purse.new.height ≡ purse.old.height) }
+    ensures layers { store.new.layers ≡ store.old.layers }
+    ensures ran { RunsPlan (checked_term engine.now)
+        (model.handled (checked_term engine.now) (trees.then_tree (tree_term (arc_value left.now)) (cont_term k.now)) (values_in store.old)
+        path.now (act_term act.now)) (option_map (state_in store.new)) purse.old purse.new result }
+{
+    let led = handled(engine, left, store, path, act, purse)?;
+    Ok(in_step(engine.alloc(), StepKind::Then, led, k)?)
+}
+
 // At a user step: where a Next act stops at a value, the step goes on.
+#[inline(never)]
 #[cycle(handled)]
 fn at_next(
     engine: &Engine,
@@ -149,6 +174,7 @@ fn at_pair(
 }
 
 // At an external choice.
+#[inline(never)]
 fn at_xor(
     engine: &Engine,
     left: &Delay,

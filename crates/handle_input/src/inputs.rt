@@ -14,7 +14,7 @@ ghost use Rattle.typing_laws.specs.Well.{Well};
 ghost use Rattle.task_engine.specs.Quiet.{FiresNothing};
 ghost use Rattle.kept_nodes.specs.Along.{DiffersAlong};
 ghost use Rattle.handle_input.specs.Answers.{plan_answer, told_tree, TellsOutcome};
-ghost use Rattle.handle_input.specs.Beside.{FiresNothingBeside};
+ghost use Rattle.handle_input.specs.Beside.{FiresNothingBeside, HasAsMany};
 
 use crate::ending::ended;
 use crate::handling::handled;
@@ -52,7 +52,7 @@ pub fn handle(
 
 /// Handles an input and settles the state that it leads to, with a purse of so many units and the full height. `Ok` has the tree,
 /// over the values that the store has then. A refusal leaves the values as they were. Where it is known that nothing fires in the tree (`quiet`), and
-/// the input writes nothing, no more than what stands along the input's path is looked at for what fires.
+/// the input adds no place, no more than what stands along the input's path is looked at for what fires.
 pub fn interact(
     engine: &Engine,
     t: &Tree,
@@ -113,26 +113,25 @@ fn interacted(
     }
 }
 
-// The path of an input to a tree in which nothing fires, where nothing was written since the newest layer began: beside it nothing fires then.
+// The path of an input to a tree in which nothing fires, where no place was added since the newest layer began. Beside it nothing fires then,
+// whatever was written: whether a part has a value depends on how many places there are, and not on what they hold.
 fn path_alone<'a>(quiet: bool, turns: &'a [Turn], store: &Store<Value>) -> Option<&'a [Turn]>
     requires { 0 < length store.now.layers }
-    ensures { IfSome result
-        (λ path. (path.now ≡ turns.now) × (quiet ≡ true) × (slice_get store.now.layers 0 ≡ Some store.now.list)) }
+    ensures { IfSome result (λ path. (path.now ≡ turns.now) × (quiet ≡ true) × HasAsMany store.now) }
 {
-    if quiet && wrote_nothing(store) {
+    if quiet && added_no_place(store) {
         Some(turns)
     } else {
         None
     }
 }
 
-// Whether nothing was written since the newest layer began, and no place added.
-fn wrote_nothing(store: &Store<Value>) -> bool
+// Whether no place was added since the newest layer began.
+fn added_no_place(store: &Store<Value>) -> bool
     requires { 0 < length store.now.layers }
-    ensures { result ≡ true → slice_get store.now.layers 0 ≡ Some store.now.list }
+    ensures { result ≡ true → HasAsMany store.now }
 {
-    let changes = store.changes();
-    changes.overwritten.is_empty() && changes.count == store.as_slice().len() as u64
+    store.changes().count == store.as_slice().len() as u64
 }
 
 // The state settles. Where that takes one unit its one stride changes nothing.

@@ -14,10 +14,13 @@ use std::alloc::Global;
 use task_model::{Basic, OutOfMemory, Shape, Sign, Value, Widget};
 use terminal_view::{print_path, push_empty_editor, push_shape, push_valued_editor};
 
-// So many bytes more than its path has, where it stands twice, the HTML text of an editor seldom has, and that of a word never.
-const EDITOR: usize = 320;
+// A text is made with room for its path where that stands in it, and for so many bytes more: a line needs that seldom, the HTML text of an editor
+// seldom, and that of a node that is named by a word never.
+const LINE_ROOM: usize = 32;
 
-const WORD: usize = 16;
+const EDITOR_ROOM: usize = 320;
+
+const WORD_ROOM: usize = 16;
 
 /// The texts of a widget, with its path and its value's literal printed once for both.
 pub(crate) fn draw_texts(alloc: Global, w: &Widget) -> Result<Texts, OutOfMemory>
@@ -46,13 +49,20 @@ fn draw_shape(alloc: Global, path: &str, shape: &Shape) -> Result<Texts, OutOfMe
     }
 }
 
-// An empty text with room for a path twice, and for so many bytes more.
-fn roomy(alloc: Global, path: &str, more: usize) -> Result<String, OutOfMemory>
+// An empty line with room for a path.
+fn roomy_line(alloc: Global, path: &str) -> Result<String, OutOfMemory>
     ensures { IfOk result (λ text. string_bytes text ≡ []) }
 {
-    let mut text = String::new(alloc);
-    text.reserve(path.len().saturating_mul(2).saturating_add(more))?;
-    Ok(text)
+    let room = path.len().saturating_add(LINE_ROOM);
+    Ok(String::with_capacity(alloc, room)?)
+}
+
+// An empty HTML text with room for a path twice, and for so many bytes more.
+fn roomy_html(alloc: Global, path: &str, more: usize) -> Result<String, OutOfMemory>
+    ensures { IfOk result (λ text. string_bytes text ≡ []) }
+{
+    let room = path.len().saturating_mul(2).saturating_add(more);
+    Ok(String::with_capacity(alloc, room)?)
 }
 
 fn with_line(alloc: Global, path: &str, shape: &Shape, html: String) -> Result<Texts, OutOfMemory>
@@ -61,7 +71,7 @@ fn with_line(alloc: Global, path: &str, shape: &Shape, html: String) -> Result<T
       html = string_bytes html;
     }) }
 {
-    let mut line = String::new(alloc);
+    let mut line = roomy_line(alloc, path)?;
     push_shape(alloc, &mut line, path, shape)?;
     Ok(Texts { line, html })
 }
@@ -77,9 +87,9 @@ fn draw_valued(
 {
     let name = print_basic(alloc, b)?;
     let literal = print_value(alloc, v)?;
-    let mut line = String::new(alloc);
+    let mut line = roomy_line(alloc, path)?;
     push_valued_editor(&mut line, path, word, name.as_str(), literal.as_str())?;
-    let mut html = roomy(alloc, path, EDITOR)?;
+    let mut html = roomy_html(alloc, path, EDITOR_ROOM)?;
     push_editor(
         &mut html,
         path,
@@ -95,9 +105,9 @@ fn draw_empty(alloc: Global, path: &str, b: &Basic) -> Result<Texts, OutOfMemory
     ensures { IfOk result (λ texts. texts ≡ empty_fragment path.now (basic_term b.now)) }
 {
     let name = print_basic(alloc, b)?;
-    let mut line = String::new(alloc);
+    let mut line = roomy_line(alloc, path)?;
     push_empty_editor(&mut line, path, name.as_str())?;
-    let mut html = roomy(alloc, path, EDITOR)?;
+    let mut html = roomy_html(alloc, path, EDITOR_ROOM)?;
     push_editor(&mut html, path, "enter", b, name.as_str(), "")?;
     Ok(Texts { line, html })
 }
@@ -135,7 +145,7 @@ fn content<'a>(v: &'a Value, literal: &'a str) -> &'a str
 fn draw_word(alloc: Global, path: &str, word: &str) -> Result<String, OutOfMemory>
     ensures { IfOk result (λ html. string_bytes html ≡ model.paragraph (path.now ++ word.now)) }
 {
-    let mut html = roomy(alloc, path, WORD)?;
+    let mut html = roomy_html(alloc, path, WORD_ROOM)?;
     push_line(&mut html, path, word)?;
     Ok(html)
 }

@@ -1,10 +1,10 @@
 -- Parts and paths of a soak.
 use Rattle.std.proofs.Common.{◌≡◌, ℕ, zero, suc, ◌+◌, ◌-◌, ◌<◌, List, [], ◌∷◌, ◌++◌, replicate, sym, ap, ◌∙◌, arith, add-one, append_assoc}
+use Rattle.std.specs.Prelude.{slice_range}
+use Rattle.std.proofs.lemmas.List.{take_rest, drop-append-le, drop-replicate}
 use Rattle.task_model.specs.Terms.Text.{Text}
 use Rattle.task_model.specs.declared.input.Turn.{Turn}
 use Rattle.task_model.specs.declared.input.Turn.TheVariants.{First, Second}
-use Rattle.exact_reading.proofs.Sequences.{append_nil}
-use Rattle.exact_reading.proofs.Runs.{replicate_more}
 use Rattle.input_lines.specs.Soak.{soak_parts, soak_join, soak_part, soak_path}
 
 -- one part more
@@ -16,17 +16,19 @@ part_pushed j text before joined after join is same on last =
     ∙ append_assoc (text ++ soak_parts j) (soak_join j) (soak_part j) ∙ append_assoc text (soak_parts j) (soak_join j ++ soak_part j)
     ∙ ap (λ n. text ++ soak_parts n) (sym (add-one j))
 
--- one turn more
-pub turn_pushed : (n m : ℕ) (turns after : List Turn) → m ≡ suc n → turns ≡ replicate n First → after ≡ turns ++ (First ∷ [])
-    → after ≡ replicate m First
-turn_pushed n m turns after e is on = on ∙ ap (λ l. l ++ (First ∷ [])) is ∙ replicate_more n First [] ∙ append_nil (replicate (suc n) First)
-    ∙ ap (λ k. replicate k First) (sym e)
+-- ---- the path of a part: an end of 31 turns into first parts and one into a second, and for part 0 those 31
+abbrev turns_down : List Turn
+turns_down = replicate 31 First ++ (Second ∷ [])
 
-pub first_path : (part : ℕ) (turns : List Turn) → part ≡ 0 → turns ≡ replicate (31 - part) First → turns ≡ soak_path part
-first_path zero turns e is = is
-first_path (suc j) turns e is = absurd (omega (arith, e))
+pub first_path : (part : ℕ) (range : ℕ × ℕ) (turns : List Turn) → range ≡ (0, 31) → part ≡ 0
+    → turns ≡ slice_range turns_down range.0 range.1 → turns ≡ soak_path part
+first_path zero range turns e none is = is ∙ ap (λ (q : ℕ × ℕ). slice_range turns_down q.0 q.1) e
+first_path (suc j) range turns e none is = absurd (omega (arith, none))
 
-pub other_path : (part : ℕ) (turns after : List Turn) → 0 < part → turns ≡ replicate (31 - part) First → after ≡ turns ++ (Second ∷ [])
-    → after ≡ soak_path part
-other_path zero turns after some is on = absurd (omega (arith, some))
-other_path (suc j) turns after some is on = on ∙ ap (λ l. l ++ (Second ∷ [])) is
+pub other_path : (part : ℕ) (range : ℕ × ℕ) (turns : List Turn) → range ≡ (part, 32) → 0 < part → part < 32
+    → turns ≡ slice_range turns_down range.0 range.1 → turns ≡ soak_path part
+other_path zero range turns e some few is = absurd (omega (arith, some))
+other_path (suc j) range turns e some few is =
+    is ∙ ap (λ (q : ℕ × ℕ). slice_range turns_down q.0 q.1) e ∙ take_rest turns_down (suc j)
+    ∙ drop-append-le (suc j) (replicate 31 First) (Second ∷ []) (omega (arith, few))
+    ∙ ap (λ l. l ++ (Second ∷ [])) (drop-replicate (suc j) 31 First)

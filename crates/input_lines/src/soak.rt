@@ -95,13 +95,10 @@ fn path(alloc: Global, part: usize) -> Result<Path, OutOfMemory>
     requires { part < 32 }
     ensures { IfOk result (λ p. p.turns ≡ soak_path part) }
 {
-    let mut turns = Turns::new(alloc);
-    for _ in part..31 {
-        turns.push(Turn::First)?;
-    }
-    if part > 0 {
-        turns.push(Turn::Second)?;
-    }
+    let mut turns = [Turn::First; 32];
+    turns[31] = Turn::Second;
+    let (from, to) = if part == 0 { (0, 31) } else { (part, 32) };
+    let turns = Turns::of(alloc, &turns[from..to])?;
     Ok(Path { turns })
 }
 

@@ -22,7 +22,7 @@ set_long [] p v = refl
 set_long (y ∷ ys) zero v = refl
 set_long (y ∷ ys) (suc p) v = ap suc (set_long ys p v)
 
-rewound_long : (ws : List (Overwritten Value)) (xs : List Value) → length (rewound ws xs) ≡ length xs
+pub rewound_long : (ws : List (Overwritten Value)) (xs : List Value) → length (rewound ws xs) ≡ length xs
 rewound_long [] xs = refl
 rewound_long (w ∷ ws) xs = set_long (rewound ws xs) w.place w.value ∙ rewound_long ws xs
 
@@ -38,20 +38,21 @@ set_apart (y ∷ ys) zero (suc n) v e = refl
 set_apart (y ∷ ys) (suc p) zero v e = refl
 set_apart (y ∷ ys) (suc p) (suc n) v e = set_apart ys p n v (λ q. e (ap suc q))
 
+-- a place where there is no value
+pub past_end : {X : Type 0} (xs : List X) (p : ℕ) → slice_get xs p ≡ None → length xs ≤ p
+past_end [] p e = omega arith
+past_end (x ∷ xs) zero e = absurd cc
+past_end (x ∷ xs) (suc p) e = let le = past_end xs p e in omega (arith, le)
+
 -- the value that was put back at its place, where there is that place
 put_back : (ys xs : List Value) (p : ℕ) (v : Value) (o : Option Value) → length ys ≡ length xs → slice_get xs p ≡ o → IsEqual o v
     → SameAt (slice_set ys p v) xs p
 put_back ys xs p v None long e h =
-    let past : length xs ≤ p = no_value xs p e in
+    let past : length xs ≤ p = past_end xs p e in
     let l = set_long ys p v in
     slice_get-map value_term (slice_set ys p v) p
     ∙ ap (option_map value_term) (slice_get_past (slice_set ys p v) p (omega (arith, past, l, long)) ∙ sym e)
     ∙ sym (slice_get-map value_term xs p)
-  where
-    no_value : (xs : List Value) (p : ℕ) → slice_get xs p ≡ None → length xs ≤ p
-    no_value [] p e = omega arith
-    no_value (x ∷ xs) zero e = absurd (cc)
-    no_value (x ∷ xs) (suc p) e = let le = no_value xs p e in omega (arith, le)
 put_back ys xs p v (Some u) long e h =
     let lt = slice_get_within xs p u e in
     slice_get-map value_term (slice_set ys p v) p

@@ -35,7 +35,7 @@ fn push_turn(text: &mut String, turn: Turn) -> Result<(), OutOfMemory>
     ensures { OnOk result (string_bytes text.new ≡ string_bytes text.old ++ model.turns_text (turn ∷ [])) }
 {
     match turn {
-        Turn::First => push(text, "F"),
-        Turn::Second => push(text, "S"),
+        Turn::First => Ok(text.push('F')?),
+        Turn::Second => Ok(text.push('S')?),
     }
 }

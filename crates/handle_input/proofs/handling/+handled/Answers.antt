@@ -13,57 +13,46 @@ use Rattle.handle_input.specs.Editing.{value_put, edited_tree}
 use Rattle.task_evaluation.specs.Kinds.{pair_tree}
 use Rattle.task_engine.proofs.FittingLemmas.{step_fits}
 use Rattle.handle_input.proofs.FitLemmas.{fits_is, fits_pair_first, fits_pair_second, share_within}
-use Rattle.handle_input.proofs.HandledLemmas.{editor_is, place_is, ran_made_option, ran_rebuilt, held_rebuilt, stopped_value, pair_first, pair_second, pair_ends}
+use Rattle.handle_input.proofs.HandledLemmas.{editor_is, place_is, ran_made, ran_edited, ran_rebuilt, held_rebuilt, stopped_value, pair_first, pair_second, pair_ends}
 use Rattle.handle_input.proofs.handling.+handled.Goals as goal
 
 -- ---- editors
-pub handled-returns-in_ok-edited-in-Edit-clause-ran : goal.handled-returns-in_ok-edited-in-Edit-clause-ran
-handled-returns-in_ok-edited-in-Edit-clause-ran t c =
+pub handled-returns-in-Edit-clause-ran : goal.handled-returns-in-Edit-clause-ran
+handled-returns-in-Edit-clause-ran t c =
     let σ = map value_term c.args.store.now.list in
     let path = c.args.path.now in
     let act = act_term c.args.act.now in
     let b = basic_term c.in-Edit.b in
-    rw c.in-Edit.is (ran_is (editor_is b σ path act) (ran_made_option (edited_tree b (value_put b path act)) σ
-    c.in_ok-edited-in-Edit.ensures.edited))
+    rw c.in-Edit.is (ran_is (editor_is b σ path act) (ran_edited (edited_tree b (value_put b path act)) σ c.edited.result
+    c.edited.ensures.edited c.edited.ensures.memory))
 
-pub handled-returns-in_ok-edited-in-Enter-clause-ran : goal.handled-returns-in_ok-edited-in-Enter-clause-ran
-handled-returns-in_ok-edited-in-Enter-clause-ran t c =
+pub handled-returns-in-Enter-clause-ran : goal.handled-returns-in-Enter-clause-ran
+handled-returns-in-Enter-clause-ran t c =
     let σ = map value_term c.args.store.now.list in
     let path = c.args.path.now in
     let act = act_term c.args.act.now in
     let b = basic_term c.in-Enter.b in
-    rw c.in-Enter.is (ran_is (editor_is b σ path act) (ran_made_option (edited_tree b (value_put b path act)) σ
-    c.in_ok-edited-in-Enter.ensures.edited))
+    rw c.in-Enter.is (ran_is (editor_is b σ path act) (ran_edited (edited_tree b (value_put b path act)) σ c.edited-in-Enter.result
+    c.edited-in-Enter.ensures.edited c.edited-in-Enter.ensures.memory))
 
 pub handled-edited_place-requires : goal.handled-edited_place-requires
 handled-edited_place-requires t c =
     record { within = share_within c.args.store.now.list (fits_is (ap tree_term c.in-Share.is) c.requires.fits) }
 
-pub handled-returns-in_ok-edited_place-in-Share-clause-ran : goal.handled-returns-in_ok-edited_place-in-Share-clause-ran
-handled-returns-in_ok-edited_place-in-Share-clause-ran t c =
+pub handled-returns-in-Share-clause-ran : goal.handled-returns-in-Share-clause-ran
+handled-returns-in-Share-clause-ran t c =
     let σ = map value_term c.args.store.now.list in
     let path = c.args.path.now in
     let act = act_term c.args.act.now in
     rw c.in-Share.is (ran_is (place_is (basic_term c.in-Share.b) c.in-Share.place σ path act)
-    (ran_give c.in_ok-edited_place-in-Share.ensures.written))
+    (ran_made c.edited_place.result c.edited_place.ensures.written c.edited_place.ensures.memory))
 
 pub handled-returns-in-Fail-clause-ran : goal.handled-returns-in-Fail-clause-ran
 handled-returns-in-Fail-clause-ran t c = rw c.in-Fail.is (ran_give refl)
 
 -- ---- nodes with parts
-pub handled-returns-in_err-led-in-Then-clause-ran : goal.handled-returns-in_err-led-in-Then-clause-ran
-handled-returns-in_err-led-in-Then-clause-ran t c =
-    rw (stopped _ c.in_err-led-in-Then.field-0.0 c.from_residual-in_err-led-in-Then.ensures.1, c.in-Then.is, ← c.deref.ensures)
-    (ran_after_stops _ c.in_err-led-in-Then.ensures.ran)
-
-pub handled-returns-in_ok-in_step-in-Then-clause-ran : goal.handled-returns-in_ok-in_step-in-Then-clause-ran
-handled-returns-in_ok-in_step-in-Then-clause-ran t c =
-    rw (c.in-Then.is, ← c.deref.ensures) (ran_after _ c.in_ok-led-in-Then.ensures.ran
-    (ran_rebuilt (λ (u : TreeTerm). then_tree u (cont_term c.in-Then.k)) _ c.in_ok-led-in-Then.led c.in_ok-in_step-in-Then.ensures))
-
-pub handled-returns-in_ok-in_step-in-Then-clause-held : goal.handled-returns-in_ok-in_step-in-Then-clause-held
-handled-returns-in_ok-in_step-in-Then-clause-held t c =
-    held_rebuilt _ _ c.in_ok-led-in-Then.led _ c.in_ok-in_step-in-Then.ensures c.in_ok-led-in-Then.ensures.held
+pub handled-returns-in-Then-clause-ran : goal.handled-returns-in-Then-clause-ran
+handled-returns-in-Then-clause-ran t c = rw c.in-Then.is c.at_then.ensures.ran
 
 pub handled-returns-in-Next-clause-ran : goal.handled-returns-in-Next-clause-ran
 handled-returns-in-Next-clause-ran t c = rw c.in-Next.is c.at_next.ensures.ran
@@ -75,8 +64,21 @@ handled-at_xor-requires t c =
 pub handled-returns-in-Xor-clause-ran : goal.handled-returns-in-Xor-clause-ran
 handled-returns-in-Xor-clause-ran t c = rw c.in-Xor.is c.at_xor.ensures.ran
 
--- ---- user steps
+-- ---- internal steps
+pub at_then-returns-in_err-led-clause-ran : goal.at_then-returns-in_err-led-clause-ran
+at_then-returns-in_err-led-clause-ran t c =
+    rw (stopped _ c.in_err-led.field-0.0 c.from_residual.ensures.1, ← c.deref.ensures) (ran_after_stops _ c.in_err-led.ensures.ran)
 
+pub at_then-returns-clause-ran : goal.at_then-returns-clause-ran
+at_then-returns-clause-ran t c =
+    rw (← c.deref.ensures) (ran_after _ c.in_ok-led.ensures.ran
+    (ran_rebuilt (λ (u : TreeTerm). then_tree u (cont_term c.args.k.now)) _ c.in_ok-led.led c.in_ok-in_step.ensures))
+
+pub at_then-returns-clause-held : goal.at_then-returns-clause-held
+at_then-returns-clause-held t c =
+    held_rebuilt _ _ c.in_ok-led.led _ c.in_ok-in_step.ensures c.in_ok-led.ensures.held
+
+-- ---- user steps
 pub at_next-stepped-requires-clause-fits : goal.at_next-stepped-requires-clause-fits
 at_next-stepped-requires-clause-fits t c =
     let value = rw (c.in-Some.is, c.deref.ensures) at c.in_ok-stopped.ensures.value in

@@ -6,6 +6,9 @@ use Rattle.handle_input.proofs.handling.+handled.Given as goal
 abbrev pub decreases-handled : goal.decreases-handled
 decreases-handled l = 2 * size-Tree l.t.now
 
+abbrev pub decreases-at_then : goal.decreases-at_then
+decreases-at_then l = 2 * size-Tree (arc_value l.left.now) + 1
+
 abbrev pub decreases-at_next : goal.decreases-at_next
 decreases-at_next l = 2 * size-Tree (arc_value l.left.now) + 1
 

@@ -42,8 +42,8 @@ settled-requires-clause-beside c =
     (map value_term c.handled.new.store.list) i {X = Option Tree} view c.args.purse.now c.handled.new.purse {x = Some c.in-Some.u} refl
     (ran_spends ran) in
     beside_told (λ x. x.now) c.path_alone-beside.result i.path c.as_slice-turns.result.now old led c.args.store.now.list
-    c.handled.new.store.list c.args.store.now.layers c.handled.new.store.layers c.args.quiet c.as_slice-turns.ensures
-    c.in_ok-led.ensures.layers c.requires.begun c.requires.quiet differs c.path_alone-beside.ensures
+    c.args.store.now.layers c.handled.new.store c.args.quiet c.as_slice-turns.ensures c.in_ok-led.ensures.layers c.requires.begun
+    c.requires.quiet differs c.path_alone-beside.ensures
 
 pub returns-in-Some-clause-ran : goal.returns-in-Some-clause-ran
 returns-in-Some-clause-ran c = ran_after settled (rw c.as_slice-turns.ensures at c.in_ok-led.ensures.ran)
