@@ -15,7 +15,7 @@ mod page;
 mod texts;
 
 pub use escaping::escape;
-pub use fragment::{Fragment, draw_node};
+pub use fragment::{Fragment, draw_at, draw_node};
 pub use fragments::Fragments;
 pub use framing::{frame, frame_behind_room};
 pub use headed::Headed;

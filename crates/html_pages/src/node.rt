@@ -2,17 +2,17 @@ ghost use Rattle.std.specs.Prelude.{◌≡◌, ◌++◌, [], codes, IfOk, string
 ghost use Rattle.task_model.specs.Terms.Basic.{basic_term, text_type};
 ghost use Rattle.task_model.specs.Terms.Value.{value_term};
 ghost use Rattle.task_model.specs.Syntax.Literal.{value_text};
-ghost use Rattle.task_model.specs.Showing.Widget.{shape_term, widget_term};
+ghost use Rattle.task_model.specs.Showing.Widget.{shape_term};
 ghost use Rattle.task_model.specs.Showing.Page.{shape_text};
 ghost use Rattle.task_model.specs.Showing.Html as model;
-ghost use Rattle.html_pages.specs.Fragments.{empty_fragment, fragment_of, shape_at, valued_fragment};
+ghost use Rattle.html_pages.specs.Fragments.{empty_fragment, shape_at, valued_fragment};
 
 use crate::forms::{push_editor, push_line, push_sign};
 use crate::texts::Texts;
 use literal_text::{print_basic, print_value};
 use std::alloc::Global;
-use task_model::{Basic, OutOfMemory, Shape, Sign, Value, Widget};
-use terminal_view::{print_path, push_empty_editor, push_shape, push_valued_editor};
+use task_model::{Basic, OutOfMemory, Shape, Sign, Value};
+use terminal_view::{push_empty_editor, push_shape, push_valued_editor};
 
 // A text is made with room for its path where that stands in it, and for so many bytes more: a line needs that seldom, the HTML text of an editor
 // seldom, and that of a node that is named by a word never.
@@ -22,16 +22,8 @@ const EDITOR_ROOM: usize = 320;
 
 const WORD_ROOM: usize = 16;
 
-/// The texts of a widget, with its path and its value's literal printed once for both.
-pub(crate) fn draw_texts(alloc: Global, w: &Widget) -> Result<Texts, OutOfMemory>
-    ensures { IfOk result (λ texts. texts ≡ fragment_of (widget_term w.now)) }
-{
-    let path = print_path(alloc, w.path.turns.as_slice())?;
-    draw_shape(alloc, path.as_str(), &w.shape)
-}
-
-// The texts of what is shown at a path.
-fn draw_shape(alloc: Global, path: &str, shape: &Shape) -> Result<Texts, OutOfMemory>
+/// The texts of what is shown at a path, which is given as it is printed. A value's literal is printed once for both.
+pub(crate) fn draw_texts(alloc: Global, path: &str, shape: &Shape) -> Result<Texts, OutOfMemory>
     ensures { IfOk result (λ texts. texts ≡ shape_at path.now (shape_term shape.now)) }
 {
     match shape {

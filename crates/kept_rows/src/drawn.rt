@@ -14,13 +14,13 @@ use shared_store::Store;
 use std::alloc::Global;
 use std::sync::ledger::Ledger;
 use task_evaluation::Engine;
-use task_model::{OutOfMemory, Shape, Steps, Tree, Value, Widget};
-use task_tree::Trail;
+use task_model::{OutOfMemory, Shape, Steps, Tree, Value};
+use terminal_view::PrintedTrail;
 
 /// Where a walk through a tree is, and the rows of the nodes that it has met.
 #[derive(Drop)]
 pub(crate) struct Drawn {
-    pub(crate) trail: Trail,
+    pub(crate) trail: PrintedTrail,
     pub(crate) rows: NodeRows,
 }
 
@@ -33,7 +33,7 @@ impl Drawn {
         let mut rows = NodeRows::new(alloc);
         rows.reserve(count)?;
         Ok(Drawn {
-            trail: Trail::new(alloc),
+            trail: PrintedTrail::new(alloc)?,
             rows,
         })
     }
@@ -70,8 +70,7 @@ impl Drawn {
             (here (shape_term shape))))) }
         ensures steps { OnOk result (steps.new ≡ steps.old + 1) }
     {
-        let path = self.trail.path()?;
-        self.rows.draw(alloc, &Widget { path, shape }, steps)
+        self.rows.draw(alloc, self.trail.as_str(), &shape, steps)
     }
 
     /// Takes over the rows of the part whose first one has this number, and answers the number behind them: nothing is tested and nothing drawn.

@@ -1,12 +1,13 @@
 -- The rows of a tree: what is observed of each of its nodes.
 use Rattle.std.specs.Prelude.{◌≡◌, ℕ, ◌-◌, List, [], ◌∷◌, ◌++◌, length, map, take, drop, slice_set}
+use Rattle.task_model.specs.Terms.Text.{Text}
 use Rattle.task_model.specs.Terms.Value.{ValueTerm}
 use Rattle.task_model.specs.Terms.Tree.{TreeTerm}
 use Rattle.task_model.specs.Running.Checked.{CheckedTerm}
 use Rattle.task_model.specs.Showing.Widget.{ShapeTerm, step_shape, pick_shape, WidgetTerm, AreWidgets}
 use Rattle.task_model.specs.declared.widget.Sign.{Sign}
 use Rattle.task_model.specs.declared.widget.Sign.TheVariants as signs
-use Rattle.html_pages.specs.Fragments.{FragmentTerm, fragment_of}
+use Rattle.html_pages.specs.Fragments.{FragmentTerm, fragment_of, shape_at}
 use Rattle.node_rows.specs.TreeNodes.{sizes_of}
 use Rattle.node_rows.specs.declared.signs.Signs.{Signs}
 use Rattle.node_rows.specs.declared.signs.Signs.TheVariants as signed
@@ -51,6 +52,10 @@ rows_of t ws = rows_sized (sizes_of t) ws
 -- the row of one widget, whose node has no parts as yet
 abbrev pub row_of : WidgetTerm → RowsTerm
 row_of w = rows_sized (1 ∷ []) (w ∷ [])
+
+-- the same by its path as it is printed, and what is shown there
+abbrev pub row_at : Text → ShapeTerm → RowsTerm
+row_at path shape = record { signs = signs_of shape ∷ []; sizes = 1 ∷ []; fragments = shape_at path shape ∷ [] }
 
 -- no rows
 abbrev pub no_rows : RowsTerm

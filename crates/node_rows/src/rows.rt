@@ -1,15 +1,15 @@
 ghost use Rattle.std.specs.Prelude.{◌≡◌, ◌+◌, ◌<◌, ◌≤◌, [], ◌∷◌, ◌++◌, length, slice_index, OnOk};
-ghost use Rattle.task_model.specs.Showing.Widget.{widget_term};
+ghost use Rattle.task_model.specs.Showing.Widget.{shape_term, widget_term};
 ghost use Rattle.html_pages.specs.Fragments.{fragment_of};
-ghost use Rattle.node_rows.specs.Rows.{no_rows, row_of, rows_append, rows_closed, rows_part, rows_sized, widget_signs};
+ghost use Rattle.node_rows.specs.Rows.{no_rows, row_at, rows_append, rows_closed, rows_part, rows_sized, widget_signs};
 
 use crate::signs::Signs;
 use crate::sizes::close;
-use html_pages::{Fragments, draw_node};
+use html_pages::{Fragment, Fragments, draw_at, draw_node};
 use std::alloc::Global;
 use std::marker::Model;
 use std::sync::ledger::Ledger;
-use task_model::{OutOfMemory, Steps, Widget};
+use task_model::{OutOfMemory, Shape, Steps, Widget};
 
 /// Rows of nodes, in pre-order. Contracts see the list of the signs, that of the sizes and that of the fragments.
 #[derive(Drop)]
@@ -69,22 +69,34 @@ impl NodeRows {
         ensures steps { steps.new ≡ steps.old + 1 }
     {
         let fragment = draw_node(alloc, widget, steps)?;
+        self.put(fragment, Signs::of(&widget.shape))
+    }
+
+    // Puts the signs and the fragment of a node behind the others.
+    fn put(&mut self, fragment: Fragment, signs: Signs) -> Result<(), OutOfMemory>
+        ensures signs { OnOk result (self.new.signs ≡ self.old.signs ++ signs ∷ []) }
+        ensures sizes { self.new.sizes ≡ self.old.sizes }
+        ensures fragments { OnOk result (self.new.fragments ≡ self.old.fragments ++ fragment ∷ []) }
+    {
         self.fragments.push(fragment)?;
-        self.signs.push(Signs::of(&widget.shape))?;
+        self.signs.push(signs)?;
         Ok(())
     }
 
-    /// Draws a widget, and puts its row behind the others: its node has no parts as yet. It counts one step.
+    /// Draws the widget of a shape at a path, which is given as it is printed, and puts its row behind the others: its node has no parts as yet.
+    /// It counts one step.
     pub fn draw<L: Ledger>(
         &mut self,
         alloc: Global,
-        widget: &Widget,
+        path: &str,
+        shape: &Shape,
         steps: &mut Steps<L>,
     ) -> Result<(), OutOfMemory>
-        ensures row { OnOk result (self.new ≡ rows_append self.old (row_of (widget_term widget.now))) }
+        ensures row { OnOk result (self.new ≡ rows_append self.old (row_at path.now (shape_term shape.now))) }
         ensures steps { steps.new ≡ steps.old + 1 }
     {
-        self.show(alloc, widget, steps)?;
+        let fragment = draw_at(alloc, path, shape, steps)?;
+        self.put(fragment, Signs::of(shape))?;
         self.sizes.push(1)?;
         Ok(())
     }

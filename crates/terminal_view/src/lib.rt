@@ -3,8 +3,10 @@
 
 mod line;
 mod page;
+mod printed_trail;
 mod writing;
 
 pub use line::{draw_line, push_empty_editor, push_shape, push_valued_editor};
 pub use page::{draw_terminal, push_head};
+pub use printed_trail::PrintedTrail;
 pub use writing::{print_path, push};

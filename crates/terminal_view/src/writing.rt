@@ -1,4 +1,4 @@
-ghost use Rattle.std.specs.Prelude.{◌≡◌, ◌++◌, ◌∷◌, [], IfOk, OnOk, string_bytes};
+ghost use Rattle.std.specs.Prelude.{◌≡◌, ◌++◌, ◌∷◌, [], IfOk, OnErr, OnOk, string_bytes};
 ghost use Rattle.task_model.specs.Showing.Page as model;
 
 use std::alloc::Global;
@@ -31,8 +31,10 @@ fn push_path(text: &mut String, path: &[Turn]) -> Result<(), OutOfMemory>
     Ok(())
 }
 
-fn push_turn(text: &mut String, turn: Turn) -> Result<(), OutOfMemory>
-    ensures { OnOk result (string_bytes text.new ≡ string_bytes text.old ++ model.turns_text (turn ∷ [])) }
+/// The letter of a turn behind the text. A refusal changes nothing.
+pub(crate) fn push_turn(text: &mut String, turn: Turn) -> Result<(), OutOfMemory>
+    ensures ok { OnOk result (string_bytes text.new ≡ string_bytes text.old ++ model.turns_text (turn ∷ [])) }
+    ensures err { OnErr result (string_bytes text.new ≡ string_bytes text.old) }
 {
     match turn {
         Turn::First => Ok(text.push('F')?),
