@@ -1,5 +1,5 @@
 -- What fits where an input goes on.
-use Rattle.std.proofs.Common.{◌≡◌, ℕ, suc, ◌<◌, List, [], ◌∷◌, ◌++◌, length, map, Option, Ok, refl, ap, subst, arith}
+use Rattle.std.proofs.Common.{◌≡◌, ℕ, ◌<◌, List, [], ◌∷◌, ◌++◌, length, map, Option, Ok, subst, arith}
 use Rattle.std.proofs.lemmas.List.{length-map}
 use Rattle.std.proofs.lemmas.Option.{slice_get_within}
 use Rattle.task_model.specs.Terms.Left.{Left}
@@ -12,7 +12,7 @@ use Rattle.task_model.specs.Running.Checked.{CheckedTerm}
 use Rattle.task_model.specs.Running.Handling.{unless_failing, handles, settled, interacts}
 use Rattle.task_model.specs.Syntax.Calls.{RunsPlan}
 use Rattle.task_model.specs.Checking.Accepted.{IsAccepted}
-use Rattle.task_model.specs.Checking.Fits.{StoreHas, Fits}
+use Rattle.task_model.specs.Checking.Fits.{Fits}
 use Rattle.task_model.specs.declared.value.Value.{Value}
 use Rattle.typing_laws.specs.Assumed.{Assumed, Guaranteed}
 use Rattle.typing_laws.specs.Well.{Well}

@@ -1,15 +1,17 @@
 -- How the plan of an input comes together.
-use Rattle.std.proofs.Common.{◌≡◌, ◌≤◌, ◌-◌, ℕ, Bool, true, false, List, [], ◌∷◌, length, take, drop, Option, Some, None, Result, Ok, Err, cond, refl, sym, ap, ◌∙◌, arith}
+use Rattle.std.proofs.Common.{◌≡◌, ◌≤◌, ℕ, Bool, true, false, List, [], ◌∷◌, length, Option, Some, None, Result, Ok, Err, cond, refl, sym, ap, ◌∙◌, subst, arith}
+use Rattle.std.specs.Arc.{arc_value}
+use Rattle.std.specs.declared.sync.Arc.{Arc}
 use Rattle.std.specs.Option.{option_map}
 use Rattle.std.specs.Prelude.{slice_set, get_or, IfErr, IfOk, IfSome}
 use Rattle.task_model.specs.Terms.Left.{Left}
 use Rattle.task_model.specs.Terms.Basic.{BasicTerm}
 use Rattle.task_model.specs.Terms.Value.{ValueTerm, value_has}
-use Rattle.task_model.specs.Terms.Tree.{TreeTerm, edit_tree, share_tree, and_tree, or_tree, tree_term, at}
+use Rattle.task_model.specs.Terms.Tree.{TreeTerm, edit_tree, share_tree, and_tree, or_tree, tree_term, State, at}
 use Rattle.task_model.specs.Terms.Input.{ActTerm, set_act, next_act}
 use Rattle.task_model.specs.Running.Handling.{if_typed, at_editor, rebuilt, rebuilds, stopped, handled}
 use Rattle.task_model.specs.Running.Checked.{CheckedTerm}
-use Rattle.task_model.specs.Running.Plan.{Judgement, Derived, give, Derives}
+use Rattle.task_model.specs.Running.Plan.{Judgement, Derived, Plan, give, plan_work, derives_at, Derives}
 use Rattle.task_model.specs.Running.Rules.{rule_of}
 use Rattle.task_model.specs.Running.Spends.{Spends}
 use Rattle.task_model.specs.Syntax.Calls.{RunsJudgement, RunsPlan}
@@ -21,7 +23,7 @@ use Rattle.task_model.specs.declared.input.Turn.TheVariants as turns
 use Rattle.task_laws.proofs.PlanLemmas.{under_at, low_derives}
 use Rattle.task_laws.proofs.RanLemmas.{ran_give, ran_memory}
 use Rattle.host_eval.proofs.ListLemmas.{in_front}
-use Rattle.host_eval.proofs.RunLemmas.{ran_is, tail_of}
+use Rattle.host_eval.proofs.RunLemmas.{tail_of}
 use Rattle.task_evaluation.specs.Kinds.{pair_tree}
 use Rattle.task_evaluation.specs.declared.kinds.PairKind.{PairKind}
 use Rattle.task_evaluation.specs.declared.kinds.PairKind.TheVariants as pairs
@@ -86,18 +88,45 @@ pub place_is : (b : BasicTerm) (n : ℕ) (σ : List ValueTerm) (path : List Turn
 place_is b n σ [] (set_act v) = typed_state b n σ v (value_has v b)
 place_is b n σ path act = refl
 
--- ---- wholes
-rebuilt_is : (f : TreeTerm → TreeTerm) (σ : List ValueTerm) (led : Option tree.Tree) → rebuilt f (option_map (λ u. at (tree_term u) σ) led)
-    ≡ option_map (λ u. at u σ) (option_map (λ t. f (tree_term t)) led)
-rebuilt_is f σ None = refl
-rebuilt_is f σ (Some t) = refl
+-- the tree that stands behind a count of its owners
+abbrev pub held_tree : {A : Type 0} → Arc tree.Tree A → TreeTerm
+held_tree u = tree_term (arc_value u)
 
--- a part that an input led to, in its whole
-pub ran_rebuilt : {c : CheckedTerm} (f : TreeTerm → TreeTerm) (σ : List ValueTerm) (led : Option tree.Tree) {old : Left}
-    {o : Option tree.Tree}
-    → option_map tree_term o ≡ option_map (λ t. f (tree_term t)) led
-    → RunsPlan c (give (rebuilt f (option_map (λ u. at (tree_term u) σ) led))) (option_map (λ u. at (tree_term u) σ)) old old (Ok o)
-ran_rebuilt f σ led e = ran_is (ap give (rebuilt_is f σ led)) (ran_made_option _ σ e)
+-- ---- wholes
+module _ {X Y : Type 0} (v : X → TreeTerm) (w : Y → TreeTerm) where
+  seen_over : (σ : List ValueTerm) (o : Option Y) → option_map (λ u. at (w u) σ) o ≡ option_map (λ u. at u σ) (option_map w o)
+  seen_over σ None = refl
+  seen_over σ (Some u) = refl
+
+  rebuilt_is : (f : TreeTerm → TreeTerm) (σ : List ValueTerm) (led : Option X) → rebuilt f (option_map (λ u. at (v u) σ) led)
+      ≡ option_map (λ u. at u σ) (option_map (λ t. f (v t)) led)
+  rebuilt_is f σ None = refl
+  rebuilt_is f σ (Some t) = refl
+
+  -- a part that an input led to, in its whole
+  pub ran_rebuilt : {c : CheckedTerm} (f : TreeTerm → TreeTerm) (σ : List ValueTerm) (led : Option X) {old : Left} {o : Option Y}
+      → option_map w o ≡ option_map (λ t. f (v t)) led
+      → RunsPlan c (give (rebuilt f (option_map (λ u. at (v u) σ) led))) (option_map (λ u. at (w u) σ)) old old (Ok o)
+  ran_rebuilt f σ led {o = o} e = ran_give (seen_over σ o ∙ ap (option_map (λ u. at u σ)) e ∙ sym (rebuilt_is f σ led))
+
+-- the same that was led to, held otherwise
+module _ {X Y : Type 0} (v : X → TreeTerm) (w : Y → TreeTerm) where
+  same_over : (σ : List ValueTerm) (x : Option X) (y : Option Y) → option_map w y ≡ option_map v x
+      → option_map (λ u. at (v u) σ) x ≡ option_map (λ u. at (w u) σ) y
+  same_over σ x y e = seen_over w v σ x ∙ ap (option_map (λ u. at u σ)) (sym e) ∙ sym (seen_over v w σ y)
+
+  pub ran_moved : {c : CheckedTerm} {p : Plan (Option State)} (σ : List ValueTerm) {old new : Left} (x : Option X) (y : Option Y)
+      → option_map w y ≡ option_map v x → RunsPlan c p (option_map (λ u. at (v u) σ)) old new (Ok x)
+      → RunsPlan c p (option_map (λ u. at (w u) σ)) old new (Ok y)
+  ran_moved {c = c} {p = p} σ {old = old} {new = new} x y e a = record {
+    runs = (
+      a.runs.0,
+      a.runs.1,
+      subst (λ s. plan_work (derives_at (rule_of c) old.height) p s a.runs.0 a.runs.1) (same_over σ x y e) a.runs.2,
+      a.runs.3,
+      a.runs.4,
+    );
+  }
 
 -- ---- the parts of a node that has two
 -- a path by its first turn
@@ -125,11 +154,11 @@ module _ (c : CheckedTerm) (t u : TreeTerm) (σ : List ValueTerm) (path : List T
 -- ---- what is held
 module _ (P : Type 0) where
   -- what holds where an input led to a part holds where it led to the whole
-  pub held_rebuilt : (f : tree.Tree → TreeTerm) (led o : Option tree.Tree) → option_map tree_term o ≡ option_map f led
+  pub held_rebuilt : {X Y : Type 0} (f : X → TreeTerm) (w : Y → TreeTerm) (led : Option X) (o : Option Y) → option_map w o ≡ option_map f led
       → IfSome led (λ t. P) → IfSome o (λ t. P)
-  held_rebuilt f led None e h = tt
-  held_rebuilt f None (Some t) e h = absurd cc
-  held_rebuilt f (Some u) (Some t) e h = h
+  held_rebuilt f w led None e h = tt
+  held_rebuilt f w None (Some t) e h = absurd cc
+  held_rebuilt f w (Some u) (Some t) e h = h
 
 -- where a Next act stops at a value, the left part has it
 pub stopped_value : (path : List Turn) (act : ActTerm) (o : Option ValueTerm) (v : ValueTerm) → stopped path act o ≡ Some v → o ≡ Some v

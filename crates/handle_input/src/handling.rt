@@ -19,7 +19,7 @@ ghost use Rattle.handle_input.specs.Editing.{picked_side};
 
 use crate::bodies::{side_taken, stepped};
 use crate::editing::{edited, edited_place};
-use crate::rebuilding::{in_first, in_second, in_step};
+use crate::rebuilding::{in_first, in_memory, in_second, in_step};
 use shared_store::Store;
 use std::sync::Arc;
 use task_evaluation::{Engine, PairKind, StepKind};
@@ -27,8 +27,7 @@ use task_model::{Act, Cont, Delay, OutOfMemory, Purse, Stop, Tree, Turn, Value};
 use task_tree::value;
 
 /// Handles an act at the place that a path leads to: the tree that it leads to, or none where it is lacking. What doesn't lie on
-/// the path is shared with the tree that was. (It is called once for each node of a path, so what forms other than pairs need stands in functions that
-/// aren't put into it.)
+/// the path is shared with the tree that was.
 #[cycle(handled)]
 pub(crate) fn handled(
     engine: &Engine,
@@ -60,6 +59,75 @@ pub(crate) fn handled(
     }
 }
 
+// The same at a part of a tree, which is led to in memory of its own. On the way down a path this is called for each node: pairs go on by
+// themselves, so that no tree is moved.
+#[cycle(handled)]
+fn part_handled(
+    engine: &Engine,
+    t: &Arc<Tree>,
+    store: &mut Store<Value>,
+    path: &[Turn],
+    act: &Act,
+    purse: &mut Purse,
+) -> Result<Option<Arc<Tree>>, Stop>
+    requires accepted { IsAccepted (checked_term engine.now) }
+    requires fits { Fits (checked_term engine.now) (at (tree_term (arc_value t.now)) (values_in store.old)) }
+    ensures held { IfOk result (λ o. IfSome o (λ t. IsHeldAct (act_term act.now))) }
+    ensures height { OnOk result (purse.new.height ≡ purse.old.height) }
+    ensures layers { store.new.layers ≡ store.old.layers }
+    ensures ran { RunsPlan (checked_term engine.now)
+        (model.handled (checked_term engine.now) (tree_term (arc_value t.now)) (values_in store.old) path.now (act_term act.now))
+        (option_map (λ u. state_in store.new (arc_value u))) purse.old purse.new result }
+{
+    match &**t {
+        Tree::And(a, b) => pair_handled(engine, PairKind::And, a, b, store, path, act, purse),
+        Tree::Or(a, b) => pair_handled(engine, PairKind::Or, a, b, store, path, act, purse),
+        _ => {
+            let led = handled(engine, t, store, path, act, purse)?;
+            Ok(in_memory(engine.alloc(), led)?)
+        }
+    }
+}
+
+// Two parts of a kind that are a part themselves.
+#[cycle(handled)]
+fn pair_handled(
+    engine: &Engine,
+    kind: PairKind,
+    a: &Arc<Tree>,
+    b: &Arc<Tree>,
+    store: &mut Store<Value>,
+    path: &[Turn],
+    act: &Act,
+    purse: &mut Purse,
+) -> Result<Option<Arc<Tree>>, Stop>
+    requires accepted { IsAccepted (checked_term engine.now) }
+    requires fits { Fits (checked_term engine.now)
+        (at (kinds.pair_tree kind (tree_term (arc_value a.now)) (tree_term (arc_value b.now))) (values_in store.old)) }
+    ensures held { IfOk result (λ o. IfSome o (λ t. IsHeldAct (act_term act.now))) }
+    ensures height { OnOk result (purse.new.height ≡ purse.old.height) }
+    ensures layers { store.new.layers ≡ store.old.layers }
+    ensures ran { RunsPlan (checked_term engine.now)
+        (model.handled (checked_term engine.now) (kinds.pair_tree kind (tree_term (arc_value a.now)) (tree_term (arc_value b.now)))
+        (values_in store.old) path.now (act_term act.now)) (option_map (λ u. state_in store.new (arc_value u))) purse.old purse.new result }
+{
+    match path {
+        [] => Ok(None),
+        [turn, rest @ ..] => match turn {
+            Turn::First => {
+                let led = part_handled(engine, a, store, rest, act, purse)?;
+                let whole = in_first(kind, led, b)?;
+                Ok(in_memory(engine.alloc(), whole)?)
+            }
+            Turn::Second => {
+                let led = part_handled(engine, b, store, rest, act, purse)?;
+                let whole = in_second(kind, a, led)?;
+                Ok(in_memory(engine.alloc(), whole)?)
+            }
+        },
+    }
+}
+
 // At an internal step: an act goes on in its left part.
 #[inline(never)]
 #[cycle(handled)]
@@ -82,8 +150,8 @@ fn at_then(
         (model.handled (checked_term engine.now) (trees.then_tree (tree_term (arc_value left.now)) (cont_term k.now)) (values_in store.old)
         path.now (act_term act.now)) (option_map (state_in store.new)) purse.old purse.new result }
 {
-    let led = handled(engine, left, store, path, act, purse)?;
-    Ok(in_step(engine.alloc(), StepKind::Then, led, k)?)
+    let led = part_handled(engine, left, store, path, act, purse)?;
+    Ok(in_step(StepKind::Then, led, k)?)
 }
 
 // At a user step: where a Next act stops at a value, the step goes on.
@@ -112,8 +180,8 @@ fn at_next(
     match stopped {
         Some(v) => stepped(engine, k, v, store, purse),
         None => {
-            let led = handled(engine, left, store, path, act, purse)?;
-            Ok(in_step(engine.alloc(), StepKind::Next, led, k)?)
+            let led = part_handled(engine, left, store, path, act, purse)?;
+            Ok(in_step(StepKind::Next, led, k)?)
         }
     }
 }
@@ -162,12 +230,12 @@ fn at_pair(
         [] => Ok(None),
         [turn, rest @ ..] => match turn {
             Turn::First => {
-                let led = handled(engine, a, store, rest, act, purse)?;
-                Ok(in_first(engine.alloc(), kind, led, b)?)
+                let led = part_handled(engine, a, store, rest, act, purse)?;
+                Ok(in_first(kind, led, b)?)
             }
             Turn::Second => {
-                let led = handled(engine, b, store, rest, act, purse)?;
-                Ok(in_second(engine.alloc(), kind, a, led)?)
+                let led = part_handled(engine, b, store, rest, act, purse)?;
+                Ok(in_second(kind, a, led)?)
             }
         },
     }

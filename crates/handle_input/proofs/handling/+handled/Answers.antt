@@ -1,4 +1,4 @@
-use Rattle.std.proofs.Common.{map, refl, sym, ap, rules}
+use Rattle.std.proofs.Common.{map, refl, sym, ap, ◌∙◌, rules}
 use Rattle.std.specs.Arc.{arc_value}
 use Rattle.task_model.specs.Terms.Basic.{basic_term}
 use Rattle.task_model.specs.Terms.Value.{value_term}
@@ -13,7 +13,7 @@ use Rattle.handle_input.specs.Editing.{value_put, edited_tree}
 use Rattle.task_evaluation.specs.Kinds.{pair_tree}
 use Rattle.task_engine.proofs.FittingLemmas.{step_fits}
 use Rattle.handle_input.proofs.FitLemmas.{fits_is, fits_pair_first, fits_pair_second, share_within}
-use Rattle.handle_input.proofs.HandledLemmas.{editor_is, place_is, ran_made, ran_edited, ran_rebuilt, held_rebuilt, stopped_value, pair_first, pair_second, pair_ends}
+use Rattle.handle_input.proofs.HandledLemmas.{editor_is, place_is, held_tree, ran_made, ran_edited, ran_rebuilt, held_rebuilt, stopped_value, pair_first, pair_second, pair_ends}
 use Rattle.handle_input.proofs.handling.+handled.Goals as goal
 
 -- ---- editors
@@ -67,16 +67,16 @@ handled-returns-in-Xor-clause-ran t c = rw c.in-Xor.is c.at_xor.ensures.ran
 -- ---- internal steps
 pub at_then-returns-in_err-led-clause-ran : goal.at_then-returns-in_err-led-clause-ran
 at_then-returns-in_err-led-clause-ran t c =
-    rw (stopped _ c.in_err-led.field-0.0 c.from_residual.ensures.1, ← c.deref.ensures) (ran_after_stops _ c.in_err-led.ensures.ran)
+    rw (stopped _ c.in_err-led.field-0.0 c.from_residual.ensures.1) (ran_after_stops _ c.in_err-led.ensures.ran)
 
 pub at_then-returns-clause-ran : goal.at_then-returns-clause-ran
 at_then-returns-clause-ran t c =
-    rw (← c.deref.ensures) (ran_after _ c.in_ok-led.ensures.ran
-    (ran_rebuilt (λ (u : TreeTerm). then_tree u (cont_term c.args.k.now)) _ c.in_ok-led.led c.in_ok-in_step.ensures))
+    ran_after _ c.in_ok-led.ensures.ran
+    (ran_rebuilt held_tree tree_term (λ (u : TreeTerm). then_tree u (cont_term c.args.k.now)) _ c.in_ok-led.led c.in_ok-in_step.ensures)
 
 pub at_then-returns-clause-held : goal.at_then-returns-clause-held
 at_then-returns-clause-held t c =
-    held_rebuilt _ _ c.in_ok-led.led _ c.in_ok-in_step.ensures c.in_ok-led.ensures.held
+    held_rebuilt _ _ tree_term c.in_ok-led.led _ c.in_ok-in_step.ensures c.in_ok-led.ensures.held
 
 -- ---- user steps
 pub at_next-stepped-requires-clause-fits : goal.at_next-stepped-requires-clause-fits
@@ -95,7 +95,7 @@ at_next-returns-in_err-led-in-None-clause-ran t c =
     let none = rw (c.in-None.is, c.deref.ensures) at c.in_ok-stopped.ensures.value in
     rw (stopped _ c.in_err-led-in-None.field-0.0 c.from_residual-in_err-led-in-None.ensures.1)
     (ran_is (ap (λ o. at_step checked o k σ (rebuilds (handled checked left σ path act) (λ t'. next_tree t' k))) (sym none))
-    (ran_after_stops _ (rw c.deref-in-None.ensures at c.in_err-led-in-None.ensures.ran)))
+    (ran_after_stops _ c.in_err-led-in-None.ensures.ran))
 
 pub at_next-returns-in_ok-in_step-in-None-clause-ran : goal.at_next-returns-in_ok-in_step-in-None-clause-ran
 at_next-returns-in_ok-in_step-in-None-clause-ran t c =
@@ -107,8 +107,8 @@ at_next-returns-in_ok-in_step-in-None-clause-ran t c =
     let left = tree_term (arc_value c.args.left.now) in
     let none = rw (c.in-None.is, c.deref.ensures) at c.in_ok-stopped.ensures.value in
     ran_is (ap (λ o. at_step checked o k σ (rebuilds (handled checked left σ path act) (λ t'. next_tree t' k))) (sym none))
-    (ran_after _ (rw c.deref-in-None.ensures at c.in_ok-led-in-None.ensures.ran)
-    (ran_rebuilt (λ (u : TreeTerm). next_tree u k) _ c.in_ok-led-in-None.led c.in_ok-in_step-in-None.ensures))
+    (ran_after _ c.in_ok-led-in-None.ensures.ran
+    (ran_rebuilt held_tree tree_term (λ (u : TreeTerm). next_tree u k) _ c.in_ok-led-in-None.led c.in_ok-in_step-in-None.ensures))
 
 -- ---- pairs
 pub handled-returns-in-And-clause-ran : goal.handled-returns-in-And-clause-ran
@@ -127,9 +127,8 @@ at_pair-returns-in-empty-clause-ran t c =
     let right = tree_term (arc_value c.args.b.now) in
     ran_is (pair_ends checked left right σ path act c.args.kind (empty path c.in-empty.len_below)) (ran_give refl)
 
-pub at_pair-handled-requires : goal.at_pair-handled-requires
-at_pair-handled-requires t c =
-    (search rules, (c.requires.accepted, rw c.deref.ensures (fits_pair_first c.args.kind _ _ c.requires.fits)))
+pub at_pair-part_handled-requires : goal.at_pair-part_handled-requires
+at_pair-part_handled-requires t c = (search rules, (c.requires.accepted, fits_pair_first c.args.kind _ _ c.requires.fits))
 
 pub at_pair-returns-in_err-led-in-First-clause-ran : goal.at_pair-returns-in_err-led-in-First-clause-ran
 at_pair-returns-in_err-led-in-First-clause-ran t c =
@@ -141,7 +140,7 @@ at_pair-returns-in_err-led-in-First-clause-ran t c =
     let right = tree_term (arc_value c.args.b.now) in
     rw (stopped _ c.in_err-led-in-First.field-0.0 c.from_residual.ensures.1)
     (ran_is (pair_first checked left right σ path act _ c.in-len1-up.len_at_least c.args.kind c.in-First.is)
-    (ran_after_stops _ (rw c.deref.ensures at c.in_err-led-in-First.ensures.ran)))
+    (ran_after_stops _ c.in_err-led-in-First.ensures.ran))
 
 pub at_pair-returns-in_ok-in_first-in-First-clause-ran : goal.at_pair-returns-in_ok-in_first-in-First-clause-ran
 at_pair-returns-in_ok-in_first-in-First-clause-ran t c =
@@ -152,12 +151,11 @@ at_pair-returns-in_ok-in_first-in-First-clause-ran t c =
     let left = tree_term (arc_value c.args.a.now) in
     let right = tree_term (arc_value c.args.b.now) in
     ran_is (pair_first checked left right σ path act _ c.in-len1-up.len_at_least c.args.kind c.in-First.is)
-    (ran_after _ (rw c.deref.ensures at c.in_ok-led-in-First.ensures.ran)
-    (ran_rebuilt (λ (u : TreeTerm). pair_tree c.args.kind u right) _ c.in_ok-led-in-First.led c.in_ok-in_first-in-First.ensures))
+    (ran_after _ c.in_ok-led-in-First.ensures.ran
+    (ran_rebuilt held_tree tree_term (λ (u : TreeTerm). pair_tree c.args.kind u right) _ c.in_ok-led-in-First.led c.in_ok-in_first-in-First.ensures))
 
-pub at_pair-handled-requires-in-Second : goal.at_pair-handled-requires-in-Second
-at_pair-handled-requires-in-Second t c =
-    (search rules, (c.requires.accepted, rw c.deref-in-Second.ensures (fits_pair_second c.args.kind _ _ c.requires.fits)))
+pub at_pair-part_handled-requires-in-Second : goal.at_pair-part_handled-requires-in-Second
+at_pair-part_handled-requires-in-Second t c = (search rules, (c.requires.accepted, fits_pair_second c.args.kind _ _ c.requires.fits))
 
 pub at_pair-returns-in_err-led-in-Second-clause-ran : goal.at_pair-returns-in_err-led-in-Second-clause-ran
 at_pair-returns-in_err-led-in-Second-clause-ran t c =
@@ -169,7 +167,7 @@ at_pair-returns-in_err-led-in-Second-clause-ran t c =
     let right = tree_term (arc_value c.args.b.now) in
     rw (stopped _ c.in_err-led-in-Second.field-0.0 c.from_residual-in_err-led-in-Second.ensures.1)
     (ran_is (pair_second checked left right σ path act _ c.in-len1-up.len_at_least c.args.kind c.in-Second.is)
-    (ran_after_stops _ (rw c.deref-in-Second.ensures at c.in_err-led-in-Second.ensures.ran)))
+    (ran_after_stops _ c.in_err-led-in-Second.ensures.ran))
 
 pub at_pair-returns-in_ok-in_second-in-Second-clause-ran : goal.at_pair-returns-in_ok-in_second-in-Second-clause-ran
 at_pair-returns-in_ok-in_second-in-Second-clause-ran t c =
@@ -180,5 +178,72 @@ at_pair-returns-in_ok-in_second-in-Second-clause-ran t c =
     let left = tree_term (arc_value c.args.a.now) in
     let right = tree_term (arc_value c.args.b.now) in
     ran_is (pair_second checked left right σ path act _ c.in-len1-up.len_at_least c.args.kind c.in-Second.is)
-    (ran_after _ (rw c.deref-in-Second.ensures at c.in_ok-led-in-Second.ensures.ran)
-    (ran_rebuilt (λ (u : TreeTerm). pair_tree c.args.kind left u) _ c.in_ok-led-in-Second.led c.in_ok-in_second-in-Second.ensures))
+    (ran_after _ c.in_ok-led-in-Second.ensures.ran
+    (ran_rebuilt held_tree tree_term (λ (u : TreeTerm). pair_tree c.args.kind left u) _ c.in_ok-led-in-Second.led c.in_ok-in_second-in-Second.ensures))
+
+-- ---- pairs that are parts
+pub pair_handled-returns-in-empty-clause-ran : goal.pair_handled-returns-in-empty-clause-ran
+pair_handled-returns-in-empty-clause-ran t c =
+    let checked = checked_term c.args.engine.now in
+    let σ = map value_term c.args.store.now.list in
+    let path = c.args.path.now in
+    let act = act_term c.args.act.now in
+    let left = tree_term (arc_value c.args.a.now) in
+    let right = tree_term (arc_value c.args.b.now) in
+    ran_is (pair_ends checked left right σ path act c.args.kind (empty path c.in-empty.len_below)) (ran_give refl)
+
+pub pair_handled-part_handled-requires : goal.pair_handled-part_handled-requires
+pair_handled-part_handled-requires t c = (search rules, (c.requires.accepted, fits_pair_first c.args.kind _ _ c.requires.fits))
+
+pub pair_handled-returns-in_err-led-in-First-clause-ran : goal.pair_handled-returns-in_err-led-in-First-clause-ran
+pair_handled-returns-in_err-led-in-First-clause-ran t c =
+    let checked = checked_term c.args.engine.now in
+    let σ = map value_term c.args.store.now.list in
+    let path = c.args.path.now in
+    let act = act_term c.args.act.now in
+    let left = tree_term (arc_value c.args.a.now) in
+    let right = tree_term (arc_value c.args.b.now) in
+    rw (stopped _ c.in_err-led-in-First.field-0.0 c.from_residual.ensures.1)
+    (ran_is (pair_first checked left right σ path act _ c.in-len1-up.len_at_least c.args.kind c.in-First.is)
+    (ran_after_stops _ c.in_err-led-in-First.ensures.ran))
+
+pub pair_handled-returns-in_ok-in_memory-in-First-clause-ran : goal.pair_handled-returns-in_ok-in_memory-in-First-clause-ran
+pair_handled-returns-in_ok-in_memory-in-First-clause-ran t c =
+    let checked = checked_term c.args.engine.now in
+    let σ = map value_term c.args.store.now.list in
+    let path = c.args.path.now in
+    let act = act_term c.args.act.now in
+    let left = tree_term (arc_value c.args.a.now) in
+    let right = tree_term (arc_value c.args.b.now) in
+    ran_is (pair_first checked left right σ path act _ c.in-len1-up.len_at_least c.args.kind c.in-First.is)
+    (ran_after _ c.in_ok-led-in-First.ensures.ran
+    (ran_rebuilt held_tree held_tree (λ (u : TreeTerm). pair_tree c.args.kind u right) _ c.in_ok-led-in-First.led
+    (c.in_ok-in_memory-in-First.ensures ∙ c.in_ok-whole-in-First.ensures)))
+
+pub pair_handled-part_handled-requires-in-Second : goal.pair_handled-part_handled-requires-in-Second
+pair_handled-part_handled-requires-in-Second t c = (search rules, (c.requires.accepted, fits_pair_second c.args.kind _ _ c.requires.fits))
+
+pub pair_handled-returns-in_err-led-in-Second-clause-ran : goal.pair_handled-returns-in_err-led-in-Second-clause-ran
+pair_handled-returns-in_err-led-in-Second-clause-ran t c =
+    let checked = checked_term c.args.engine.now in
+    let σ = map value_term c.args.store.now.list in
+    let path = c.args.path.now in
+    let act = act_term c.args.act.now in
+    let left = tree_term (arc_value c.args.a.now) in
+    let right = tree_term (arc_value c.args.b.now) in
+    rw (stopped _ c.in_err-led-in-Second.field-0.0 c.from_residual-in_err-led-in-Second.ensures.1)
+    (ran_is (pair_second checked left right σ path act _ c.in-len1-up.len_at_least c.args.kind c.in-Second.is)
+    (ran_after_stops _ c.in_err-led-in-Second.ensures.ran))
+
+pub pair_handled-returns-in_ok-in_memory-in-Second-clause-ran : goal.pair_handled-returns-in_ok-in_memory-in-Second-clause-ran
+pair_handled-returns-in_ok-in_memory-in-Second-clause-ran t c =
+    let checked = checked_term c.args.engine.now in
+    let σ = map value_term c.args.store.now.list in
+    let path = c.args.path.now in
+    let act = act_term c.args.act.now in
+    let left = tree_term (arc_value c.args.a.now) in
+    let right = tree_term (arc_value c.args.b.now) in
+    ran_is (pair_second checked left right σ path act _ c.in-len1-up.len_at_least c.args.kind c.in-Second.is)
+    (ran_after _ c.in_ok-led-in-Second.ensures.ran
+    (ran_rebuilt held_tree held_tree (λ (u : TreeTerm). pair_tree c.args.kind left u) _ c.in_ok-led-in-Second.led
+    (c.in_ok-in_memory-in-Second.ensures ∙ c.in_ok-whole-in-Second.ensures)))
