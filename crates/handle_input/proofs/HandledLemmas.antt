@@ -1,5 +1,5 @@
 -- How the plan of an input comes together.
-use Rattle.std.proofs.Common.{◌≡◌, ◌≤◌, ℕ, Bool, true, false, List, [], ◌∷◌, length, Option, Some, None, Result, Ok, Err, cond, refl, sym, ap, ◌∙◌, subst, arith}
+use Rattle.std.proofs.Common.{◌≡◌, ◌≤◌, ℕ, Bool, true, false, List, [], ◌∷◌, length, Option, Some, None, Result, Ok, Err, cond, refl, sym, ap, ◌∙◌, arith}
 use Rattle.std.specs.Arc.{arc_value}
 use Rattle.std.specs.declared.sync.Arc.{Arc}
 use Rattle.std.specs.Option.{option_map}
@@ -7,11 +7,11 @@ use Rattle.std.specs.Prelude.{slice_set, get_or, IfErr, IfOk, IfSome}
 use Rattle.task_model.specs.Terms.Left.{Left}
 use Rattle.task_model.specs.Terms.Basic.{BasicTerm}
 use Rattle.task_model.specs.Terms.Value.{ValueTerm, value_has}
-use Rattle.task_model.specs.Terms.Tree.{TreeTerm, edit_tree, share_tree, and_tree, or_tree, tree_term, State, at}
+use Rattle.task_model.specs.Terms.Tree.{TreeTerm, edit_tree, share_tree, and_tree, or_tree, tree_term, at}
 use Rattle.task_model.specs.Terms.Input.{ActTerm, set_act, next_act}
 use Rattle.task_model.specs.Running.Handling.{if_typed, at_editor, rebuilt, rebuilds, stopped, handled}
 use Rattle.task_model.specs.Running.Checked.{CheckedTerm}
-use Rattle.task_model.specs.Running.Plan.{Judgement, Derived, Plan, give, plan_work, derives_at, Derives}
+use Rattle.task_model.specs.Running.Plan.{Judgement, Derived, give, Derives}
 use Rattle.task_model.specs.Running.Rules.{rule_of}
 use Rattle.task_model.specs.Running.Spends.{Spends}
 use Rattle.task_model.specs.Syntax.Calls.{RunsJudgement, RunsPlan}
@@ -108,25 +108,6 @@ module _ {X Y : Type 0} (v : X → TreeTerm) (w : Y → TreeTerm) where
       → option_map w o ≡ option_map (λ t. f (v t)) led
       → RunsPlan c (give (rebuilt f (option_map (λ u. at (v u) σ) led))) (option_map (λ u. at (w u) σ)) old old (Ok o)
   ran_rebuilt f σ led {o = o} e = ran_give (seen_over σ o ∙ ap (option_map (λ u. at u σ)) e ∙ sym (rebuilt_is f σ led))
-
--- the same that was led to, held otherwise
-module _ {X Y : Type 0} (v : X → TreeTerm) (w : Y → TreeTerm) where
-  same_over : (σ : List ValueTerm) (x : Option X) (y : Option Y) → option_map w y ≡ option_map v x
-      → option_map (λ u. at (v u) σ) x ≡ option_map (λ u. at (w u) σ) y
-  same_over σ x y e = seen_over w v σ x ∙ ap (option_map (λ u. at u σ)) (sym e) ∙ sym (seen_over v w σ y)
-
-  pub ran_moved : {c : CheckedTerm} {p : Plan (Option State)} (σ : List ValueTerm) {old new : Left} (x : Option X) (y : Option Y)
-      → option_map w y ≡ option_map v x → RunsPlan c p (option_map (λ u. at (v u) σ)) old new (Ok x)
-      → RunsPlan c p (option_map (λ u. at (w u) σ)) old new (Ok y)
-  ran_moved {c = c} {p = p} σ {old = old} {new = new} x y e a = record {
-    runs = (
-      a.runs.0,
-      a.runs.1,
-      subst (λ s. plan_work (derives_at (rule_of c) old.height) p s a.runs.0 a.runs.1) (same_over σ x y e) a.runs.2,
-      a.runs.3,
-      a.runs.4,
-    );
-  }
 
 -- ---- the parts of a node that has two
 -- a path by its first turn

@@ -1,8 +1,9 @@
-ghost use Rattle.std.specs.Prelude.{◌≡◌, List, map, IfOk, IfSome, OnOk};
+ghost use Rattle.std.specs.Prelude.{◌≡◌, ◌<◌, List, map, max, IfOk, IfSome, OnOk};
 ghost use Rattle.std.specs.Option.{option_map};
 ghost use Rattle.std.specs.Arc.{arc_value};
 ghost use Rattle.task_model.specs.Terms.Value.{ValueTerm, value_term};
 ghost use Rattle.task_model.specs.Running.Rules.{value_of};
+ghost use Rattle.task_model.specs.declared.tree.Tree.{size-Tree};
 ghost use Rattle.task_model.specs.Terms.Tree as trees;
 ghost use Rattle.task_model.specs.Terms.Tree.{cont_term, delay_term, tree_term, at};
 ghost use Rattle.task_model.specs.Terms.Input.{act_term};
@@ -19,7 +20,9 @@ ghost use Rattle.handle_input.specs.Editing.{picked_side};
 
 use crate::bodies::{side_taken, stepped};
 use crate::editing::{edited, edited_place};
-use crate::rebuilding::{in_first, in_memory, in_second, in_step};
+use crate::rebuilding::{
+    first_in_memory, in_first, in_memory, in_second, in_step, second_in_memory,
+};
 use shared_store::Store;
 use std::sync::Arc;
 use task_evaluation::{Engine, PairKind, StepKind};
@@ -59,8 +62,7 @@ pub(crate) fn handled(
     }
 }
 
-// The same at a part of a tree, which is led to in memory of its own. On the way down a path this is called for each node: pairs go on by
-// themselves, so that no tree is moved.
+// The same at a part of a tree, which is led to in memory of its own. Pairs go on by themselves, so that on the way up a path no tree is moved.
 #[cycle(handled)]
 fn part_handled(
     engine: &Engine,
@@ -79,52 +81,56 @@ fn part_handled(
         (model.handled (checked_term engine.now) (tree_term (arc_value t.now)) (values_in store.old) path.now (act_term act.now))
         (option_map (λ u. state_in store.new (arc_value u))) purse.old purse.new result }
 {
-    match &**t {
-        Tree::And(a, b) => pair_handled(engine, PairKind::And, a, b, store, path, act, purse),
-        Tree::Or(a, b) => pair_handled(engine, PairKind::Or, a, b, store, path, act, purse),
-        _ => {
-            let led = handled(engine, t, store, path, act, purse)?;
-            Ok(in_memory(engine.alloc(), led)?)
-        }
+    let Some((kind, a, b)) = both_parts(t) else {
+        return form_handled(engine, t, store, path, act, purse);
+    };
+    match path {
+        [] => Ok(None),
+        [turn, rest @ ..] => match turn {
+            Turn::First => {
+                let led = part_handled(engine, a, store, rest, act, purse)?;
+                Ok(first_in_memory(engine.alloc(), kind, led, b)?)
+            }
+            Turn::Second => {
+                let led = part_handled(engine, b, store, rest, act, purse)?;
+                Ok(second_in_memory(engine.alloc(), kind, a, led)?)
+            }
+        },
     }
 }
 
-// Two parts of a kind that are a part themselves.
+// The same at a part of any form.
 #[cycle(handled)]
-fn pair_handled(
+fn form_handled(
     engine: &Engine,
-    kind: PairKind,
-    a: &Arc<Tree>,
-    b: &Arc<Tree>,
+    t: &Tree,
     store: &mut Store<Value>,
     path: &[Turn],
     act: &Act,
     purse: &mut Purse,
 ) -> Result<Option<Arc<Tree>>, Stop>
     requires accepted { IsAccepted (checked_term engine.now) }
-    requires fits { Fits (checked_term engine.now)
-        (at (kinds.pair_tree kind (tree_term (arc_value a.now)) (tree_term (arc_value b.now))) (values_in store.old)) }
+    requires fits { Fits (checked_term engine.now) (at (tree_term t.now) (values_in store.old)) }
     ensures held { IfOk result (λ o. IfSome o (λ t. IsHeldAct (act_term act.now))) }
     ensures height { OnOk result (purse.new.height ≡ purse.old.height) }
     ensures layers { store.new.layers ≡ store.old.layers }
     ensures ran { RunsPlan (checked_term engine.now)
-        (model.handled (checked_term engine.now) (kinds.pair_tree kind (tree_term (arc_value a.now)) (tree_term (arc_value b.now)))
-        (values_in store.old) path.now (act_term act.now)) (option_map (λ u. state_in store.new (arc_value u))) purse.old purse.new result }
+        (model.handled (checked_term engine.now) (tree_term t.now) (values_in store.old) path.now (act_term act.now))
+        (option_map (λ u. state_in store.new (arc_value u))) purse.old purse.new result }
 {
-    match path {
-        [] => Ok(None),
-        [turn, rest @ ..] => match turn {
-            Turn::First => {
-                let led = part_handled(engine, a, store, rest, act, purse)?;
-                let whole = in_first(kind, led, b)?;
-                Ok(in_memory(engine.alloc(), whole)?)
-            }
-            Turn::Second => {
-                let led = part_handled(engine, b, store, rest, act, purse)?;
-                let whole = in_second(kind, a, led)?;
-                Ok(in_memory(engine.alloc(), whole)?)
-            }
-        },
+    let led = handled(engine, t, store, path, act, purse)?;
+    Ok(in_memory(engine.alloc(), led)?)
+}
+
+// The kind and the parts of a pair or an internal choice.
+fn both_parts(t: &Tree) -> Option<(PairKind, &Arc<Tree>, &Arc<Tree>)>
+    ensures parts { IfSome result (λ p. tree_term t.now ≡ kinds.pair_tree p.0 (tree_term (arc_value p.1.now)) (tree_term (arc_value p.2.now))) }
+    ensures smaller { IfSome result (λ p. max (size-Tree (arc_value p.1.now)) (size-Tree (arc_value p.2.now)) < size-Tree t.now) }
+{
+    match t {
+        Tree::And(a, b) => Some((PairKind::And, a, b)),
+        Tree::Or(a, b) => Some((PairKind::Or, a, b)),
+        _ => None,
     }
 }
 

@@ -49,6 +49,25 @@ pub(crate) fn in_first(
     }
 }
 
+/// The same, in memory of its own.
+pub(crate) fn first_in_memory(
+    alloc: Global,
+    kind: PairKind,
+    led: Option<Arc<Tree>>,
+    other: &Arc<Tree>,
+) -> Result<Option<Arc<Tree>>, OutOfMemory>
+    ensures { IfOk result (λ o. option_map (λ u. tree_term (arc_value u)) o
+        ≡ option_map (λ t. kinds.pair_tree kind (tree_term (arc_value t)) (tree_term (arc_value other.now))) led) }
+{
+    match led {
+        None => Ok(None),
+        Some(part) => {
+            let other = share(other)?;
+            Ok(Some(shared(alloc, pair_tree(kind, part, other))?))
+        }
+    }
+}
+
 /// A pair whose second part an input led to.
 pub(crate) fn in_second(
     kind: PairKind,
@@ -61,5 +80,24 @@ pub(crate) fn in_second(
     match led {
         None => Ok(None),
         Some(part) => Ok(Some(pair_tree(kind, share(other)?, part))),
+    }
+}
+
+/// The same, in memory of its own.
+pub(crate) fn second_in_memory(
+    alloc: Global,
+    kind: PairKind,
+    other: &Arc<Tree>,
+    led: Option<Arc<Tree>>,
+) -> Result<Option<Arc<Tree>>, OutOfMemory>
+    ensures { IfOk result (λ o. option_map (λ u. tree_term (arc_value u)) o
+        ≡ option_map (λ t. kinds.pair_tree kind (tree_term (arc_value other.now)) (tree_term (arc_value t))) led) }
+{
+    match led {
+        None => Ok(None),
+        Some(part) => {
+            let other = share(other)?;
+            Ok(Some(shared(alloc, pair_tree(kind, other, part))?))
+        }
     }
 }

@@ -181,69 +181,73 @@ at_pair-returns-in_ok-in_second-in-Second-clause-ran t c =
     (ran_after _ c.in_ok-led-in-Second.ensures.ran
     (ran_rebuilt held_tree tree_term (λ (u : TreeTerm). pair_tree c.args.kind left u) _ c.in_ok-led-in-Second.led c.in_ok-in_second-in-Second.ensures))
 
--- ---- pairs that are parts
-pub pair_handled-returns-in-empty-clause-ran : goal.pair_handled-returns-in-empty-clause-ran
-pair_handled-returns-in-empty-clause-ran t c =
+-- ---- parts
+pub part_handled-returns-in-empty-clause-ran : goal.part_handled-returns-in-empty-clause-ran
+part_handled-returns-in-empty-clause-ran t c =
     let checked = checked_term c.args.engine.now in
     let σ = map value_term c.args.store.now.list in
     let path = c.args.path.now in
     let act = act_term c.args.act.now in
-    let left = tree_term (arc_value c.args.a.now) in
-    let right = tree_term (arc_value c.args.b.now) in
-    ran_is (pair_ends checked left right σ path act c.args.kind (empty path c.in-empty.len_below)) (ran_give refl)
+    let here = c.in-Some in
+    let left = tree_term (arc_value here.a.now) in
+    let right = tree_term (arc_value here.b.now) in
+    ran_is (ap (λ z. handled checked z σ path act) (rw c.deref.ensures at here.ensures.parts)
+    ∙ pair_ends checked left right σ path act here.kind (empty path c.in-empty.len_below)) (ran_give refl)
 
-pub pair_handled-part_handled-requires : goal.pair_handled-part_handled-requires
-pair_handled-part_handled-requires t c = (search rules, (c.requires.accepted, fits_pair_first c.args.kind _ _ c.requires.fits))
-
-pub pair_handled-returns-in_err-led-in-First-clause-ran : goal.pair_handled-returns-in_err-led-in-First-clause-ran
-pair_handled-returns-in_err-led-in-First-clause-ran t c =
+pub part_handled-returns-in_err-led-in-First-clause-ran : goal.part_handled-returns-in_err-led-in-First-clause-ran
+part_handled-returns-in_err-led-in-First-clause-ran t c =
     let checked = checked_term c.args.engine.now in
     let σ = map value_term c.args.store.now.list in
     let path = c.args.path.now in
     let act = act_term c.args.act.now in
-    let left = tree_term (arc_value c.args.a.now) in
-    let right = tree_term (arc_value c.args.b.now) in
+    let here = c.in-Some in
+    let left = tree_term (arc_value here.a.now) in
+    let right = tree_term (arc_value here.b.now) in
     rw (stopped _ c.in_err-led-in-First.field-0.0 c.from_residual.ensures.1)
-    (ran_is (pair_first checked left right σ path act _ c.in-len1-up.len_at_least c.args.kind c.in-First.is)
+    (ran_is (ap (λ z. handled checked z σ path act) (rw c.deref.ensures at here.ensures.parts)
+    ∙ pair_first checked left right σ path act _ c.in-len1-up.len_at_least here.kind c.in-First.is)
     (ran_after_stops _ c.in_err-led-in-First.ensures.ran))
 
-pub pair_handled-returns-in_ok-in_memory-in-First-clause-ran : goal.pair_handled-returns-in_ok-in_memory-in-First-clause-ran
-pair_handled-returns-in_ok-in_memory-in-First-clause-ran t c =
+pub part_handled-returns-in_ok-first_in_memory-in-First-clause-ran : goal.part_handled-returns-in_ok-first_in_memory-in-First-clause-ran
+part_handled-returns-in_ok-first_in_memory-in-First-clause-ran t c =
     let checked = checked_term c.args.engine.now in
     let σ = map value_term c.args.store.now.list in
     let path = c.args.path.now in
     let act = act_term c.args.act.now in
-    let left = tree_term (arc_value c.args.a.now) in
-    let right = tree_term (arc_value c.args.b.now) in
-    ran_is (pair_first checked left right σ path act _ c.in-len1-up.len_at_least c.args.kind c.in-First.is)
+    let here = c.in-Some in
+    let left = tree_term (arc_value here.a.now) in
+    let right = tree_term (arc_value here.b.now) in
+    ran_is (ap (λ z. handled checked z σ path act) (rw c.deref.ensures at here.ensures.parts)
+    ∙ pair_first checked left right σ path act _ c.in-len1-up.len_at_least here.kind c.in-First.is)
     (ran_after _ c.in_ok-led-in-First.ensures.ran
-    (ran_rebuilt held_tree held_tree (λ (u : TreeTerm). pair_tree c.args.kind u right) _ c.in_ok-led-in-First.led
-    (c.in_ok-in_memory-in-First.ensures ∙ c.in_ok-whole-in-First.ensures)))
+    (ran_rebuilt held_tree held_tree (λ (u : TreeTerm). pair_tree here.kind u right) _ c.in_ok-led-in-First.led
+    c.in_ok-first_in_memory-in-First.ensures))
 
-pub pair_handled-part_handled-requires-in-Second : goal.pair_handled-part_handled-requires-in-Second
-pair_handled-part_handled-requires-in-Second t c = (search rules, (c.requires.accepted, fits_pair_second c.args.kind _ _ c.requires.fits))
-
-pub pair_handled-returns-in_err-led-in-Second-clause-ran : goal.pair_handled-returns-in_err-led-in-Second-clause-ran
-pair_handled-returns-in_err-led-in-Second-clause-ran t c =
+pub part_handled-returns-in_err-led-in-Second-clause-ran : goal.part_handled-returns-in_err-led-in-Second-clause-ran
+part_handled-returns-in_err-led-in-Second-clause-ran t c =
     let checked = checked_term c.args.engine.now in
     let σ = map value_term c.args.store.now.list in
     let path = c.args.path.now in
     let act = act_term c.args.act.now in
-    let left = tree_term (arc_value c.args.a.now) in
-    let right = tree_term (arc_value c.args.b.now) in
+    let here = c.in-Some in
+    let left = tree_term (arc_value here.a.now) in
+    let right = tree_term (arc_value here.b.now) in
     rw (stopped _ c.in_err-led-in-Second.field-0.0 c.from_residual-in_err-led-in-Second.ensures.1)
-    (ran_is (pair_second checked left right σ path act _ c.in-len1-up.len_at_least c.args.kind c.in-Second.is)
+    (ran_is (ap (λ z. handled checked z σ path act) (rw c.deref.ensures at here.ensures.parts)
+    ∙ pair_second checked left right σ path act _ c.in-len1-up.len_at_least here.kind c.in-Second.is)
     (ran_after_stops _ c.in_err-led-in-Second.ensures.ran))
 
-pub pair_handled-returns-in_ok-in_memory-in-Second-clause-ran : goal.pair_handled-returns-in_ok-in_memory-in-Second-clause-ran
-pair_handled-returns-in_ok-in_memory-in-Second-clause-ran t c =
+pub part_handled-returns-in_ok-second_in_memory-in-Second-clause-ran : goal.part_handled-returns-in_ok-second_in_memory-in-Second-clause-ran
+part_handled-returns-in_ok-second_in_memory-in-Second-clause-ran t c =
     let checked = checked_term c.args.engine.now in
     let σ = map value_term c.args.store.now.list in
     let path = c.args.path.now in
     let act = act_term c.args.act.now in
-    let left = tree_term (arc_value c.args.a.now) in
-    let right = tree_term (arc_value c.args.b.now) in
-    ran_is (pair_second checked left right σ path act _ c.in-len1-up.len_at_least c.args.kind c.in-Second.is)
+    let here = c.in-Some in
+    let left = tree_term (arc_value here.a.now) in
+    let right = tree_term (arc_value here.b.now) in
+    ran_is (ap (λ z. handled checked z σ path act) (rw c.deref.ensures at here.ensures.parts)
+    ∙ pair_second checked left right σ path act _ c.in-len1-up.len_at_least here.kind c.in-Second.is)
     (ran_after _ c.in_ok-led-in-Second.ensures.ran
-    (ran_rebuilt held_tree held_tree (λ (u : TreeTerm). pair_tree c.args.kind left u) _ c.in_ok-led-in-Second.led
-    (c.in_ok-in_memory-in-Second.ensures ∙ c.in_ok-whole-in-Second.ensures)))
+    (ran_rebuilt held_tree held_tree (λ (u : TreeTerm). pair_tree here.kind left u) _ c.in_ok-led-in-Second.led
+    c.in_ok-second_in_memory-in-Second.ensures))
