@@ -111,11 +111,14 @@ impl Fragments {
         (self.chunks.as_slice(), self.last.as_slice())
     }
 
-    // Puts so many fragments of a chunk, from a number on, behind the others. A whole chunk is shared.
+    // Puts so many fragments of a chunk, from a number on, behind the others. A whole chunk is shared, and one of which none is taken isn't looked into.
     fn take_part(&mut self, chunk: &Chunk, from: usize, count: usize) -> Result<(), OutOfMemory>
         requires { from + count ≤ length chunk.now }
         ensures { OnOk result (self.new ≡ self.old ++ take count (drop from chunk.now)) }
     {
+        if count == 0 {
+            return Ok(());
+        }
         if count < chunk.len() {
             return self.push_copies(&chunk.as_slice()[from..from + count]);
         }
