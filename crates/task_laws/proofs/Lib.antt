@@ -6,11 +6,14 @@ mod SignLemmas
 pub mod OfferLemmas
 pub mod OutcomeLemmas
 pub mod RanLemmas
+mod RenumberLemmas
 mod LikeLemmas
 mod TwinLemmas
 mod AlikeLemmas
 mod FrameLemmas
 mod PlaceLemmas
+mod StayLemmas
+mod ReachLemmas
 mod FootLemmas
 mod FailingLemmas
 mod NextLemmas

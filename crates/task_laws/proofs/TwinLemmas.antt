@@ -1,14 +1,13 @@
--- Two stores on their way from two others: inside they agree, and outside each is as it was.
-use Rattle.std.proofs.Common.{◌≡◌, ◌↔◌, ◌≤◌, ◌<◌, ℕ, zero, suc, Bool, true, false, List, [], ◌∷◌, ◌++◌, length, Option, Some, None, refl, sym, ap, ◌∙◌, subst, arith, cond}
-use Rattle.std.specs.Prelude.{slice_get, slice_set}
+-- Two stores on their way from two others: inside they agree, number by number, and outside each is as it was.
+use Rattle.std.proofs.Common.{◌≡◌, ◌↔◌, ◌<◌, ◌+◌, ℕ, zero, suc, Bool, true, false, List, [], ◌∷◌, ◌++◌, length, Option, Some, None, refl, sym, ap, ◌∙◌, subst, arith}
+use Rattle.std.specs.Prelude.{◌==◌, slice_get, slice_set}
 use Rattle.std.specs.Option.{option_or}
+use Rattle.std.proofs.lemmas.Bool.{eq-eqb, eqb-true}
 use Rattle.std.proofs.lemmas.List.{length-set, length_push}
-use Rattle.task_model.specs.Terms.Text.{Text, same_text}
 use Rattle.task_model.specs.Terms.Value.{ValueTerm}
-use Rattle.task_model.specs.Terms.Env.{SlotTerm, plain_slot, place_slot}
 use Rattle.task_model.specs.Terms.Tree.{TreeTerm, edit_tree, enter_tree, share_tree, then_tree, next_tree, fail_tree, and_tree, or_tree, xor_tree}
-use Rattle.task_model.specs.Running.Checked.{found}
 use Rattle.task_model.specs.Running.Rules.{paired, value_of}
+use Rattle.task_laws.proofs.RenumberLemmas.{TreeIn, tree_to, tree_home}
 
 -- ---- lists, place by place
 list_by_places : {A : Type 0} (xs ys : List A) → ((n : ℕ) → slice_get xs n ≡ slice_get ys n) → xs ≡ ys
@@ -20,20 +19,15 @@ list_by_places (x ∷ xs) (y ∷ ys) e =
     let rest = list_by_places xs ys (λ n. e (suc n)) in
     cc
 
--- after the same write, lists agree where they agreed
-set_same : {A : Type 0} (xs ys : List A) (n m : ℕ) (v : A) → slice_get xs m ≡ slice_get ys m → slice_get (slice_set xs n v) m
-    ≡ slice_get (slice_set ys n v) m
-set_same [] [] n m v e = refl
-set_same [] (y ∷ ys) n zero v e = absurd (cc)
-set_same [] (y ∷ ys) zero (suc m) v e = e
-set_same [] (y ∷ ys) (suc n) (suc m) v e = set_same [] ys n m v e
-set_same (x ∷ xs) [] n zero v e = absurd (cc)
-set_same (x ∷ xs) [] zero (suc m) v e = e
-set_same (x ∷ xs) [] (suc n) (suc m) v e = set_same xs [] n m v e
-set_same (x ∷ xs) (y ∷ ys) zero zero v e = refl
-set_same (x ∷ xs) (y ∷ ys) zero (suc m) v e = e
-set_same (x ∷ xs) (y ∷ ys) (suc n) zero v e = e
-set_same (x ∷ xs) (y ∷ ys) (suc n) (suc m) v e = set_same xs ys n m v e
+-- another value where there is one
+abbrev instead : {A : Type 0} → A → Option A → Option A
+instead v None = None
+instead v (Some x) = Some v
+
+set_here : {A : Type 0} (xs : List A) (n : ℕ) (v : A) → slice_get (slice_set xs n v) n ≡ instead v (slice_get xs n)
+set_here [] n v = refl
+set_here (x ∷ xs) zero v = refl
+set_here (x ∷ xs) (suc n) v = set_here xs n v
 
 set_other : {A : Type 0} (xs : List A) (n m : ℕ) (v : A) → (n ≡ m → ⊥) → slice_get (slice_set xs n v) m ≡ slice_get xs m
 set_other [] n m v d = refl
@@ -42,137 +36,160 @@ set_other (x ∷ xs) zero (suc m) v d = refl
 set_other (x ∷ xs) (suc n) zero v d = refl
 set_other (x ∷ xs) (suc n) (suc m) v d = set_other xs n m v (λ e. d (ap suc e))
 
-push_same : {A : Type 0} (xs ys : List A) (v : A) (n : ℕ) → length xs ≡ length ys → slice_get xs n ≡ slice_get ys n
-    → slice_get (xs ++ v ∷ []) n ≡ slice_get (ys ++ v ∷ []) n
-push_same [] [] v n l e = refl
-push_same [] (y ∷ ys) v n l e = absurd (omega arith)
-push_same (x ∷ xs) [] v n l e = absurd (omega arith)
-push_same (x ∷ xs) (y ∷ ys) v zero l e = e
-push_same (x ∷ xs) (y ∷ ys) v (suc n) l e = push_same xs ys v n (omega arith) e
+push_here : {A : Type 0} (xs : List A) (v : A) → slice_get (xs ++ v ∷ []) (length xs) ≡ Some v
+push_here [] v = refl
+push_here (x ∷ xs) v = push_here xs v
 
-push_before : {A : Type 0} (xs : List A) (v : A) (n : ℕ) → n < length xs → slice_get (xs ++ v ∷ []) n ≡ slice_get xs n
-push_before [] v n h = absurd (omega arith)
-push_before (x ∷ xs) v zero h = refl
-push_before (x ∷ xs) v (suc n) h = push_before xs v n (omega arith)
+push_other : {A : Type 0} (xs : List A) (v : A) (n : ℕ) → (n ≡ length xs → ⊥) → slice_get (xs ++ v ∷ []) n ≡ slice_get xs n
+push_other [] v zero d = absurd (d refl)
+push_other [] v (suc n) d = refl
+push_other (x ∷ xs) v zero d = refl
+push_other (x ∷ xs) v (suc n) d = push_other xs v n (λ e. d (ap suc e))
 
 pub by_cases : {P : Type 0} (b : Bool) → (b ≡ true → P) → (b ≡ false → P) → P
 by_cases true f g = f refl
 by_cases false f g = g refl
 
--- ---- places inside
-module _ (inside : ℕ → Bool) where
-  abbrev pub SlotIn : SlotTerm → Type 0
-  SlotIn (plain_slot v) = Unit {0}
-  SlotIn (place_slot n) = inside n ≡ true
-
-  abbrev pub SlotsIn : List SlotTerm → Type 0
-  SlotsIn [] = Unit {0}
-  SlotsIn (s ∷ ss) = SlotIn s × SlotsIn ss
-
-  abbrev pub TreeIn : TreeTerm → Type 0
-  TreeIn (edit_tree b v) = Unit {0}
-  TreeIn (enter_tree b) = Unit {0}
-  TreeIn (share_tree b n) = inside n ≡ true
-  TreeIn (then_tree t k) = TreeIn t × SlotsIn k.slots
-  TreeIn (next_tree t k) = TreeIn t × SlotsIn k.slots
-  TreeIn fail_tree = Unit {0}
-  TreeIn (and_tree t u) = TreeIn t × TreeIn u
-  TreeIn (or_tree t u) = TreeIn t × TreeIn u
-  TreeIn (xor_tree j k) = SlotsIn j.slots × SlotsIn k.slots
-
-  pub slots_in_push : (ss : List SlotTerm) (s : SlotTerm) → SlotsIn ss → SlotIn s → SlotsIn (ss ++ s ∷ [])
-  slots_in_push [] s h q = (q, tt)
-  slots_in_push (r ∷ ss) s h q = (h.0, slots_in_push ss s h.1 q)
-
-  abbrev pub IfIn : Option SlotTerm → Type 0
-  IfIn None = Unit {0}
-  IfIn (Some s) = SlotIn s
-
-  in_or : (o p : Option SlotTerm) → IfIn o → IfIn p → IfIn (option_or o p)
-  in_or None p h q = q
-  in_or (Some s) p h q = h
-
-  in_if : (b : Bool) (s : SlotTerm) → SlotIn s → IfIn (cond b (Some s) None)
-  in_if true s h = h
-  in_if false s h = tt
-
-  pub found_in : (xs : List Text) (ss : List SlotTerm) (y : Text) → SlotsIn ss → IfIn (found xs ss y)
-  found_in [] ss y h = tt
-  found_in (x ∷ xs) [] y h = tt
-  found_in (x ∷ xs) (s ∷ ss) y h = in_or (found xs ss y) (cond (same_text x y) (Some s) None) (found_in xs ss y h.1)
-      (in_if (same_text x y) s h.0)
+-- either these numbers are the same or they aren't
+by_equal : {P : Type 0} (n m : ℕ) → (n ≡ m → P) → ((n ≡ m → ⊥) → P) → P
+by_equal n m f g = by_cases (n == m) (λ e. f (eqb-true n m e)) (λ e. g (λ q. let s = eq-eqb n m q in absurd (cc)))
 
 -- ---- twins
--- the places that are inside, and two stores at the start: every place that is outside was there
+-- Two stores at the start, the places that are inside of each, and their numbers in the other one: every place that is outside was there, and
+-- the new ones stand in the same order in both.
 pub record Frame : Type 0 where
-  pub inside : ℕ → Bool
   pub left : List ValueTerm
   pub right : List ValueTerm
-  pub early : (n : ℕ) → inside n ≡ false → n < length left
+  pub in_left : ℕ → Bool
+  pub in_right : ℕ → Bool
+  pub to_right : ℕ → ℕ
+  pub to_left : ℕ → ℕ
+  pub early_left : (n : ℕ) → in_left n ≡ false → n < length left
+  pub early_right : (n : ℕ) → in_right n ≡ false → n < length right
+  pub there : (n : ℕ) → in_left n ≡ true → (in_right (to_right n) ≡ true) × (to_left (to_right n) ≡ n)
+  pub back : (n : ℕ) → in_right n ≡ true → (in_left (to_left n) ≡ true) × (to_right (to_left n) ≡ n)
+  pub new : (k : ℕ) → to_right (length left + k) ≡ length right + k
 
--- two stores on the way from these: inside they agree, and outside each is as it was at the start
+-- two stores on the way from these, by as many new places: inside they agree, and outside each is as it was at the start
 pub record Twins (f : Frame) (σ τ : List ValueTerm) : Type 0 where
-  pub lengths : length σ ≡ length τ
-  pub grown : length f.left ≤ length σ
-  pub within : (n : ℕ) → f.inside n ≡ true → slice_get σ n ≡ slice_get τ n
-  pub left : (n : ℕ) → f.inside n ≡ false → slice_get σ n ≡ slice_get f.left n
-  pub right : (n : ℕ) → f.inside n ≡ false → slice_get τ n ≡ slice_get f.right n
+  pub more : ℕ
+  pub left_long : length σ ≡ length f.left + more
+  pub right_long : length τ ≡ length f.right + more
+  pub within : (n : ℕ) → f.in_left n ≡ true → slice_get σ n ≡ slice_get τ (f.to_right n)
+  pub left : (n : ℕ) → f.in_left n ≡ false → slice_get σ n ≡ slice_get f.left n
+  pub right : (n : ℕ) → f.in_right n ≡ false → slice_get τ n ≡ slice_get f.right n
 
 module _ (f : Frame) where
+  -- a new place is inside
+  pub in_new : (k : ℕ) → f.in_left (length f.left + k) ≡ true
+  in_new k = by_cases (f.in_left (length f.left + k)) (λ e. e) (λ e. let lt = f.early_left (length f.left + k) e in absurd (omega arith))
+
+  pub new_in : (σ τ : List ValueTerm) → Twins f σ τ → f.in_left (length σ) ≡ true
+  new_in σ τ h = ap f.in_left h.left_long ∙ in_new h.more
+
+  -- and has its number in the other store
+  pub new_to : (σ τ : List ValueTerm) → Twins f σ τ → f.to_right (length σ) ≡ length τ
+  new_to σ τ h = ap f.to_right h.left_long ∙ f.new h.more ∙ sym h.right_long
+
+  -- places inside that have one number there have one here
+  one_place : (n m : ℕ) → f.in_left n ≡ true → f.in_left m ≡ true → f.to_right n ≡ f.to_right m → n ≡ m
+  one_place n m i j e = sym (f.there n i).1 ∙ ap f.to_left e ∙ (f.there m j).1
+
+  -- a place inside is no place outside
+  apart : (p : ℕ → Bool) (n m : ℕ) → p n ≡ true → p m ≡ false → n ≡ m → ⊥
+  apart p n m e q s = let same = ap p s in cc
+
   pub twins_push : (σ τ : List ValueTerm) (v : ValueTerm) → Twins f σ τ → Twins f (σ ++ v ∷ []) (τ ++ v ∷ [])
   twins_push σ τ v h =
-      let l = h.lengths in
-      let g = h.grown in
+      let l = h.left_long in
+      let r = h.right_long in
       let ls = length_push σ v in
       let lt = length_push τ v in
       record {
-        lengths = omega arith;
-        grown = omega arith;
-        within = λ n e. push_same σ τ v n h.lengths (h.within n e);
-        left = λ n e. let lt = f.early n e in push_before σ v n (omega arith) ∙ h.left n e;
-        right = λ n e. let lt = f.early n e in push_before τ v n (omega arith) ∙ h.right n e;
+        more = suc h.more;
+        left_long = omega arith;
+        right_long = omega arith;
+        within = λ n i. by_equal n (length σ)
+            (λ e. ap (slice_get (σ ++ v ∷ [])) e ∙ push_here σ v ∙ sym (push_here τ v)
+            ∙ ap (slice_get (τ ++ v ∷ [])) (sym (ap f.to_right e ∙ new_to σ τ h)))
+            (λ d. push_other σ v n d ∙ h.within n i ∙ sym (push_other τ v (f.to_right n)
+            (λ e. d (one_place n (length σ) i (new_in σ τ h) (e ∙ sym (new_to σ τ h))))));
+        left = λ n e. let lt = f.early_left n e in push_other σ v n (λ s. absurd (omega arith)) ∙ h.left n e;
+        right = λ n e. let lt = f.early_right n e in push_other τ v n (λ s. absurd (omega arith)) ∙ h.right n e;
       }
 
-  -- a place inside is no place outside
-  apart : (n m : ℕ) → f.inside n ≡ true → f.inside m ≡ false → n ≡ m → ⊥
-  apart n m e q s = let same = ap f.inside s in cc
-
-  pub twins_set : (σ τ : List ValueTerm) (n : ℕ) (v : ValueTerm) → f.inside n ≡ true → Twins f σ τ
-      → Twins f (slice_set σ n v) (slice_set τ n v)
-  twins_set σ τ n v e h =
+  pub twins_set : (σ τ : List ValueTerm) (n : ℕ) (v : ValueTerm) → f.in_left n ≡ true → Twins f σ τ
+      → Twins f (slice_set σ n v) (slice_set τ (f.to_right n) v)
+  twins_set σ τ n v i h =
       record {
-        lengths = length-set σ n v ∙ h.lengths ∙ sym (length-set τ n v);
-        grown = subst (λ z. length f.left ≤ z) (sym (length-set σ n v)) h.grown;
-        within = λ m q. set_same σ τ n m v (h.within m q);
-        left = λ m q. set_other σ n m v (apart n m e q) ∙ h.left m q;
-        right = λ m q. set_other τ n m v (apart n m e q) ∙ h.right m q;
+        more = h.more;
+        left_long = length-set σ n v ∙ h.left_long;
+        right_long = length-set τ (f.to_right n) v ∙ h.right_long;
+        within = λ m j. by_equal n m
+            (λ e. subst (λ z. slice_get (slice_set σ n v) z ≡ slice_get (slice_set τ (f.to_right n) v) (f.to_right z)) e
+            (set_here σ n v ∙ ap (instead v) (h.within n i) ∙ sym (set_here τ (f.to_right n) v)))
+            (λ d. set_other σ n m v d ∙ h.within m j ∙ sym (set_other τ (f.to_right n) (f.to_right m) v (λ e. d (one_place n m i j e))));
+        left = λ m q. set_other σ n m v (apart f.in_left n m i q) ∙ h.left m q;
+        right = λ m q. set_other τ (f.to_right n) m v (apart f.in_right (f.to_right n) m (f.there n i).0 q) ∙ h.right m q;
       }
-
-  -- a new place is inside
-  pub new_in : (σ τ : List ValueTerm) → Twins f σ τ → f.inside (length σ) ≡ true
-  new_in σ τ h = by_cases (f.inside (length σ)) (λ e. e) (λ e. let lt = f.early (length σ) e in let g = h.grown in absurd (omega arith))
 
   -- the one store stays where the other does
   pub stays : (σ σ' τ τ' : List ValueTerm) → Twins f σ τ → Twins f σ' τ' → (σ' ≡ σ) ↔ (τ' ≡ τ)
   stays σ σ' τ τ' h q = (
-    (λ e. list_by_places τ' τ (λ n. by_cases (f.inside n)
-        (λ i. sym (q.within n i) ∙ ap (λ z. slice_get z n) e ∙ h.within n i)
+    (λ e. list_by_places τ' τ (λ n. by_cases (f.in_right n)
+        (λ i. let b = f.back n i in subst (λ z. slice_get τ' z ≡ slice_get τ z) b.1
+        (sym (q.within (f.to_left n) b.0) ∙ ap (λ z. slice_get z (f.to_left n)) e ∙ h.within (f.to_left n) b.0))
         (λ o. q.right n o ∙ sym (h.right n o)))),
-    (λ e. list_by_places σ' σ (λ n. by_cases (f.inside n)
-        (λ i. q.within n i ∙ ap (λ z. slice_get z n) e ∙ sym (h.within n i))
+    (λ e. list_by_places σ' σ (λ n. by_cases (f.in_left n)
+        (λ i. q.within n i ∙ ap (λ z. slice_get z (f.to_right n)) e ∙ sym (h.within n i))
         (λ o. q.left n o ∙ sym (h.left n o)))),
   )
 
   -- a tree's value agrees
-  pub value_alike : (t : TreeTerm) (σ τ : List ValueTerm) → TreeIn f.inside t → Twins f σ τ → value_of t σ ≡ value_of t τ
+  pub value_alike : (t : TreeTerm) (σ τ : List ValueTerm) → TreeIn f.in_left t → Twins f σ τ
+      → value_of t σ ≡ value_of (tree_to f.to_right t) τ
   value_alike (edit_tree b v) σ τ h q = refl
   value_alike (enter_tree b) σ τ h q = refl
   value_alike (share_tree b n) σ τ h q = q.within n h
   value_alike (then_tree t k) σ τ h q = refl
   value_alike (next_tree t k) σ τ h q = refl
   value_alike fail_tree σ τ h q = refl
-  value_alike (and_tree t u) σ τ h q = ap (λ z. paired z (value_of u σ)) (value_alike t σ τ h.0 q) ∙ ap (paired (value_of t τ))
-      (value_alike u σ τ h.1 q)
-  value_alike (or_tree t u) σ τ h q = ap (λ z. option_or z (value_of u σ)) (value_alike t σ τ h.0 q) ∙ ap (option_or (value_of t τ))
-      (value_alike u σ τ h.1 q)
+  value_alike (and_tree t u) σ τ h q = ap (λ z. paired z (value_of u σ)) (value_alike t σ τ h.0 q)
+      ∙ ap (paired (value_of (tree_to f.to_right t) τ)) (value_alike u σ τ h.1 q)
+  value_alike (or_tree t u) σ τ h q = ap (λ z. option_or z (value_of u σ)) (value_alike t σ τ h.0 q)
+      ∙ ap (option_or (value_of (tree_to f.to_right t) τ)) (value_alike u σ τ h.1 q)
   value_alike (xor_tree j k) σ τ h q = refl
+
+  -- one tree is another where they are one over the other store
+  pub same_tree : (t u : TreeTerm) → TreeIn f.in_left t → TreeIn f.in_left u → tree_to f.to_right t ≡ tree_to f.to_right u → t ≡ u
+  same_tree t u h q e =
+      let home : (n : ℕ) → f.in_left n ≡ true → f.to_left (f.to_right n) ≡ n = λ n i. (f.there n i).1 in
+      sym (tree_home f.in_left f.to_right f.to_left home t h) ∙ ap (tree_to f.to_left) e
+      ∙ tree_home f.in_left f.to_right f.to_left home u q
+
+  -- the other way round
+  abbrev pub turned : Frame
+  turned = record {
+    left = f.right;
+    right = f.left;
+    in_left = f.in_right;
+    in_right = f.in_left;
+    to_right = f.to_left;
+    to_left = f.to_right;
+    early_left = f.early_right;
+    early_right = f.early_left;
+    there = f.back;
+    back = f.there;
+    new = λ k. ap f.to_left (sym (f.new k)) ∙ (f.there (length f.left + k) (in_new k)).1;
+  }
+
+pub twins_turned : (f : Frame) (σ τ : List ValueTerm) → Twins f σ τ → Twins (turned f) τ σ
+twins_turned f σ τ h =
+    record {
+      more = h.more;
+      left_long = h.right_long;
+      right_long = h.left_long;
+      within = λ n i. let b = f.back n i in ap (slice_get τ) (sym b.1) ∙ sym (h.within (f.to_left n) b.0);
+      left = h.right;
+      right = h.left;
+    }
