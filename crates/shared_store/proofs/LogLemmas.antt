@@ -90,7 +90,7 @@ set_take (suc c) [] i v = refl
 set_take (suc c) (x ∷ xs) zero v = refl
 set_take (suc c) (x ∷ xs) (suc i) v = ap (λ z. x ∷ z) (set_take c xs i v)
 
-take_rewound : {A : Type 0} (c : ℕ) (ws : List (Overwritten A)) (xs : List A) → take c (rewound ws xs) ≡ rewound ws (take c xs)
+pub take_rewound : {A : Type 0} (c : ℕ) (ws : List (Overwritten A)) (xs : List A) → take c (rewound ws xs) ≡ rewound ws (take c xs)
 take_rewound c [] xs = refl
 take_rewound c (w ∷ ws) xs = set_take c (rewound ws xs) w.place w.value ∙ ap (λ z. slice_set z w.place w.value) (take_rewound c ws xs)
 

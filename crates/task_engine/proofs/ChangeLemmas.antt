@@ -2,12 +2,15 @@
 use Rattle.std.proofs.Common.{◌≡◌, ◌↔◌, ◌⊎◌, inl, inr, ℕ, zero, suc, ◌<◌, ◌≤◌, Bool, true, false, cond, true≢false, List, [], ◌∷◌, ◌++◌, length, take, drop, get_or, map, Option, Some, None, refl, sym, ap, ◌∙◌, subst, arith, drop-cons}
 use Rattle.std.specs.Prelude.{slice_get, slice_set, ◌==◌, if◌then◌else◌}
 use Rattle.std.specs.Option.{option_map}
-use Rattle.std.proofs.lemmas.List.{length-map}
+use Rattle.std.proofs.lemmas.List.{length-map, length-set}
+use Rattle.std.proofs.lemmas.Option.{slice_get_past, slice_get_within}
 use Rattle.std.proofs.lemmas.Bool.Decides.{nat_tests}
 use Rattle.task_model.specs.Terms.Value.{ValueTerm, value_term}
 use Rattle.task_model.specs.declared.value.Value.{Value}
 use Rattle.shared_store.specs.declared.store.Overwritten.{Overwritten}
 use Rattle.shared_store.specs.Log.{rewound}
+use Rattle.shared_store.proofs.LogLemmas.{rewound_length}
+use Rattle.task_laws.proofs.StoreLemmas.{past_end, set_there, set_apart}
 use Rattle.task_engine.specs.Writes.{IsSame, IsRight}
 
 -- a place is written by one of these
@@ -23,27 +26,6 @@ abbrev pub SameElsewhere : List (Overwritten Value) → List Value → List Valu
 SameElsewhere seen ys xs = (n : ℕ) → is_written seen n ≡ false → term_at ys n ≡ term_at xs n
 
 -- ---- lists
-set_long : (ys : List Value) (p : ℕ) (v : Value) → length (slice_set ys p v) ≡ length ys
-set_long [] p v = refl
-set_long (y ∷ ys) zero v = refl
-set_long (y ∷ ys) (suc p) v = ap suc (set_long ys p v)
-
-pub rewound_long : (ws : List (Overwritten Value)) (xs : List Value) → length (rewound ws xs) ≡ length xs
-rewound_long [] xs = refl
-rewound_long (w ∷ ws) xs = set_long (rewound ws xs) w.place w.value ∙ rewound_long ws xs
-
-set_there : (ys : List Value) (p : ℕ) (v : Value) → p < length ys → slice_get (slice_set ys p v) p ≡ Some v
-set_there [] p v lt = absurd (omega arith)
-set_there (y ∷ ys) zero v lt = refl
-set_there (y ∷ ys) (suc p) v lt = set_there ys p v (omega arith)
-
-set_apart : (ys : List Value) (p n : ℕ) (v : Value) → (p == n) ≡ false → slice_get (slice_set ys p v) n ≡ slice_get ys n
-set_apart [] p n v e = refl
-set_apart (y ∷ ys) zero zero v e = absurd (true≢false e)
-set_apart (y ∷ ys) zero (suc n) v e = refl
-set_apart (y ∷ ys) (suc p) zero v e = refl
-set_apart (y ∷ ys) (suc p) (suc n) v e = let e' : (p == n) ≡ false = grind (arith, nat_tests, e) in set_apart ys p n v e'
-
 get_map : (xs : List Value) (n : ℕ) → slice_get (map value_term xs) n ≡ term_at xs n
 get_map [] n = refl
 get_map (x ∷ xs) zero = refl
@@ -103,32 +85,19 @@ still_unwritten seen w n e f = written_more seen w n ∙ ap (λ a. cond a true (
 same_place : (p n : ℕ) → (p == n) ≡ true → p ≡ n
 same_place p n e = grind (arith, nat_tests, e)
 
+apart : {p n : ℕ} → (p == n) ≡ false → p ≡ n → ⊥
+apart e f = grind (arith, nat_tests, e, f)
+
 module _ (seen : List (Overwritten Value)) (w : Overwritten Value) (ys xs : List Value) (long : length ys ≡ length xs) where
-  -- out of the list a write changes nothing
-  get_none : (zs : List Value) (n : ℕ) → slice_get zs n ≡ None → (n < length zs) → ⊥
-  get_none [] n e lt = omega (arith, lt)
-  get_none (z ∷ zs) zero e lt = cc
-  get_none (z ∷ zs) (suc n) e lt = get_none zs n e (omega (arith, lt))
-
-  get_some : (zs : List Value) (n : ℕ) (v : Value) → slice_get zs n ≡ Some v → n < length zs
-  get_some [] n v e = absurd (cc)
-  get_some (z ∷ zs) zero v e = omega arith
-  get_some (z ∷ zs) (suc n) v e = let lt = get_some zs n v e in omega (arith, lt)
-
-  get_out : (zs : List Value) (n : ℕ) → length zs ≡ length xs → slice_get xs n ≡ None → slice_get zs n ≡ None
-  get_out zs n l e = by_get (slice_get zs n) refl
-    where
-      by_get : (o : Option Value) → slice_get zs n ≡ o → slice_get zs n ≡ None
-      by_get None h = h
-      by_get (Some v) h = let lt = get_some zs n v h in absurd (get_none xs n e (omega (arith, l, lt)))
-
   -- what it put back
   there : (o : Option Value) → slice_get xs w.place ≡ o → IsSame o w.value
       → term_at (slice_set ys w.place w.value) w.place ≡ term_at xs w.place
   there None e h =
-      ap (option_map value_term) (get_out (slice_set ys w.place w.value) w.place (set_long ys w.place w.value ∙ long) e ∙ sym e)
+      let past = past_end xs w.place e in
+      let same = length-set ys w.place w.value in
+      ap (option_map value_term) (slice_get_past (slice_set ys w.place w.value) w.place (omega (arith, past, same, long)) ∙ sym e)
   there (Some u) e h =
-      let lt = get_some xs w.place u e in
+      let lt = slice_get_within xs w.place u e in
       ap (option_map value_term) (set_there ys w.place w.value (omega (arith, long, lt))) ∙ ap Some (sym h)
       ∙ ap (option_map value_term) (sym e)
 
@@ -136,7 +105,7 @@ module _ (seen : List (Overwritten Value)) (w : Overwritten Value) (ys xs : List
       → IsSame o w.value
   back None e h = tt
   back (Some u) e h =
-      let lt = get_some xs w.place u e in
+      let lt = slice_get_within xs w.place u e in
       let q = sym (ap (option_map value_term) (set_there ys w.place w.value (omega (arith, long, lt)))) ∙ h
       ∙ ap (option_map value_term) e in
       let same : value_term u ≡ value_term w.value = cc in
@@ -152,12 +121,12 @@ module _ (seen : List (Overwritten Value)) (w : Overwritten Value) (ys xs : List
 
       by_test : (b : Bool) → (w.place == n) ≡ b → term_at (slice_set ys w.place w.value) n ≡ term_at xs n
       by_test true h = by_right right (same_place w.place n h)
-      by_test false h = ap (option_map value_term) (set_apart ys w.place n w.value h) ∙ e n (still_unwritten seen w n un h)
+      by_test false h = ap (option_map value_term) (set_apart ys w.place n w.value (apart h)) ∙ e n (still_unwritten seen w n un h)
 
   pub write_down : SameElsewhere seen (slice_set ys w.place w.value) xs → SameElsewhere (seen ++ w ∷ []) ys xs
   write_down e n un =
       let h = unwritten seen w n un in
-      sym (ap (option_map value_term) (set_apart ys w.place n w.value h.1)) ∙ e n h.0
+      sym (ap (option_map value_term) (set_apart ys w.place n w.value (apart h.1))) ∙ e n h.0
 
   pub write_right : SameElsewhere seen (slice_set ys w.place w.value) xs → IsRight w (is_written seen w.place) xs
   write_right e = by_test (is_written seen w.place) refl
@@ -199,7 +168,7 @@ module _ (ws : List (Overwritten Value)) (xs : List Value) (i : ℕ) (w : Overwr
   pub walk_up : IsRight w (is_written (take i ws) w.place) xs → Remains ws xs (suc i) → Remains ws xs i
   walk_up right e =
       subst (λ l. SameElsewhere (take i ws) (rewound l xs) xs) (sym front)
-      (write_up (take i ws) w ys xs (rewound_long (drop (suc i) ws) xs) right
+      (write_up (take i ws) w ys xs (rewound_length (drop (suc i) ws) xs) right
       (subst (λ l. SameElsewhere l ys xs) (take_more ws i w lt is) e))
 
   whole : Remains ws xs i → SameElsewhere (take i ws) (slice_set ys w.place w.value) xs
@@ -208,10 +177,10 @@ module _ (ws : List (Overwritten Value)) (xs : List Value) (i : ℕ) (w : Overwr
   pub walk_down : Remains ws xs i → Remains ws xs (suc i)
   walk_down e =
       subst (λ l. SameElsewhere l ys xs) (sym (take_more ws i w lt is))
-      (write_down (take i ws) w ys xs (rewound_long (drop (suc i) ws) xs) (whole e))
+      (write_down (take i ws) w ys xs (rewound_length (drop (suc i) ws) xs) (whole e))
 
   pub walk_right : Remains ws xs i → IsRight w (is_written (take i ws) w.place) xs
-  walk_right e = write_right (take i ws) w ys xs (rewound_long (drop (suc i) ws) xs) (whole e)
+  walk_right e = write_right (take i ws) w ys xs (rewound_length (drop (suc i) ws) xs) (whole e)
 
 pub walk_end : (ws : List (Overwritten Value)) (xs : List Value) (i : ℕ) → length ws < suc i → Remains ws xs i
 walk_end ws xs i lt = subst (λ l. SameElsewhere (take i ws) (rewound l xs) xs) (sym (drop_all ws i lt)) (λ n un. refl)
@@ -241,7 +210,7 @@ pub layer_short : (o : Option (List Value)) (σ list : List Value) (ws : List (O
     → o ≡ Some σ → count ≤ length list → (count ≡ length list → ⊥) → map value_term list ≡ map value_term σ → ⊥
 layer_short o σ list ws count e f le other same =
     let is = same_some e f in
-    let long = rewound_long ws list in
+    let long = rewound_length ws list in
     let n = ap length (sym is) ∙ take_long (rewound ws list) count (omega (arith, le, long)) in
     let m = sym (length-map list value_term) ∙ ap length same ∙ length-map σ value_term in
     other (omega (arith, n, m))
@@ -251,6 +220,6 @@ pub layer_whole : (o : Option (List Value)) (σ list : List Value) (ws : List (O
     → o ≡ Some (take count (rewound ws list)) → o ≡ Some σ → count ≡ length list
     → (r ≡ true) ↔ (map value_term (rewound ws list) ≡ map value_term list) → (r ≡ true) ↔ (map value_term list ≡ map value_term σ)
 layer_whole o σ list ws count r e f n told =
-    let long = rewound_long ws list in
+    let long = rewound_length ws list in
     let is : rewound ws list ≡ σ = sym (take_all (rewound ws list) count (omega (arith, n, long))) ∙ same_some e f in
     (λ t. sym (told.0 t) ∙ ap (map value_term) is, λ q. told.1 (ap (map value_term) is ∙ sym q))

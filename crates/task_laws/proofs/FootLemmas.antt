@@ -1,5 +1,5 @@
 -- Two stores that agree on a tree's foot, or that hold it alike: its value, failing, tests, offers and widgets agree.
-use Rattle.std.proofs.Common.{◌≡◌, ◌↔◌, ◌≤◌, ◌<◌, ℕ, zero, suc, Bool, true, List, [], ◌∷◌, ◌++◌, length, None, refl, sym, ap, ◌∙◌, subst, arith}
+use Rattle.std.proofs.Common.{◌≡◌, ◌↔◌, ◌<◌, ℕ, Bool, true, List, [], ◌∷◌, ◌++◌, length, refl, sym, ap, ◌∙◌, subst, arith}
 use Rattle.std.specs.Prelude.{nat_le, slice_get, slice_index_or}
 use Rattle.std.specs.List.{All, Contains}
 use Rattle.std.proofs.lemmas.Bool.{leb-true, leb-false}
@@ -19,6 +19,7 @@ use Rattle.task_model.specs.Showing.Widget.{WidgetTerm, AreWidgets}
 use Rattle.task_laws.specs.TreePlaces.{slot_places, places_in}
 use Rattle.task_laws.specs.StoresGo.{StoresGo}
 use Rattle.task_laws.specs.HoldAlike.{HoldAlike}
+use Rattle.task_laws.proofs.StoreLemmas.{past_end}
 use Rattle.task_laws.proofs.RenumberLemmas.{TreeIn, tree_to, tree_stays}
 use Rattle.task_laws.proofs.TwinLemmas.{by_cases, Frame, Twins, turned, twins_turned}
 use Rattle.task_laws.proofs.AlikeLemmas.{Alike}
@@ -95,7 +96,7 @@ module _ (ns : List ℕ) (σ τ : List ValueTerm) (m : Meet ns σ τ) where
           let l = g.left_long in
           let r = g.right_long in
           let same : (n : ℕ) → reached ns (length σ) n ≡ true → slice_get s.store n ≡ slice_get τ' n =
-              λ n q. g.within n q ∙ ap (slice_get τ') (one_number n) in (
+          λ n q. g.within n q ∙ ap (slice_get τ') (one_number n) in (
             record {
               lengths = omega arith;
               grown = omega arith;
@@ -140,19 +141,13 @@ agree_meet ns σ τ a = record {
   homeward = λ n e. renumbered-same (length τ) (length σ) n (sym a.lengths);
 }
 
--- there is no value only where there is no such place
-none_past : (xs : List ValueTerm) (n : ℕ) → slice_get xs n ≡ None → length xs ≤ n
-none_past [] n e = omega arith
-none_past (x ∷ xs) zero e = absurd (cc)
-none_past (x ∷ xs) (suc n) e = let l = none_past xs n e in omega arith
-
 -- stores that hold these places alike
 hold_meet : (ns : List ℕ) (σ τ : List ValueTerm) → HoldAlike ns σ τ → Meet ns σ τ
 hold_meet ns σ τ a = record {
   values = a.values;
   onward = λ n e. renumbered-old (length σ) (length τ) n (a.there n e);
   homeward = λ n e. renumbered-old (length τ) (length σ) n (by_cases (nat_le (length τ) n)
-      (λ q. let past = none_past σ n (a.values n e ∙ slice_get_past τ n (leb-true (length τ) n q)) in
+      (λ q. let past = past_end σ n (a.values n e ∙ slice_get_past τ n (leb-true (length τ) n q)) in
       let lt = a.there n e in
       absurd (omega arith))
       (λ q. leb-false (length τ) n q));

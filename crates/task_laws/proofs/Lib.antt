@@ -6,6 +6,7 @@ mod SignLemmas
 pub mod OfferLemmas
 pub mod OutcomeLemmas
 pub mod RanLemmas
+pub mod StoreLemmas
 mod RenumberLemmas
 mod LikeLemmas
 mod TwinLemmas

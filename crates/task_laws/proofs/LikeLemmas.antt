@@ -129,7 +129,7 @@ module _ (to : ℕ → ℕ) where
         derives_alike zero q ss τ a r n h d = absurd d
         derives_alike (suc k) q ss τ a r n h d =
             let w = work_alike (derives_at step k) (derives_alike k) (Results q ss τ) (step q) (step (over q ss τ)) (like q ss τ a) r n d.below
-                d.part
+            d.part
             in (
               w.2.0,
               record {

@@ -160,15 +160,25 @@ module _ (ns : List ℕ) (σ τ : List ValueTerm) (values : (n : ℕ) → among 
     early_left = reached-early ns (length σ);
     early_right = reached-early ns (length τ);
     there = λ n e. one_or_new (length σ) n e
-        (λ q. (ap (reached ns (length τ)) (onward n q) ∙ reached-among ns (length τ) n q,
-        ap (renumbered (length τ) (length σ)) (onward n q) ∙ homeward n q))
-        (λ le. (ap (reached ns (length τ)) (renumbered-new (length σ) (length τ) n le)
-        ∙ reached-new ns (length τ) (length τ + (n - length σ)) (omega arith), renumbered-back (length σ) (length τ) n le));
+        (λ q. (
+          ap (reached ns (length τ)) (onward n q) ∙ reached-among ns (length τ) n q,
+          ap (renumbered (length τ) (length σ)) (onward n q) ∙ homeward n q,
+        ))
+        (λ le. (
+          ap (reached ns (length τ)) (renumbered-new (length σ) (length τ) n le)
+              ∙ reached-new ns (length τ) (length τ + (n - length σ)) (omega arith),
+          renumbered-back (length σ) (length τ) n le,
+        ));
     back = λ n e. one_or_new (length τ) n e
-        (λ q. (ap (reached ns (length σ)) (homeward n q) ∙ reached-among ns (length σ) n q,
-        ap (renumbered (length σ) (length τ)) (homeward n q) ∙ onward n q))
-        (λ le. (ap (reached ns (length σ)) (renumbered-new (length τ) (length σ) n le)
-        ∙ reached-new ns (length σ) (length σ + (n - length τ)) (omega arith), renumbered-back (length τ) (length σ) n le));
+        (λ q. (
+          ap (reached ns (length σ)) (homeward n q) ∙ reached-among ns (length σ) n q,
+          ap (renumbered (length σ) (length τ)) (homeward n q) ∙ onward n q,
+        ))
+        (λ le. (
+          ap (reached ns (length σ)) (renumbered-new (length τ) (length σ) n le)
+              ∙ reached-new ns (length σ) (length σ + (n - length τ)) (omega arith),
+          renumbered-back (length τ) (length σ) n le,
+        ));
     new = λ k. renumbered-new (length σ) (length τ) (length σ + k) (omega arith) ∙ omega arith;
   }
 

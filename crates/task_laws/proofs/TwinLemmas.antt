@@ -1,5 +1,5 @@
 -- Two stores on their way from two others: inside they agree, number by number, and outside each is as it was.
-use Rattle.std.proofs.Common.{◌≡◌, ◌↔◌, ◌<◌, ◌+◌, ℕ, zero, suc, Bool, true, false, List, [], ◌∷◌, ◌++◌, length, Option, Some, None, refl, sym, ap, ◌∙◌, subst, arith}
+use Rattle.std.proofs.Common.{◌≡◌, ◌↔◌, ◌<◌, ◌+◌, ℕ, suc, Bool, true, false, List, [], ◌∷◌, ◌++◌, length, refl, sym, ap, ◌∙◌, subst, arith}
 use Rattle.std.specs.Prelude.{◌==◌, slice_get, slice_set}
 use Rattle.std.specs.Option.{option_or}
 use Rattle.std.proofs.lemmas.Bool.{eq-eqb, eqb-true}
@@ -7,44 +7,8 @@ use Rattle.std.proofs.lemmas.List.{length-set, length_push}
 use Rattle.task_model.specs.Terms.Value.{ValueTerm}
 use Rattle.task_model.specs.Terms.Tree.{TreeTerm, edit_tree, enter_tree, share_tree, then_tree, next_tree, fail_tree, and_tree, or_tree, xor_tree}
 use Rattle.task_model.specs.Running.Rules.{paired, value_of}
+use Rattle.task_laws.proofs.StoreLemmas.{list_by_places, instead, set_here, set_apart, push_here, push_other}
 use Rattle.task_laws.proofs.RenumberLemmas.{TreeIn, tree_to, tree_home}
-
--- ---- lists, place by place
-list_by_places : {A : Type 0} (xs ys : List A) → ((n : ℕ) → slice_get xs n ≡ slice_get ys n) → xs ≡ ys
-list_by_places [] [] e = refl
-list_by_places [] (y ∷ ys) e = let first = e 0 in absurd (cc)
-list_by_places (x ∷ xs) [] e = let first = e 0 in absurd (cc)
-list_by_places (x ∷ xs) (y ∷ ys) e =
-    let first = e 0 in
-    let rest = list_by_places xs ys (λ n. e (suc n)) in
-    cc
-
--- another value where there is one
-abbrev instead : {A : Type 0} → A → Option A → Option A
-instead v None = None
-instead v (Some x) = Some v
-
-set_here : {A : Type 0} (xs : List A) (n : ℕ) (v : A) → slice_get (slice_set xs n v) n ≡ instead v (slice_get xs n)
-set_here [] n v = refl
-set_here (x ∷ xs) zero v = refl
-set_here (x ∷ xs) (suc n) v = set_here xs n v
-
-set_other : {A : Type 0} (xs : List A) (n m : ℕ) (v : A) → (n ≡ m → ⊥) → slice_get (slice_set xs n v) m ≡ slice_get xs m
-set_other [] n m v d = refl
-set_other (x ∷ xs) zero zero v d = absurd (d refl)
-set_other (x ∷ xs) zero (suc m) v d = refl
-set_other (x ∷ xs) (suc n) zero v d = refl
-set_other (x ∷ xs) (suc n) (suc m) v d = set_other xs n m v (λ e. d (ap suc e))
-
-push_here : {A : Type 0} (xs : List A) (v : A) → slice_get (xs ++ v ∷ []) (length xs) ≡ Some v
-push_here [] v = refl
-push_here (x ∷ xs) v = push_here xs v
-
-push_other : {A : Type 0} (xs : List A) (v : A) (n : ℕ) → (n ≡ length xs → ⊥) → slice_get (xs ++ v ∷ []) n ≡ slice_get xs n
-push_other [] v zero d = absurd (d refl)
-push_other [] v (suc n) d = refl
-push_other (x ∷ xs) v zero d = refl
-push_other (x ∷ xs) v (suc n) d = push_other xs v n (λ e. d (ap suc e))
 
 pub by_cases : {P : Type 0} (b : Bool) → (b ≡ true → P) → (b ≡ false → P) → P
 by_cases true f g = f refl
@@ -128,9 +92,9 @@ module _ (f : Frame) where
         within = λ m j. by_equal n m
             (λ e. subst (λ z. slice_get (slice_set σ n v) z ≡ slice_get (slice_set τ (f.to_right n) v) (f.to_right z)) e
             (set_here σ n v ∙ ap (instead v) (h.within n i) ∙ sym (set_here τ (f.to_right n) v)))
-            (λ d. set_other σ n m v d ∙ h.within m j ∙ sym (set_other τ (f.to_right n) (f.to_right m) v (λ e. d (one_place n m i j e))));
-        left = λ m q. set_other σ n m v (apart f.in_left n m i q) ∙ h.left m q;
-        right = λ m q. set_other τ (f.to_right n) m v (apart f.in_right (f.to_right n) m (f.there n i).0 q) ∙ h.right m q;
+            (λ d. set_apart σ n m v d ∙ h.within m j ∙ sym (set_apart τ (f.to_right n) (f.to_right m) v (λ e. d (one_place n m i j e))));
+        left = λ m q. set_apart σ n m v (apart f.in_left n m i q) ∙ h.left m q;
+        right = λ m q. set_apart τ (f.to_right n) m v (apart f.in_right (f.to_right n) m (f.there n i).0 q) ∙ h.right m q;
       }
 
   -- the one store stays where the other does

@@ -1,5 +1,7 @@
 -- The places in a tree, from left to right, each as often as it stands there (docs/RULES.md, "Feet").
-use Rattle.std.specs.Prelude.{ℕ, List, [], ◌∷◌, ◌++◌}
+use Rattle.std.specs.Prelude.{◌<◌, ℕ, List, [], ◌∷◌, ◌++◌, length}
+use Rattle.std.specs.List.{All}
+use Rattle.task_model.specs.Terms.Value.{ValueTerm}
 use Rattle.task_model.specs.Terms.Env.{SlotTerm, plain_slot, place_slot}
 use Rattle.task_model.specs.Terms.Tree.{TreeTerm, edit_tree, enter_tree, share_tree, then_tree, next_tree, fail_tree, and_tree, or_tree, xor_tree}
 
@@ -20,3 +22,7 @@ places_in fail_tree = []
 places_in (and_tree t u) = places_in t ++ places_in u
 places_in (or_tree t u) = places_in t ++ places_in u
 places_in (xor_tree j k) = slot_places j.slots ++ slot_places k.slots
+
+-- a store has each place that is in a tree
+abbrev pub HasPlaces : List ValueTerm → TreeTerm → Type 0
+HasPlaces σ t = All (λ n. n < length σ) (places_in t)

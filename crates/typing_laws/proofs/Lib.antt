@@ -6,6 +6,7 @@ pub mod PartLemmas
 pub mod StandLemmas
 pub mod TaskLemmas
 pub mod TreeLemmas
+mod TreePlaceLemmas
 pub mod DefinitionLemmas
 pub mod TextLemmas
 pub mod ParsedLemmas

@@ -21,7 +21,8 @@ ghost use Rattle.task_model.specs.Running.Handling.{Handles, Interacts, handles,
 ghost use Rattle.task_model.specs.Running.State.{IsOpening, IsState};
 ghost use Rattle.task_model.specs.Checking.Accepted.{IsAccepted, typed_program};
 ghost use Rattle.task_model.specs.Checking.ProgramParts.{expression_part, task_part, IsPart};
-ghost use Rattle.task_model.specs.Checking.Fits.{StoreHas, EnvHas, any_call, LaterHas, TreeHas, StateHas};
+ghost use Rattle.task_model.specs.Checking.Fits.{StoreHas, EnvHas, any_call, LaterHas, TreeHas, StateHas, Fits};
+ghost use Rattle.task_laws.specs.TreePlaces.{HasPlaces};
 ghost use Rattle.typing_laws.specs.Assumed.{task_in_place, Typing, Grows, Kept, ExpressionFits, EvaluationFits, main_type};
 ghost use Rattle.typing_laws.specs.ProgramFacts.{ProgramFacts};
 ghost use Rattle.typing_laws.specs.Well.{MayAsk, Well};
@@ -96,6 +97,11 @@ pub fn parts_are_typed()
 pub fn tree_values_have_the_type()
     ensures { (c : CheckedTerm) (Σ : List BasicTerm) (s : State) (b : BasicTerm) (v : ValueTerm) → StateHas c Σ s b →
         value_of s.tree s.store ≡ Some v → value_has v b ≡ true }
+{}
+
+/// The store of a state that fits a program has each place of its tree.
+pub fn fitting_trees_have_their_places()
+    ensures { (c : CheckedTerm) (s : State) → Fits c s → HasPlaces s.store s.tree }
 {}
 
 /// What fits over a list of the places' types fits over one that it has grown to: the list of a fitting store serves all that fitted

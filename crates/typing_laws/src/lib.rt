@@ -5,6 +5,7 @@
 mod laws;
 
 pub use laws::{
-    definitions_and_bodies_stand, grown_lists_serve, histories_fit, opening_fits, parts_are_typed,
-    tree_values_have_the_type, typed_plans_go_on, types_are_kept, types_are_unique,
+    definitions_and_bodies_stand, fitting_trees_have_their_places, grown_lists_serve,
+    histories_fit, opening_fits, parts_are_typed, tree_values_have_the_type, typed_plans_go_on,
+    types_are_kept, types_are_unique,
 };
