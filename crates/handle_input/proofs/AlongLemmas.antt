@@ -1,9 +1,10 @@
 -- What an input leads to where no stride changes anything differs along its path alone.
-use Rattle.std.proofs.Common.{◌≡◌, ◌↔◌, ◌≤◌, ℕ, zero, suc, Bool, true, List, length, take, map, Option, None, Some, Result, Ok, Err, refl, sym, ap, ◌∙◌, subst, arith}
+use Rattle.std.proofs.Common.{◌≡◌, ◌↔◌, ◌≤◌, ◌<◌, ℕ, zero, suc, Bool, true, false, List, [], length, take, map, Option, None, Some, Result, Ok, Err, refl, sym, ap, ◌∙◌, subst, arith}
 use Rattle.std.proofs.lemmas.List.{length-map, length-take-le}
 use Rattle.std.proofs.lemmas.Option.{slice_get_past}
 use Rattle.std.specs.Prelude.{IfOk, IfSome, slice_get}
 use Rattle.std.specs.Option.{option_or}
+use Rattle.core.specs.Bool.{then_some}
 use Rattle.task_model.specs.Terms.Left.{Left}
 use Rattle.task_model.specs.Terms.Value.{ValueTerm, value_term}
 use Rattle.task_model.specs.Terms.Tree.{TreeTerm, edit_tree, enter_tree, share_tree, then_tree, next_tree, fail_tree, and_tree, or_tree, xor_tree, tree_term, State, at}
@@ -19,7 +20,7 @@ use Rattle.task_model.specs.Running.Work.{Work, gives}
 use Rattle.task_model.specs.declared.input.Turn.{Turn}
 use Rattle.task_model.specs.declared.purse.Stop.{Stop}
 use Rattle.task_engine.specs.Quiet.{IsQuiet, IsQuietBeside, FiresNothing}
-use Rattle.handle_input.specs.Beside.{FiresNothingBeside, HasAsMany}
+use Rattle.handle_input.specs.Beside.{FiresNothingBeside}
 use Rattle.task_engine.proofs.QuietLemmas.{beside_address}
 use Rattle.task_laws.specs.ActsAt.{ActsAt}
 use Rattle.task_model.specs.declared.value.Value.{Value}
@@ -27,7 +28,10 @@ use Rattle.shared_store.specs.Layered.{Layered}
 use Rattle.shared_store.specs.Log.{rewound}
 use Rattle.shared_store.specs.declared.store.Overwritten.{Overwritten}
 use Rattle.kept_nodes.specs.Along.{DiffersAlong}
-use Rattle.kept_nodes.proofs.ChangeLemmas.{past_end, rewound_long}
+use Rattle.kept_nodes.proofs.AloneLemmas.{all_left, all_right}
+use Rattle.task_laws.proofs.StoreLemmas.{past_end}
+use Rattle.task_laws.specs.TreePlaces.{slot_places, places_in, HasPlaces}
+use Rattle.std.proofs.lemmas.List.Elements.{All-head}
 use Rattle.handle_input.specs.declared.led.Led.{Led}
 
 -- ---- settling in one unit
@@ -115,7 +119,7 @@ beside_along : {path : List Turn} {old new : TreeTerm} {σ : List ValueTerm} →
     → FiresNothingBeside path new σ
 beside_along {path = path} {old = old} {new = new} {σ = σ} d r = record { quiet = beside_at path old new σ 999 d r.quiet }
 
--- ---- over as many values
+-- ---- over other values at the places that a tree has
 no_none : {v : ValueTerm} → Some v ≡ None → ⊥
 no_none e = cc
 
@@ -129,58 +133,60 @@ or_none : (o o' p p' : Option ValueTerm) → (o ≡ None → o' ≡ None) → (p
 or_none None o' p p' f g e = ap (λ z. option_or z p') (f refl) ∙ g e
 or_none (Some v) o' p p' f g e = absurd (no_none e)
 
-module _ (σ τ : List ValueTerm) (long : length σ ≡ length τ) where
-  no_value : (t : TreeTerm) → value_of t σ ≡ None → value_of t τ ≡ None
-  no_value (edit_tree b v) e = absurd (no_none e)
-  no_value (enter_tree b) e = refl
-  no_value (share_tree b n) e = let past = past_end σ n e in slice_get_past τ n (omega (arith, past, long))
-  no_value (then_tree t k) e = refl
-  no_value (next_tree t k) e = refl
-  no_value fail_tree e = refl
-  no_value (and_tree t u) e =
-      paired_none (value_of t σ) (value_of t τ) (value_of u σ) (value_of u τ) (no_value t) (no_value u) e
-  no_value (or_tree t u) e = or_none (value_of t σ) (value_of t τ) (value_of u σ) (value_of u τ) (no_value t) (no_value u) e
-  no_value (xor_tree i k) e = refl
+module _ (σ τ : List ValueTerm) where
+  abbrev There : ℕ → Type 0
+  There n = n < length σ
 
-  quiet_there : (t : TreeTerm) (j : ℕ) → IsQuiet t σ j → IsQuiet t τ j
-  quiet_there t zero q = absurd q
-  quiet_there (edit_tree b v) (suc j) q = tt
-  quiet_there (enter_tree b) (suc j) q = tt
-  quiet_there (share_tree b n) (suc j) q = tt
-  quiet_there (then_tree t k) (suc j) q = (quiet_there t j q.0, no_value t q.1)
-  quiet_there (next_tree t k) (suc j) q = quiet_there t j q
-  quiet_there fail_tree (suc j) q = tt
-  quiet_there (and_tree t u) (suc j) q = (quiet_there t j q.0, quiet_there u j q.1)
-  quiet_there (or_tree t u) (suc j) q =
-      ((quiet_there t j q.0.0, no_value t q.0.1), (quiet_there u j q.1.0, no_value u q.1.1))
-  quiet_there (xor_tree i k) (suc j) q = tt
+  -- a tree that has no value over a store with all its places has none over any store
+  no_value : (t : TreeTerm) → HasPlaces σ t → value_of t σ ≡ None → value_of t τ ≡ None
+  no_value (edit_tree b v) h e = absurd (no_none e)
+  no_value (enter_tree b) h e = refl
+  no_value (share_tree b n) h e = let past = past_end σ n e in let lt = All-head There n [] h in absurd (omega (arith, past, lt))
+  no_value (then_tree t k) h e = refl
+  no_value (next_tree t k) h e = refl
+  no_value fail_tree h e = refl
+  no_value (and_tree t u) h e = paired_none (value_of t σ) (value_of t τ) (value_of u σ) (value_of u τ)
+      (no_value t (all_left There (places_in t) (places_in u) h)) (no_value u (all_right There (places_in t) (places_in u) h)) e
+  no_value (or_tree t u) h e = or_none (value_of t σ) (value_of t τ) (value_of u σ) (value_of u τ)
+      (no_value t (all_left There (places_in t) (places_in u) h)) (no_value u (all_right There (places_in t) (places_in u) h)) e
+  no_value (xor_tree i k) h e = refl
 
-  fires_there : (t : TreeTerm) → FiresNothing t σ → FiresNothing t τ
-  fires_there t r = record { quiet = quiet_there t 999 r.quiet }
+  quiet_there : (t : TreeTerm) (j : ℕ) → HasPlaces σ t → IsQuiet t σ j → IsQuiet t τ j
+  quiet_there t zero h q = absurd q
+  quiet_there (edit_tree b v) (suc j) h q = tt
+  quiet_there (enter_tree b) (suc j) h q = tt
+  quiet_there (share_tree b n) (suc j) h q = tt
+  quiet_there (then_tree t k) (suc j) h q =
+      let left = all_left There (places_in t) (slot_places k.slots) h in
+      (quiet_there t j left q.0, no_value t left q.1)
+  quiet_there (next_tree t k) (suc j) h q = quiet_there t j (all_left There (places_in t) (slot_places k.slots) h) q
+  quiet_there fail_tree (suc j) h q = tt
+  quiet_there (and_tree t u) (suc j) h q = (
+    quiet_there t j (all_left There (places_in t) (places_in u) h) q.0,
+    quiet_there u j (all_right There (places_in t) (places_in u) h) q.1,
+  )
+  quiet_there (or_tree t u) (suc j) h q =
+      let first = all_left There (places_in t) (places_in u) h in
+      let second = all_right There (places_in t) (places_in u) h in
+      ((quiet_there t j first q.0.0, no_value t first q.0.1), (quiet_there u j second q.1.0, no_value u second q.1.1))
+  quiet_there (xor_tree i k) (suc j) h q = tt
 
-some_list : {xs ys : List Value} → Some xs ≡ Some ys → xs ≡ ys
-some_list e = cc
+  fires_there : (t : TreeTerm) → HasPlaces σ t → FiresNothing t σ → FiresNothing t τ
+  fires_there t h r = record { quiet = quiet_there t 999 h r.quiet }
 
--- a store to which no place was added
-pub as_many : (s : Layered Value) (ws : List (Overwritten Value)) (count : ℕ) → slice_get s.layers 0 ≡ Some (take count (rewound ws s.list))
-    → count ≡ length s.list → HasAsMany s
-as_many s ws count undone all σ there =
-    let long = rewound_long ws s.list in
-    ap length (some_list (sym there ∙ undone)) ∙ length-take-le count (rewound ws s.list) (omega (arith, long, all)) ∙ all
+-- a path that is told where nothing fires
+pub some_told : {X : Type 0} (now : X → List Turn) (b : Bool) (o : Option X) (x : X) → o ≡ then_some b x
+    → IfSome o (λ y. (now y ≡ now x) × (b ≡ true))
+some_told now true o x e = subst (λ z. IfSome z (λ y. (now y ≡ now x) × (true ≡ true))) (sym e) (refl, refl)
+some_told now false o x e = subst (λ z. IfSome z (λ y. (now y ≡ now x) × (false ≡ true))) (sym e) tt
 
 -- the same of the path that is told, if one is
-pub beside_told : {X : Type 0} (now : X → List Turn) (o : Option X) (path turns : List Turn) (t u : TreeTerm) (σ : List Value)
-    (ls : List (List Value)) (s : Layered Value) (quiet : Bool) → turns ≡ path → s.layers ≡ ls → slice_get ls 0 ≡ Some σ
-    → (quiet ≡ true → FiresNothing t (map value_term σ)) → DiffersAlong path t u
-    → IfSome o (λ x. (now x ≡ turns) × (quiet ≡ true) × HasAsMany s)
-    → IfSome o (λ x. FiresNothingBeside (now x) u (map value_term s.list))
-beside_told now None path turns t u σ ls s quiet way layers begun fires d h = tt
-beside_told now (Some x) path turns t u σ ls s quiet way layers begun fires d h =
-    let there : slice_get s.layers 0 ≡ Some σ = ap (λ z. slice_get z 0) layers ∙ begun in
-    let long : length (map value_term σ) ≡ length (map value_term s.list) =
-    length-map σ value_term ∙ h.2 σ there ∙ sym (length-map s.list value_term) in
-    subst (λ z. FiresNothingBeside z u (map value_term s.list)) (sym (h.0 ∙ way))
-    (beside_along d (fires_there (map value_term σ) (map value_term s.list) long t (fires h.1)))
+pub beside_told : {X : Type 0} (now : X → List Turn) (o : Option X) (path turns : List Turn) (t u : TreeTerm) (σ τ : List ValueTerm)
+    (quiet : Bool) → turns ≡ path → HasPlaces σ t → (quiet ≡ true → FiresNothing t σ) → DiffersAlong path t u
+    → IfSome o (λ x. (now x ≡ turns) × (quiet ≡ true)) → IfSome o (λ x. FiresNothingBeside (now x) u τ)
+beside_told now None path turns t u σ τ quiet way there fires d h = tt
+beside_told now (Some x) path turns t u σ τ quiet way there fires d h =
+    subst (λ z. FiresNothingBeside z u τ) (sym (h.0 ∙ way)) (beside_along d (fires_there σ τ t there (fires h.1)))
 
 -- at the height that settling leaves
 pub beside_below : {X : Type 0} (now : X → List Turn) (o : Option X) (t : TreeTerm) (σ : List ValueTerm) (height : ℕ) → height ≡ 1000

@@ -14,7 +14,7 @@ ghost use Rattle.typing_laws.specs.Well.{Well};
 ghost use Rattle.task_engine.specs.Quiet.{FiresNothing};
 ghost use Rattle.kept_nodes.specs.Along.{DiffersAlong};
 ghost use Rattle.handle_input.specs.Answers.{plan_answer, told_tree, TellsOutcome};
-ghost use Rattle.handle_input.specs.Beside.{FiresNothingBeside, HasAsMany};
+ghost use Rattle.handle_input.specs.Beside.{FiresNothingBeside};
 
 use crate::ending::ended;
 use crate::handling::handled;
@@ -24,6 +24,7 @@ use task_engine::settle_beside;
 use task_evaluation::Engine;
 use task_laws::inputs_act_at_their_address;
 use task_model::{ActStop, Input, Purse, Stop, Tree, Turn, Value};
+use typing_laws::fitting_trees_have_their_places;
 
 /// Handles an input: the tree that it leads to, over the values that it leaves in the store. `NotOffered` comes where the input is
 /// lacking, and `Over` where neither shows within the purse. A refusal leaves the values as they were.
@@ -51,8 +52,8 @@ pub fn handle(
 }
 
 /// Handles an input and settles the state that it leads to, with a purse of so many units and the full height. `Ok` has the tree,
-/// over the values that the store has then. A refusal leaves the values as they were. Where it is known that nothing fires in the tree (`quiet`), and
-/// the input adds no place, no more than what stands along the input's path is looked at for what fires.
+/// over the values that the store has then. A refusal leaves the values as they were. Where it is known that nothing fires in the tree (`quiet`), no
+/// more than what stands along the input's path is looked at for what fires.
 pub fn interact(
     engine: &Engine,
     t: &Tree,
@@ -90,7 +91,6 @@ fn interacted(
     requires accepted { IsAccepted (checked_term engine.now) }
     requires fits { Fits (checked_term engine.now) (at (tree_term t.now) (map value_term store.old.list)) }
     requires quiet { quiet ≡ true → FiresNothing (tree_term t.now) (map value_term store.old.list) }
-    requires begun { slice_get store.old.layers 0 ≡ Some store.old.list }
     requires height { purse.old.height ≡ 1000 }
     ensures held { IfOk result (λ o. IfSome o (λ led. IsHeldAct (input_term input.now).act)) }
     ensures layers { store.new.layers ≡ store.old.layers }
@@ -102,36 +102,17 @@ fn interacted(
     ensures quiet { IfOk result (λ o. IfSome o (λ led. led.quiet ≡ true → FiresNothing (tree_term led.tree) (map value_term store.new.list))) }
 {
     inputs_act_at_their_address();
+    fitting_trees_have_their_places();
     let turns = input.path.turns.as_slice();
     let led = handled(engine, t, store, turns, &input.act, purse)?;
     match led {
         None => Ok(None),
         Some(u) => {
-            let beside = path_alone(quiet, turns, store);
+            // Whether a part beside the path has a value depends on no value of the store.
+            let beside = quiet.then_some(turns);
             settled(engine, u, beside, store, purse)
         }
     }
-}
-
-// The path of an input to a tree in which nothing fires, where no place was added since the newest layer began. Beside it nothing fires then,
-// whatever was written: whether a part has a value depends on how many places there are, and not on what they hold.
-fn path_alone<'a>(quiet: bool, turns: &'a [Turn], store: &Store<Value>) -> Option<&'a [Turn]>
-    requires { 0 < length store.now.layers }
-    ensures { IfSome result (λ path. (path.now ≡ turns.now) × (quiet ≡ true) × HasAsMany store.now) }
-{
-    if quiet && added_no_place(store) {
-        Some(turns)
-    } else {
-        None
-    }
-}
-
-// Whether no place was added since the newest layer began.
-fn added_no_place(store: &Store<Value>) -> bool
-    requires { 0 < length store.now.layers }
-    ensures { result ≡ true → HasAsMany store.now }
-{
-    store.changes().count == store.as_slice().len() as u64
 }
 
 // The state settles. Where that takes one unit its one stride changes nothing.

@@ -1,16 +1,19 @@
 -- A node is its own part and its parts.
-use Rattle.std.proofs.Common.{◌≡◌, ◌↔◌, ℕ, false, List, [], ◌∷◌, ◌++◌, length, take, Option, None, Some, refl, sym, ap, ◌∙◌, subst}
-use Rattle.std.specs.Prelude.{slice_get}
+use Rattle.std.proofs.Common.{◌≡◌, ◌↔◌, ◌<◌, ℕ, Bool, true, false, List, [], ◌∷◌, ◌++◌, length, Option, None, Some, refl, sym, ap, ◌∙◌, subst, arith}
+use Rattle.std.specs.Prelude.{◌||◌, slice_get, nat_eq, nat_le}
+use Rattle.std.specs.HashSet.{contains}
+use Rattle.std.proofs.lemmas.Bool.{leb-false}
+use Rattle.std.proofs.lemmas.Bool.Decides.{nat_tests}
 use Rattle.std.specs.List.{All}
-use Rattle.std.proofs.Math.Seq.{take-length}
 use Rattle.std.proofs.lemmas.List.Elements.{All-nil, All-cons, All-head, All-tail, All-append}
 use Rattle.task_model.specs.Terms.Value.{ValueTerm}
 use Rattle.task_model.specs.Terms.Tree.{LaterTerm, TreeTerm, edit_tree, enter_tree, share_tree, then_tree, next_tree, fail_tree, and_tree, or_tree, xor_tree}
-use Rattle.task_model.specs.Running.Foot.{foot, AgreeOn}
+use Rattle.task_model.specs.Running.Foot.{foot}
 use Rattle.task_model.specs.Running.Address.{Address, into_left, into_first, into_second, node_at}
-use Rattle.task_laws.specs.TreePlaces.{slot_places, places_in}
+use Rattle.task_laws.specs.TreePlaces.{slot_places, places_in, HasPlaces}
+use Rattle.task_laws.specs.HoldAlike.{HoldAlike}
 use Rattle.kept_nodes.specs.Kept.{node_in, IsKeptIn}
-use Rattle.kept_nodes.specs.Changed.{AreChanges}
+use Rattle.kept_nodes.specs.Changed.{AreChanges, is_changed}
 use Rattle.kept_nodes.specs.Own.{alone, AreUnchanged, LaterStays, StaysAlone}
 use Rattle.kept_nodes.specs.NodeParts.{left_part_of, first_part_of, second_part_of}
 use Rattle.kept_nodes.specs.declared.changed.Changed.{Changed}
@@ -31,6 +34,14 @@ unchanged_append c (x ∷ xs) ys p q = (p.0, unchanged_append c xs ys p.1 q)
 unchanged_parts : (c : Changed) (xs ys : List ℕ) → AreUnchanged c (xs ++ ys) → AreUnchanged c xs × AreUnchanged c ys
 unchanged_parts c [] ys p = (tt, p)
 unchanged_parts c (x ∷ xs) ys p = let q = unchanged_parts c xs ys p.1 in ((p.0, q.0), q.1)
+
+-- ---- neither of two tests
+neither : (a b : Bool) → (a || b) ≡ false → (a ≡ false) × (b ≡ false)
+neither true b e = absurd (cc)
+neither false b e = (refl, e)
+
+pub lt-leb : (k n : ℕ) → n < k → nat_le k n ≡ false
+lt-leb k n lt = grind (arith, nat_tests, lt)
 
 -- ---- a node of what is left of it alone, and of its parts
 abbrev joined : TreeTerm → Option TreeTerm → Option TreeTerm → Option TreeTerm → TreeTerm
@@ -65,11 +76,25 @@ here : (o : Option TreeTerm) (t : TreeTerm) → node_in o [] ≡ Some t → o �
 here None t e = absurd (none_some e)
 here (Some s) t e = e
 
-module _ (agreeing : (t : TreeTerm) (σ τ : List ValueTerm)
-    → AgreeOn (foot t) σ τ ↔ ((length σ ≡ length τ) × All (λ n. slice_get σ n ≡ slice_get τ n) (places_in t)))
-    (σ τ : List ValueTerm) where
+-- what holds of all places of a tree holds of its root's own ones
+own_places : (P : ℕ → Type 0) (t : TreeTerm) → All P (places_in t) → All P (places_in (alone t))
+own_places P (then_tree l k) h = all_right P (places_in l) (slot_places k.slots) h
+own_places P (next_tree l k) h = all_right P (places_in l) (slot_places k.slots) h
+own_places P (and_tree t u) h = All-nil P
+own_places P (or_tree t u) h = All-nil P
+own_places P (edit_tree b v) h = h
+own_places P (enter_tree b) h = h
+own_places P (share_tree b n) h = h
+own_places P fail_tree h = h
+own_places P (xor_tree i j) h = h
+
+pub own_there : (σ : List ValueTerm) (t : TreeTerm) → HasPlaces σ t → HasPlaces σ (alone t)
+own_there σ t h = own_places (λ n. n < length σ) t h
+
+module _ (holding : (t : TreeTerm) (σ τ : List ValueTerm)
+    → HoldAlike (foot t) σ τ ↔ All (λ n. (n < length σ) × (slice_get σ n ≡ slice_get τ n)) (places_in t)) (σ τ : List ValueTerm) where
   abbrev Same : ℕ → Type 0
-  Same n = slice_get σ n ≡ slice_get τ n
+  Same n = (n < length σ) × (slice_get σ n ≡ slice_get τ n)
 
   -- of the places of a tree those of a node in it are some
   places_below : (t : TreeTerm) (a : Address) (u : TreeTerm) → node_at t a ≡ Some u → All Same (places_in t) → All Same (places_in u)
@@ -92,24 +117,22 @@ module _ (agreeing : (t : TreeTerm) (σ τ : List ValueTerm)
   places_below (and_tree t s) (into_left ∷ a) u e h = absurd (none_some e)
   places_below (or_tree t s) (into_left ∷ a) u e h = absurd (none_some e)
 
-  pub agree_below : (t : TreeTerm) (a : Address) (u : TreeTerm) → node_at t a ≡ Some u → AgreeOn (foot t) σ τ → AgreeOn (foot u) σ τ
-  agree_below t a u e h =
-      let all = (agreeing t σ τ).0 h in
-      (agreeing u σ τ).1 (all.0, places_below t a u e all.1)
+  pub held_below : (t : TreeTerm) (a : Address) (u : TreeTerm) → node_at t a ≡ Some u → HoldAlike (foot t) σ τ → HoldAlike (foot u) σ τ
+  held_below t a u e h = (holding u σ τ).1 (places_below t a u e ((holding t σ τ).0 h))
 
   -- what is kept at the root
-  pub root_kept : (o : Option TreeTerm) (t : TreeTerm) → IsKeptIn σ τ o t [] → (o ≡ Some t) × AgreeOn (foot t) σ τ
+  pub root_kept : (o : Option TreeTerm) (t : TreeTerm) → IsKeptIn σ τ o t [] → (o ≡ Some t) × HoldAlike (foot t) σ τ
   root_kept o t k =
       let same : k.node ≡ t = sym (some_same k.after) in
-      (here o t (k.before ∙ ap Some same), subst (λ z. AgreeOn (foot z) σ τ) same k.agree)
+      (here o t (k.before ∙ ap Some same), subst (λ z. HoldAlike (foot z) σ τ) same k.held)
 
-  pub root_stays : (o : Option TreeTerm) (t : TreeTerm) → o ≡ Some t → AgreeOn (foot t) σ τ → IsKeptIn σ τ o t []
-  root_stays o t e h = record { node = t; before = ap (λ z. node_in z []) e; after = refl; agree = h }
+  pub root_stays : (o : Option TreeTerm) (t : TreeTerm) → o ≡ Some t → HoldAlike (foot t) σ τ → IsKeptIn σ τ o t []
+  root_stays o t e h = record { node = t; before = ap (λ z. node_in z []) e; after = refl; held = h }
 
   -- a part of a tree that is kept at its root is kept at its own
   part_kept : (x t : TreeTerm) (d : Address) (o : Option TreeTerm) (u : TreeTerm) → o ≡ Some u → node_at t d ≡ Some u
-      → AgreeOn (foot t) σ τ → IsKeptIn σ τ o u []
-  part_kept x t d o u e is h = root_stays o u e (agree_below t d u is h)
+      → HoldAlike (foot t) σ τ → IsKeptIn σ τ o u []
+  part_kept x t d o u e is h = root_stays o u e (held_below t d u is h)
 
   -- what the parts of a node have to keep
   abbrev pub PartsKept : TreeTerm → TreeTerm → Type 0
@@ -119,28 +142,32 @@ module _ (agreeing : (t : TreeTerm) (σ τ : List ValueTerm)
   PartsKept x (or_tree t u) = IsKeptIn σ τ (first_part_of (Some x)) t [] × IsKeptIn σ τ (second_part_of (Some x)) u []
   PartsKept x t = Unit {0}
 
-  module _ (c : Changed) (grown : c.grown ≡ false) (changes : AreChanges σ τ c) where
-    long : length σ ≡ length τ
-    long = changes.grown.0 grown
+  module _ (c : Changed) (changes : AreChanges σ τ c) where
+    same_at : (n : ℕ) → is_changed c n ≡ false → Same n
+    same_at n e =
+        let both = neither (nat_le c.before n) (contains nat_eq c.places n) e in
+        let there : n < length σ = subst (λ k. n < k) changes.before (leb-false c.before n both.0) in
+        (there, (changes.places n there).0 both.1)
 
-    whole : (n : ℕ) → slice_get (take (length σ) τ) n ≡ slice_get τ n
-    whole n = ap (λ z. slice_get z n) (ap (λ k. take k τ) long ∙ take-length τ)
+    unchanged_at : (n : ℕ) → Same n → is_changed c n ≡ false
+    unchanged_at n h =
+        let there : n < c.before = subst (λ k. n < k) (sym changes.before) h.0 in
+        ap (λ b. b || contains nat_eq c.places n) (lt-leb c.before n there) ∙ (changes.places n h.0).1 h.1
 
     pub same_unchanged : (ns : List ℕ) → AreUnchanged c ns → All Same ns
     same_unchanged [] h = All-nil Same
-    same_unchanged (n ∷ ns) h = All-cons Same n ns ((changes.places n).0 h.0 ∙ whole n) (same_unchanged ns h.1)
+    same_unchanged (n ∷ ns) h = All-cons Same n ns (same_at n h.0) (same_unchanged ns h.1)
 
     unchanged_same : (ns : List ℕ) → All Same ns → AreUnchanged c ns
     unchanged_same [] h = tt
-    unchanged_same (n ∷ ns) h =
-        ((changes.places n).1 (All-head Same n ns h ∙ sym (whole n)), unchanged_same ns (All-tail Same n ns h))
+    unchanged_same (n ∷ ns) h = (unchanged_at n (All-head Same n ns h), unchanged_same ns (All-tail Same n ns h))
 
     -- a part that is kept keeps the values of its places
     part_same : (o : Option TreeTerm) (t : TreeTerm) → IsKeptIn σ τ o t [] → All Same (places_in t)
-    part_same o t k = ((agreeing t σ τ).0 (root_kept o t k).1).1
+    part_same o t k = (holding t σ τ).0 (root_kept o t k).1
 
     stays_from : (x t : TreeTerm) → x ≡ t → All Same (places_in t) → IsKeptIn σ τ (Some x) t []
-    stays_from x t e h = root_stays (Some x) t (ap Some e) ((agreeing t σ τ).1 (long, h))
+    stays_from x t e h = root_stays (Some x) t (ap Some e) ((holding t σ τ).1 h)
 
     pub root_up : (x t : TreeTerm) → StaysAlone c x t → PartsKept x t → IsKeptIn σ τ (Some x) t []
     root_up x (edit_tree b v) s p =
@@ -191,18 +218,7 @@ module _ (agreeing : (t : TreeTerm) (σ τ : List ValueTerm)
         (All-append Same (places_in t) (places_in u) (part_same (first_part_of (Some x)) t p.0)
         (part_same (second_part_of (Some x)) u p.1))
 
-    own_places : (t : TreeTerm) → All Same (places_in t) → All Same (places_in (alone t))
-    own_places (then_tree l k) h = all_right Same (places_in l) (slot_places k.slots) h
-    own_places (next_tree l k) h = all_right Same (places_in l) (slot_places k.slots) h
-    own_places (and_tree t u) h = All-nil Same
-    own_places (or_tree t u) h = All-nil Same
-    own_places (edit_tree b v) h = h
-    own_places (enter_tree b) h = h
-    own_places (share_tree b n) h = h
-    own_places fail_tree h = h
-    own_places (xor_tree i j) h = h
-
-    parts_down : (x t : TreeTerm) → x ≡ t → AgreeOn (foot t) σ τ → PartsKept x t
+    parts_down : (x t : TreeTerm) → x ≡ t → HoldAlike (foot t) σ τ → PartsKept x t
     parts_down x (then_tree l k) e h =
         part_kept x (then_tree l k) (into_left ∷ []) (left_part_of (Some x)) l (ap (λ z. left_part_of (Some z)) e) refl h
     parts_down x (next_tree l k) e h =
@@ -225,8 +241,8 @@ module _ (agreeing : (t : TreeTerm) (σ τ : List ValueTerm)
     root_down x t k =
         let r = root_kept (Some x) t k in
         let same = some_same r.0 in
-        let all = ((agreeing t σ τ).0 r.1).1 in
-        ((ap alone same, unchanged_same (places_in (alone t)) (own_places t all)), parts_down x t same r.1)
+        let all = (holding t σ τ).0 r.1 in
+        ((ap alone same, unchanged_same (places_in (alone t)) (own_places Same t all)), parts_down x t same r.1)
 
 -- ---- both sides of a choice
 pub xor_up : (c : Changed) (j k l m : LaterTerm) → LaterStays c j l → LaterStays c k m → StaysAlone c (xor_tree j k) (xor_tree l m)

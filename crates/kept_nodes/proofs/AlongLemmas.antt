@@ -1,24 +1,26 @@
 -- Trees that differ along a path alone, part by part.
-use Rattle.std.proofs.Common.{◌≡◌, ◌↔◌, ℕ, Bool, true, false, true≢false, List, [], ◌∷◌, length, Option, Some, None, refl, sym, ap, ◌∙◌, subst, arith}
+use Rattle.std.proofs.Common.{◌≡◌, ◌↔◌, ◌<◌, ℕ, Bool, true, false, true≢false, List, [], ◌∷◌, length, Option, Some, refl, sym, ap, ◌∙◌, subst, arith}
 use Rattle.std.proofs.lemmas.Bool.Decides.{nat_tests}
-use Rattle.std.specs.Prelude.{◌||◌, not, slice_get, nat_eq, IsTrue}
-use Rattle.std.specs.HashSet.{hash_set_len}
+use Rattle.std.proofs.lemmas.List.Elements.{All-head, All-tail}
+use Rattle.std.specs.Prelude.{◌||◌, slice_get, nat_eq, IsTrue}
+use Rattle.std.specs.HashSet.{contains, hash_set_len}
 use Rattle.std.specs.List.{All, list_any}
 use Rattle.task_model.specs.Terms.Value.{ValueTerm}
 use Rattle.task_model.specs.Terms.Tree.{TreeTerm, edit_tree, enter_tree, share_tree, then_tree, next_tree, fail_tree, and_tree, or_tree, xor_tree}
-use Rattle.task_model.specs.Running.Foot.{foot, AgreeOn}
+use Rattle.task_model.specs.Running.Foot.{foot}
 use Rattle.task_model.specs.Running.Address.{Address, into_left, into_first, into_second, address_turns, node_at, with_node}
 use Rattle.task_model.specs.declared.input.Turn.{Turn}
 use Rattle.task_model.specs.declared.input.Turn.TheVariants as turns
-use Rattle.task_laws.specs.TreePlaces.{places_in}
-use Rattle.kept_nodes.specs.Along.{DiffersAlong, ChangesNothing}
+use Rattle.task_laws.specs.TreePlaces.{slot_places, places_in, HasPlaces}
+use Rattle.task_laws.specs.HoldAlike.{HoldAlike}
+use Rattle.kept_nodes.specs.Along.{DiffersAlong, ChangesNoValue}
 use Rattle.kept_nodes.specs.Changed.{AreChanges}
 use Rattle.kept_nodes.specs.KeptMarks.{TellsKept}
 use Rattle.kept_nodes.specs.NodeParts.{left_part_of, first_part_of, second_part_of, step_parts, pair_parts, node_parts}
 use Rattle.kept_nodes.specs.Own.{alone, AreUnchanged, StaysAlone}
 use Rattle.kept_nodes.specs.declared.marks.Marks as marks
 use Rattle.kept_nodes.specs.declared.changed.Changed.{Changed}
-use Rattle.kept_nodes.proofs.AloneLemmas.{none_some, root_stays, same_unchanged}
+use Rattle.kept_nodes.proofs.AloneLemmas.{none_some, all_left, all_right, lt-leb, own_there, root_stays, same_unchanged}
 use Rattle.kept_nodes.proofs.MarkLemmas.{not_step, not_pair, pair_step, step_same, pair_first, pair_second, tells_whole}
 
 -- ---- where no place changed
@@ -32,30 +34,70 @@ no_keys (k ∷ ks) h =
     let same : nat_eq k k ≡ true = grind (arith, nat_tests) in
     absurd (true≢false (sym (ap (λ b. b || list_any (nat_eq k) ks) same) ∙ h k))
 
-pub nothing_told : (c : Changed) (b : Bool) → c.grown ≡ false → IsTrue b ↔ (hash_set_len c.places ≡ 0) → IsTrue b ↔ ChangesNothing c
-nothing_told c b grown told = (
-  λ e. record { grown = grown; places = none_among c.places.keys (told.0 e) },
-  λ h. told.1 (no_keys c.places.keys h.places),
-)
+pub nothing_told : (c : Changed) (b : Bool) → IsTrue b ↔ (hash_set_len c.places ≡ 0) → IsTrue b ↔ ChangesNoValue c
+nothing_told c b told = (λ e. none_among c.places.keys (told.0 e), λ h. told.1 (no_keys c.places.keys h))
 
-unchanged_any : (c : Changed) → ChangesNothing c → (ns : List ℕ) → AreUnchanged c ns
-unchanged_any c h [] = tt
-unchanged_any c h (n ∷ ns) = (h.places n, unchanged_any c h ns)
+-- the places that a store has are unchanged
+unchanged_there : (σ τ : List ValueTerm) (c : Changed) → ChangesNoValue c → AreChanges σ τ c → (ns : List ℕ) → All (λ n. n < length σ) ns
+    → AreUnchanged c ns
+unchanged_there σ τ c h changes [] there = tt
+unchanged_there σ τ c h changes (n ∷ ns) there =
+    let lt : n < c.before = subst (λ k. n < k) (sym changes.before) (All-head (λ m. m < length σ) n ns there) in (
+      ap (λ b. b || contains nat_eq c.places n) (lt-leb c.before n lt) ∙ h n,
+      unchanged_there σ τ c h changes ns (All-tail (λ m. m < length σ) n ns there),
+    )
 
 -- a node stays besides its parts
-pub stays_beside : (c : Changed) → ChangesNothing c → (x t : TreeTerm) → alone x ≡ alone t → (true ≡ true) ↔ StaysAlone c x t
-stays_beside c h x t e = (λ _. (e, unchanged_any c h (places_in (alone t))), λ _. refl)
+pub stays_beside : (σ τ : List ValueTerm) (c : Changed) → ChangesNoValue c → AreChanges σ τ c → (x t : TreeTerm) → HasPlaces σ x
+    → alone x ≡ alone t → (true ≡ true) ↔ StaysAlone c x t
+stays_beside σ τ c h changes x t there e = (
+  λ _. (
+    e,
+    unchanged_there σ τ c h changes (places_in (alone t))
+        (subst (λ z. All (λ n. n < length σ) (places_in z)) e (own_there σ x there)),
+  ),
+  λ _. refl,
+)
 
 -- and a part that is the same is kept
-pub whole_beside : (agreeing : (t : TreeTerm) (σ τ : List ValueTerm)
-    → AgreeOn (foot t) σ τ ↔ ((length σ ≡ length τ) × All (λ n. slice_get σ n ≡ slice_get τ n) (places_in t)))
-    (σ τ : List ValueTerm) (c : Changed) → ChangesNothing c → AreChanges σ τ c → (o : Option TreeTerm) (t : TreeTerm) → o ≡ Some t
-    → TellsKept σ τ o t marks.Whole
-whole_beside agreeing σ τ c h changes o t is =
-    tells_whole agreeing σ τ o t (root_stays agreeing σ τ o t is ((agreeing t σ τ).1 (
-      changes.grown.0 h.grown,
-      same_unchanged agreeing σ τ c h.grown changes (places_in t) (unchanged_any c h (places_in t)),
-    )))
+pub whole_beside : (holding : (t : TreeTerm) (σ τ : List ValueTerm)
+    → HoldAlike (foot t) σ τ ↔ All (λ n. (n < length σ) × (slice_get σ n ≡ slice_get τ n)) (places_in t))
+    (σ τ : List ValueTerm) (c : Changed) → ChangesNoValue c → AreChanges σ τ c → (o : Option TreeTerm) (t : TreeTerm) → HasPlaces σ t
+    → o ≡ Some t → TellsKept σ τ o t marks.Whole
+whole_beside holding σ τ c h changes o t there is =
+    tells_whole holding σ τ o t (root_stays holding σ τ o t is ((holding t σ τ).1
+    (same_unchanged holding σ τ c changes (places_in t) (unchanged_there σ τ c h changes (places_in t) there))))
+
+-- ---- the places of parts
+pub step_there : (σ : List ValueTerm) (t l : TreeTerm) → HasPlaces σ t → node_parts t ≡ step_parts l → HasPlaces σ l
+step_there σ (then_tree u k) l h e =
+    subst (HasPlaces σ) (step_same e) (all_left (λ n. n < length σ) (places_in u) (slot_places k.slots) h)
+step_there σ (next_tree u k) l h e =
+    subst (HasPlaces σ) (step_same e) (all_left (λ n. n < length σ) (places_in u) (slot_places k.slots) h)
+step_there σ (edit_tree b v) l h e = absurd (not_step (sym e))
+step_there σ (enter_tree b) l h e = absurd (not_step (sym e))
+step_there σ (share_tree b n) l h e = absurd (not_step (sym e))
+step_there σ fail_tree l h e = absurd (not_step (sym e))
+step_there σ (xor_tree i j) l h e = absurd (not_step (sym e))
+step_there σ (and_tree u v) l h e = absurd (pair_step e)
+step_there σ (or_tree u v) l h e = absurd (pair_step e)
+
+pub both_there : (σ : List ValueTerm) (t a b : TreeTerm) → HasPlaces σ t → node_parts t ≡ pair_parts a b → HasPlaces σ a × HasPlaces σ b
+both_there σ (and_tree u v) a b h e = (
+  subst (HasPlaces σ) (pair_first e) (all_left (λ n. n < length σ) (places_in u) (places_in v) h),
+  subst (HasPlaces σ) (pair_second e) (all_right (λ n. n < length σ) (places_in u) (places_in v) h),
+)
+both_there σ (or_tree u v) a b h e = (
+  subst (HasPlaces σ) (pair_first e) (all_left (λ n. n < length σ) (places_in u) (places_in v) h),
+  subst (HasPlaces σ) (pair_second e) (all_right (λ n. n < length σ) (places_in u) (places_in v) h),
+)
+both_there σ (edit_tree y v) a b h e = absurd (not_pair (sym e))
+both_there σ (enter_tree y) a b h e = absurd (not_pair (sym e))
+both_there σ (share_tree y n) a b h e = absurd (not_pair (sym e))
+both_there σ fail_tree a b h e = absurd (not_pair (sym e))
+both_there σ (xor_tree i j) a b h e = absurd (not_pair (sym e))
+both_there σ (then_tree u k) a b h e = absurd (pair_step (sym e))
+both_there σ (next_tree u k) a b h e = absurd (pair_step (sym e))
 
 -- ---- the parts that a tree has
 pub left_is : (t l : TreeTerm) → step_parts l ≡ node_parts t → left_part_of (Some t) ≡ Some l

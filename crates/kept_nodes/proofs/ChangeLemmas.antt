@@ -1,15 +1,16 @@
 -- What a log of writes tells of each place.
-use Rattle.std.proofs.Common.{◌≡◌, ◌↔◌, ◌≤◌, ◌<◌, ℕ, zero, suc, Bool, true, false, cond, true≢false, List, [], ◌∷◌, length, take, drop, map, get_or, Option, Some, None, refl, sym, ap, ◌∙◌, subst, arith, drop-cons}
-use mathlib.Core.Bool.{not}
+use Rattle.std.proofs.Common.{◌≡◌, ◌↔◌, ◌≤◌, ◌<◌, ℕ, suc, Bool, true, false, cond, true≢false, List, [], ◌∷◌, length, take, drop, map, get_or, Option, Some, None, refl, sym, ap, ◌∙◌, subst, arith, drop-cons}
 use Rattle.std.specs.Prelude.{slice_get, slice_set, nat_eq}
 use Rattle.std.specs.Option.{option_map}
-use Rattle.std.proofs.lemmas.List.{length-map, length-take-le, take-map}
+use Rattle.std.proofs.lemmas.List.{length-map, length-set, length-take-le, take-map}
 use Rattle.std.proofs.lemmas.Option.{slice_get-map, slice_get_past, slice_get_within}
 use Rattle.std.proofs.lemmas.Bool.Decides.{nat_tests}
 use Rattle.task_model.specs.Terms.Value.{value_term}
 use Rattle.task_model.specs.declared.value.Value.{Value}
 use Rattle.shared_store.specs.declared.store.Overwritten.{Overwritten}
 use Rattle.shared_store.specs.Log.{rewound}
+use Rattle.shared_store.proofs.LogLemmas.{rewound_length, take_rewound}
+use Rattle.task_laws.proofs.StoreLemmas.{past_end, set_there, set_apart, take_within}
 use Rattle.kept_nodes.specs.There.{IsEqual, IsThere}
 
 -- the values at a place, as terms
@@ -17,39 +18,12 @@ abbrev SameAt : List Value → List Value → ℕ → Type 0
 SameAt ys xs n = slice_get (map value_term ys) n ≡ slice_get (map value_term xs) n
 
 -- ---- one write
-set_long : (ys : List Value) (p : ℕ) (v : Value) → length (slice_set ys p v) ≡ length ys
-set_long [] p v = refl
-set_long (y ∷ ys) zero v = refl
-set_long (y ∷ ys) (suc p) v = ap suc (set_long ys p v)
-
-pub rewound_long : (ws : List (Overwritten Value)) (xs : List Value) → length (rewound ws xs) ≡ length xs
-rewound_long [] xs = refl
-rewound_long (w ∷ ws) xs = set_long (rewound ws xs) w.place w.value ∙ rewound_long ws xs
-
-set_there : (ys : List Value) (p : ℕ) (v : Value) → p < length ys → slice_get (slice_set ys p v) p ≡ Some v
-set_there [] p v lt = absurd (omega arith)
-set_there (y ∷ ys) zero v lt = refl
-set_there (y ∷ ys) (suc p) v lt = set_there ys p v (omega arith)
-
-set_apart : (ys : List Value) (p n : ℕ) (v : Value) → (p ≡ n → ⊥) → slice_get (slice_set ys p v) n ≡ slice_get ys n
-set_apart [] p n v e = refl
-set_apart (y ∷ ys) zero zero v e = absurd (e refl)
-set_apart (y ∷ ys) zero (suc n) v e = refl
-set_apart (y ∷ ys) (suc p) zero v e = refl
-set_apart (y ∷ ys) (suc p) (suc n) v e = set_apart ys p n v (λ q. e (ap suc q))
-
--- a place where there is no value
-pub past_end : {X : Type 0} (xs : List X) (p : ℕ) → slice_get xs p ≡ None → length xs ≤ p
-past_end [] p e = omega arith
-past_end (x ∷ xs) zero e = absurd cc
-past_end (x ∷ xs) (suc p) e = let le = past_end xs p e in omega (arith, le)
-
 -- the value that was put back at its place, where there is that place
 put_back : (ys xs : List Value) (p : ℕ) (v : Value) (o : Option Value) → length ys ≡ length xs → slice_get xs p ≡ o → IsEqual o v
     → SameAt (slice_set ys p v) xs p
 put_back ys xs p v None long e h =
     let past : length xs ≤ p = past_end xs p e in
-    let l = set_long ys p v in
+    let l = length-set ys p v in
     slice_get-map value_term (slice_set ys p v) p
     ∙ ap (option_map value_term) (slice_get_past (slice_set ys p v) p (omega (arith, past, l, long)) ∙ sym e)
     ∙ sym (slice_get-map value_term xs p)
@@ -105,7 +79,7 @@ module _ (had has : ℕ → Bool) (w : Overwritten Value) (ws : List (Overwritte
       here_too : w.place ≡ n → (has n ≡ false) ↔ SameAt (rewound (w ∷ ws) xs) xs n
       here_too p = (
         λ _. subst (SameAt (rewound (w ∷ ws) xs) xs) p
-            (put_back (rewound ws xs) xs w.place w.value (slice_get xs w.place) (rewound_long ws xs) refl h),
+            (put_back (rewound ws xs) xs w.place w.value (slice_get xs w.place) (rewound_length ws xs) refl h),
         λ _. let t : nat_eq w.place n ≡ true = grind (arith, nat_tests, p) in e n ∙ ap (λ b. cond b false (had n)) t,
       )
 
@@ -121,7 +95,7 @@ module _ (had has : ℕ → Bool) (w : Overwritten Value) (ws : List (Overwritte
       here_too p = (
         λ f. let t : nat_eq w.place n ≡ true = grind (arith, nat_tests, p) in
             absurd (true≢false (sym (e n ∙ ap (λ b. cond b true (had n)) t) ∙ f)),
-        λ q. absurd (h (put_equal (rewound ws xs) xs w.place w.value (slice_get xs w.place) (rewound_long ws xs) refl
+        λ q. absurd (h (put_equal (rewound ws xs) xs w.place w.value (slice_get xs w.place) (rewound_length ws xs) refl
             (subst (SameAt (rewound (w ∷ ws) xs) xs) (sym p) q))),
       )
 
@@ -138,17 +112,6 @@ drop_whole [] = refl
 drop_whole (w ∷ ws) = drop_whole ws
 
 -- ---- the newest layer
-take_set : (k : ℕ) (ys : List Value) (p : ℕ) (v : Value) → take k (slice_set ys p v) ≡ slice_set (take k ys) p v
-take_set zero ys p v = refl
-take_set (suc k) [] p v = refl
-take_set (suc k) (y ∷ ys) zero v = refl
-take_set (suc k) (y ∷ ys) (suc p) v = ap (λ z. y ∷ z) (take_set k ys p v)
-
-take_rewound : (k : ℕ) (ws : List (Overwritten Value)) (xs : List Value) → take k (rewound ws xs) ≡ rewound ws (take k xs)
-take_rewound k [] xs = refl
-take_rewound k (w ∷ ws) xs =
-    take_set k (rewound ws xs) w.place w.value ∙ ap (λ z. slice_set z w.place w.value) (take_rewound k ws xs)
-
 same_some : {A : Type 0} {x y : A} {o : Option A} → o ≡ Some x → o ≡ Some y → x ≡ y
 same_some e f = cc
 
@@ -159,21 +122,15 @@ module _ (o : Option (List Value)) (σ list : List Value) (ws : List (Overwritte
 
   pub layer_long : length (map value_term σ) ≡ count
   layer_long =
-      length-map σ value_term ∙ ap length early ∙ rewound_long ws (take count list) ∙ length-take-le count list le
+      length-map σ value_term ∙ ap length early ∙ rewound_length ws (take count list) ∙ length-take-le count list le
 
-  pub layer_differs : (has : ℕ → Bool) → Differs has ws (take count list) → (n : ℕ)
-      → (has n ≡ false) ↔ (slice_get (map value_term σ) n ≡ slice_get (take (length (map value_term σ)) (map value_term list)) n)
-  layer_differs has d n =
+  -- of the places that were there
+  pub layer_differs : (has : ℕ → Bool) → Differs has ws (take count list) → (n : ℕ) → n < length (map value_term σ)
+      → (has n ≡ false) ↔ (slice_get (map value_term σ) n ≡ slice_get (map value_term list) n)
+  layer_differs has d n lt =
       let one = ap (λ (z : List Value). slice_get (map value_term z) n) early in
-      let two = ap (λ z. slice_get z n) (ap (λ k. take k (map value_term list)) layer_long ∙ take-map value_term count list) in (
-        λ h. one ∙ (d n).0 h ∙ sym two,
-        λ h. (d n).1 (sym one ∙ h ∙ two),
+      let two = ap (λ z. slice_get z n) (sym (take-map value_term count list))
+      ∙ take_within count (map value_term list) n (subst (λ k. n < k) layer_long lt) in (
+        λ h. one ∙ (d n).0 h ∙ two,
+        λ h. (d n).1 (sym one ∙ h ∙ sym two),
       )
-
--- whether there are more places than there were
-pub grown_tells : (count all m n : ℕ) → m ≡ count → n ≡ all → (not (nat_eq count all) ≡ false) ↔ (m ≡ n)
-grown_tells count all m n e f = (
-  λ h. by_place count all (m ≡ n) (λ q. omega (arith, e, f, q))
-      (λ q. let t : nat_eq count all ≡ false = grind (arith, nat_tests, q) in absurd (true≢false (sym (ap not t) ∙ h))),
-  λ q. let t : nat_eq count all ≡ true = grind (arith, nat_tests, e, f, q) in ap not t,
-)

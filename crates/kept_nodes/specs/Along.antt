@@ -15,7 +15,6 @@ pub record DiffersAlong (path : List Turn) (old new : TreeTerm) : Type 0 where
   pub after : TreeTerm
   pub replaced : new ≡ with_node old address after
 
--- no place has another value, and none was added
-pub record ChangesNothing (c : Changed) : Type 0 where
-  pub grown : c.grown ≡ false
-  pub places : (n : ℕ) → contains nat_eq c.places n ≡ false
+-- no place that was there has another value
+abbrev pub ChangesNoValue : Changed → Type 0
+ChangesNoValue c = (n : ℕ) → contains nat_eq c.places n ≡ false

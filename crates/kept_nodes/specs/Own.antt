@@ -1,10 +1,10 @@
 -- A node without its parts.
-use Rattle.std.specs.Prelude.{◌≡◌, ℕ, false, List, nat_eq}
-use Rattle.std.specs.HashSet.{contains}
+use Rattle.std.specs.Prelude.{◌≡◌, ℕ, false, List}
 use Rattle.std.specs.List.{AllByRecursion}
 use Rattle.task_model.specs.Terms.Tree.{LaterTerm, TreeTerm, then_tree, next_tree, fail_tree, and_tree, or_tree}
 use Rattle.task_model.specs.Terms.Env.{SlotTerm}
 use Rattle.task_laws.specs.TreePlaces.{places_in, slot_places}
+use Rattle.kept_nodes.specs.Changed.{is_changed}
 use Rattle.kept_nodes.specs.declared.changed.Changed.{Changed}
 
 -- a node with nothing in the place of its parts
@@ -17,7 +17,7 @@ alone t = t
 
 -- none of these places is among the changed ones
 abbrev pub AreUnchanged : Changed → List ℕ → Type 0
-AreUnchanged c ns = AllByRecursion (λ n. contains nat_eq c.places n ≡ false) ns
+AreUnchanged c ns = AllByRecursion (λ n. is_changed c n ≡ false) ns
 
 -- slots are the same as others, and none of their places is changed
 abbrev pub SlotsStay : Changed → List SlotTerm → List SlotTerm → Type 0

@@ -1,8 +1,9 @@
 ghost use Rattle.std.specs.Prelude.{◌≡◌, List, Some, IfOk};
 ghost use Rattle.task_model.specs.Terms.Value.{ValueTerm};
 ghost use Rattle.task_model.specs.Terms.Tree.{tree_term};
+ghost use Rattle.task_laws.specs.TreePlaces.{HasPlaces};
 ghost use Rattle.kept_nodes.specs.Changed.{AreChanges};
-ghost use Rattle.kept_nodes.specs.Along.{ChangesNothing, DiffersAlong};
+ghost use Rattle.kept_nodes.specs.Along.{ChangesNoValue, DiffersAlong};
 ghost use Rattle.kept_nodes.specs.KeptMarks.{TellsKept};
 
 use crate::changed::Changed;
@@ -13,8 +14,8 @@ use std::alloc::Global;
 use task_laws::foot_is_in_order;
 use task_model::{OutOfMemory, Tree, Turn};
 
-/// What is kept of a tree that differs from another one along a path alone, where these places of the store changed since then. Where none
-/// did, all beside the path is kept, and only the nodes of the path are looked at.
+/// What is kept of a tree that differs from another one along a path alone, where these places of the store changed since then. Where no place
+/// that was there has another value, all beside the path is kept, and only the nodes of the path are looked at.
 pub fn kept_along(
     alloc: Global,
     old: &Tree,
@@ -23,7 +24,7 @@ pub fn kept_along(
     changed: &Changed,
 ) -> Result<Marks, OutOfMemory>
     requires { DiffersAlong path.now (tree_term old.now) (tree_term new.now) }
-    ensures { IfOk result (λ m. (σ τ : List ValueTerm) → AreChanges σ τ changed.now
+    ensures { IfOk result (λ m. (σ τ : List ValueTerm) → AreChanges σ τ changed.now → HasPlaces σ (tree_term old.now)
         → TellsKept σ τ (Some (tree_term old.now)) (tree_term new.now) m) }
 {
     if changed.is_none() {
@@ -33,7 +34,7 @@ pub fn kept_along(
     }
 }
 
-// The same where no place changed. Behind the last turn the path may go on through steps, so all that is left there is looked at.
+// The same where no place that was there has another value. Behind the last turn the path may go on through steps, so all that is left there is looked at.
 fn marks_along(
     alloc: Global,
     old: &Tree,
@@ -41,9 +42,9 @@ fn marks_along(
     path: &[Turn],
     changed: &Changed,
 ) -> Result<Marks, OutOfMemory>
-    requires none { ChangesNothing changed.now }
+    requires none { ChangesNoValue changed.now }
     requires along { DiffersAlong path.now (tree_term old.now) (tree_term new.now) }
-    ensures { IfOk result (λ m. (σ τ : List ValueTerm) → AreChanges σ τ changed.now
+    ensures { IfOk result (λ m. (σ τ : List ValueTerm) → AreChanges σ τ changed.now → HasPlaces σ (tree_term old.now)
         → TellsKept σ τ (Some (tree_term old.now)) (tree_term new.now) m) }
 {
     let Some((turn, rest)) = path.split_first() else {

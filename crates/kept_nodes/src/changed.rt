@@ -3,8 +3,8 @@ ghost use Rattle.std.specs.HashSet.{contains};
 ghost use Rattle.task_model.specs.Terms.Value.{value_term};
 ghost use Rattle.task_model.specs.declared.value.Value.{Value};
 ghost use Rattle.shared_store.specs.Log.{rewound};
-ghost use Rattle.kept_nodes.specs.Changed.{AreChanges};
-ghost use Rattle.kept_nodes.specs.Along.{ChangesNothing};
+ghost use Rattle.kept_nodes.specs.Changed.{AreChanges, is_changed};
+ghost use Rattle.kept_nodes.specs.Along.{ChangesNoValue};
 ghost use Rattle.kept_nodes.specs.There.{IsThere};
 
 use shared_store::{Overwritten, Store};
@@ -12,33 +12,26 @@ use std::alloc::Global;
 use std::collections::HashSet;
 use task_model::{OutOfMemory, Value, same_value};
 
-/// Which places of the store have another value than in an earlier list, and whether there are more places.
+/// Which places of the store have another value than in an earlier list, and how many places that one has.
 #[derive(Drop)]
 pub struct Changed {
-    grown: bool,
+    before: u64,
     places: HashSet<u64>,
 }
 
 impl Changed {
-    /// Whether places were added.
-    pub(crate) fn has_grown(&self) -> bool
-        ensures { result ≡ self.now.grown }
-    {
-        self.grown
-    }
-
-    /// Whether no place is changed, and none was added.
+    /// Whether no place that was there has another value.
     pub(crate) fn is_none(&self) -> bool
-        ensures { IsTrue result ↔ ChangesNothing self.now }
+        ensures { IsTrue result ↔ ChangesNoValue self.now }
     {
-        !self.grown && self.places.is_empty()
+        self.places.is_empty()
     }
 
-    /// Whether a place is among the changed ones.
+    /// Whether a place is new or has another value.
     pub(crate) fn has(&self, place: u64) -> bool
-        ensures { result ≡ contains nat_eq self.now.places place }
+        ensures { result ≡ is_changed self.now place }
     {
-        self.places.contains(&place)
+        self.before <= place || self.places.contains(&place)
     }
 }
 
@@ -53,7 +46,7 @@ pub fn changed_places(alloc: Global, store: &Store<Value>) -> Result<Changed, Ou
     let count = changes.count as usize;
     let places = overwritten_places(alloc, changes.overwritten, &values[..count])?;
     Ok(Changed {
-        grown: count != values.len(),
+        before: changes.count,
         places,
     })
 }

@@ -1,4 +1,4 @@
-ghost use Rattle.std.specs.Prelude.{◌≡◌, false, List, IfOk};
+ghost use Rattle.std.specs.Prelude.{List, IfOk};
 ghost use Rattle.std.specs.Option.{option_map};
 ghost use Rattle.task_model.specs.Terms.Value.{ValueTerm};
 ghost use Rattle.task_model.specs.Terms.Tree.{tree_term};
@@ -24,22 +24,6 @@ pub fn kept(
     ensures { IfOk result (λ m. (σ τ : List ValueTerm) → AreChanges σ τ changed.now
         → TellsKept σ τ (option_map (λ t. tree_term t.now) old.entry) (tree_term new.now) m) }
 {
-    if changed.has_grown() {
-        return Ok(Marks::Bare);
-    }
-    marks_of(alloc, old, new, changed)
-}
-
-fn marks_of(
-    alloc: Global,
-    old: Option<&Tree>,
-    new: &Tree,
-    changed: &Changed,
-) -> Result<Marks, OutOfMemory>
-    requires { changed.now.grown ≡ false }
-    ensures { IfOk result (λ m. (σ τ : List ValueTerm) → AreChanges σ τ changed.now
-        → TellsKept σ τ (option_map (λ t. tree_term t.now) old.entry) (tree_term new.now) m) }
-{
     let Some(there) = old else {
         return Ok(Marks::Bare);
     };
@@ -48,12 +32,12 @@ fn marks_of(
     match parts_of(new) {
         Parts::Leaf => Ok(if stays { Marks::Whole } else { Marks::Bare }),
         Parts::Step(left) => {
-            let part = marks_of(alloc, left_part(old), left, changed)?;
+            let part = kept(alloc, left_part(old), left, changed)?;
             Marks::of_step(alloc, stays, part)
         }
         Parts::Pair(a, b) => {
-            let first = marks_of(alloc, first_part(old), a, changed)?;
-            let second = marks_of(alloc, second_part(old), b, changed)?;
+            let first = kept(alloc, first_part(old), a, changed)?;
+            let second = kept(alloc, second_part(old), b, changed)?;
             Marks::of_pair(alloc, stays, first, second)
         }
     }

@@ -10,6 +10,7 @@ ghost use Rattle.task_model.specs.Showing.Widget.{widget_term, AreWidgets};
 ghost use Rattle.task_model.specs.Checking.Fits.{Fits};
 ghost use Rattle.task_model.specs.declared.input.Turn.{Turn};
 ghost use Rattle.task_model.specs.declared.value.Value.{Value};
+ghost use Rattle.task_laws.specs.TreePlaces.{HasPlaces};
 ghost use Rattle.handle_input.specs.Answers.{TellsOutcome};
 ghost use Rattle.kept_nodes.specs.Kept.{IsRedrawn};
 ghost use Rattle.kept_nodes.specs.KeptMarks.{TellsKept};
@@ -34,6 +35,7 @@ use task_evaluation::Engine;
 use task_model::{
     ActStop, Input, Offer, OutOfMemory, Reads, Row, Steps, Tree, Turns, Value, Widget,
 };
+use typing_laws::fitting_trees_have_their_places;
 
 /// A tree with its table, which is made where it is asked for. What its rows were observed over, a store's values and a budget, stands in the
 /// contracts of its calls.
@@ -168,6 +170,8 @@ impl LiveTree {
         requires fits { Fits (checked_term engine.now) (at (tree_term self.old.tree) (map value_term store.old.list)) }
         requires live { IsLive (checked_term engine.now) budget (map value_term store.old.list) self.old }
         requires layer { 0 < length store.old.layers }
+        requires stood { (σ : List Value) → slice_get store.old.layers 0 ≡ Some σ
+            → Fits (checked_term engine.now) (at (tree_term before.now.tree) (map value_term σ)) }
         requires before { (σ : List Value) → slice_get store.old.layers 0 ≡ Some σ
             → IsLive (checked_term engine.now) budget (map value_term σ) before.now }
         requires along { DiffersAsTold (tree_term before.now.tree) self.old }
@@ -201,6 +205,8 @@ impl LiveTree {
     ) -> Result<NodeRows, OutOfMemory>
         requires fits { Fits (checked_term engine.now) (at (tree_term self.now.tree) (map value_term store.old.list)) }
         requires layer { 0 < length store.old.layers }
+        requires stood { (σ : List Value) → slice_get store.old.layers 0 ≡ Some σ
+            → Fits (checked_term engine.now) (at (tree_term before.now.tree) (map value_term σ)) }
         requires before { (σ : List Value) → slice_get store.old.layers 0 ≡ Some σ
             → IsLive (checked_term engine.now) budget (map value_term σ) before.now }
         requires along { DiffersAsTold (tree_term before.now.tree) self.now }
@@ -214,6 +220,7 @@ impl LiveTree {
         match &before.rows {
             None => fresh_rows(engine, &self.tree, store, budget, steps),
             Some(rows) => {
+                fitting_trees_have_their_places();
                 let alloc = engine.alloc();
                 let changed = changed_places(alloc, store)?;
                 let marks = kept_marks(alloc, &before.tree, &self.tree, &self.along, &changed)?;
@@ -304,7 +311,7 @@ fn kept_marks(
     changed: &Changed,
 ) -> Result<Marks, OutOfMemory>
     requires { (path : List Turn) → along.now ≡ Some path → DiffersAlong path (tree_term before.now) (tree_term tree.now) }
-    ensures { IfOk result (λ m. (σ τ : List ValueTerm) → AreChanges σ τ changed.now
+    ensures { IfOk result (λ m. (σ τ : List ValueTerm) → AreChanges σ τ changed.now → HasPlaces σ (tree_term before.now)
         → TellsKept σ τ (Some (tree_term before.now)) (tree_term tree.now) m) }
 {
     match along {

@@ -296,11 +296,20 @@ module _ (c : SeenChecked) (budget : ℕ) (h : Rowed Item) (live : SeenLive) (s 
     pub has_layer : 0 < length s.layers
     has_layer = let one = ap length k.room.1 in omega (arith, one)
 
-    pub layer_live : (σ : List Value) → slice_get s.layers 0 ≡ Some σ → IsLive (checked_term c) budget (map value_term σ) live
-    layer_live σ e = subst (λ z. IsLive (checked_term c) budget (map value_term z) live) (layer_same (sym newest_is ∙ e)) k.rows
+    layer_same : (σ : List Value) → slice_get s.layers 0 ≡ Some σ → newest_layer s.layers ≡ σ
+    layer_same σ e = some_same (sym newest_is ∙ e)
       where
-        layer_same : {x y : List Value} → Some x ≡ Some y → x ≡ y
-        layer_same i = cc
+        some_same : {x y : List Value} → Some x ≡ Some y → x ≡ y
+        some_same i = cc
+
+    pub layer_live : (σ : List Value) → slice_get s.layers 0 ≡ Some σ → IsLive (checked_term c) budget (map value_term σ) live
+    layer_live σ e = subst (λ z. IsLive (checked_term c) budget (map value_term z) live) (layer_same σ e) k.rows
+
+    -- the present state fits over it
+    pub layer_fits : (σ : List Value) → slice_get s.layers 0 ≡ Some σ
+        → Fits (checked_term c) (at (tree_term live.tree) (map value_term σ))
+    layer_fits σ e = subst (λ z. Fits (checked_term c) (at (tree_term live.tree) (map value_term z))) (layer_same σ e)
+        (standing_fits (world (Some p)) k.standing)
 
     -- what is said of the nodes that aren't kept from the present to the prepared tree
     pub few_of : (w : SeenWorld) (P : ℕ → Type 0) → seen_world c budget h.list live s (Some p) ≡ w

@@ -15,9 +15,6 @@ interacted-answer-requires-clause-fits c = rw c.in_ok-begin.ensures.list c.requi
 pub interacted-answer-requires-clause-quiet : goal.interacted-answer-requires-clause-quiet
 interacted-answer-requires-clause-quiet c = rw c.in_ok-begin.ensures.list c.requires.quiet
 
-pub interacted-answer-requires-clause-begun : goal.interacted-answer-requires-clause-begun
-interacted-answer-requires-clause-begun c = rw (c.in_ok-begin.ensures.ok, c.in_ok-begin.ensures.list) refl
-
 pub ended-requires : goal.ended-requires
 ended-requires c = rw (c.interacted-answer.ensures.layers, c.in_ok-begin.ensures.ok) (omega arith)
 

@@ -1,5 +1,4 @@
 use Rattle.std.proofs.Common.{Option, Some, refl, map}
-use Rattle.std.proofs.lemmas.Option.{slice_get_within}
 use Rattle.std.specs.Option.{option_map}
 use Rattle.task_model.specs.Terms.Value.{value_term}
 use Rattle.task_model.specs.Terms.Tree.{tree_term, at}
@@ -10,7 +9,7 @@ use Rattle.task_model.specs.Running.Handling.{settled}
 use Rattle.task_laws.proofs.RanLemmas.{stopped, ran_give, ran_after, ran_after_stops}
 use Rattle.task_engine.proofs.SignLemmas.{ran_spends}
 use Rattle.handle_input.proofs.FitLemmas.{settling_well}
-use Rattle.handle_input.proofs.AlongLemmas.{handled_along, along_led, beside_told}
+use Rattle.handle_input.proofs.AlongLemmas.{handled_along, along_led, some_told, beside_told}
 use Rattle.handle_input.proofs.inputs.interacted.Goals as goal
 
 pub returns-in_err-led-clause-ran : goal.returns-in_err-led-clause-ran
@@ -25,10 +24,6 @@ settled-requires-clause-well c =
     rw c.in-Some.is at (settling_well (input_term c.args.input.now) c.requires.accepted c.requires.fits
     (rw c.as_slice-turns.ensures at c.in_ok-led.ensures.ran))
 
-pub path_alone-beside-requires : goal.path_alone-beside-requires
-path_alone-beside-requires c =
-    rw c.in_ok-led.ensures.layers (slice_get_within c.args.store.now.layers 0 c.args.store.now.list c.requires.begun)
-
 pub settled-requires-clause-beside : goal.settled-requires-clause-beside
 settled-requires-clause-beside c =
     let law = c.inputs_act_at_their_address.ensures in
@@ -41,9 +36,10 @@ settled-requires-clause-beside c =
     let differs = handled_along law.acts law.lacking law.turns (checked_term c.args.engine.now) old led σ
     (map value_term c.handled.new.store.list) i {X = Option Tree} view c.args.purse.now c.handled.new.purse {x = Some c.in-Some.u} refl
     (ran_spends ran) in
-    beside_told (λ x. x.now) c.path_alone-beside.result i.path c.as_slice-turns.result.now old led c.args.store.now.list
-    c.args.store.now.layers c.handled.new.store c.args.quiet c.as_slice-turns.ensures c.in_ok-led.ensures.layers c.requires.begun
-    c.requires.quiet differs c.path_alone-beside.ensures
+    let there = c.fitting_trees_have_their_places.ensures (checked_term c.args.engine.now) (at old σ) c.requires.fits in
+    beside_told (λ x. x.now) c.then_some-beside.result i.path c.as_slice-turns.result.now old led σ
+    (map value_term c.handled.new.store.list) c.args.quiet c.as_slice-turns.ensures there c.requires.quiet differs
+    (some_told (λ x. x.now) c.args.quiet c.then_some-beside.result c.as_slice-turns.result c.then_some-beside.ensures)
 
 pub returns-in-Some-clause-ran : goal.returns-in-Some-clause-ran
 returns-in-Some-clause-ran c = ran_after settled (rw c.as_slice-turns.ensures at c.in_ok-led.ensures.ran)

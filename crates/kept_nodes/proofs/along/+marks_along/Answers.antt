@@ -1,12 +1,22 @@
-use Rattle.std.proofs.Common.{◌≡◌, ◌∷◌, true, Some, refl, sym, ap, ◌∙◌, subst, arith}
+use Rattle.std.proofs.Common.{◌∷◌, true, Some, sym, ap, ◌∙◌, subst, arith}
+use Rattle.std.proofs.lemmas.Result.{IfOk-weaker}
 use Rattle.task_model.specs.Terms.Tree.{tree_term}
 use Rattle.task_model.specs.declared.input.Turn.TheVariants as turns
+use Rattle.task_laws.specs.TreePlaces.{HasPlaces}
 use Rattle.kept_nodes.specs.KeptMarks.{TellsKept}
 use Rattle.kept_nodes.specs.declared.marks.Marks as marks
 use Rattle.kept_nodes.proofs.MarkLemmas.{ok_two, ok_three, tells_step_parts, tells_pair_parts}
 use Rattle.kept_nodes.proofs.CountLemmas.{step_fewer, pair_fewer}
-use Rattle.kept_nodes.proofs.AlongLemmas.{stays_beside, whole_beside, left_is, both_are, step_along, pair_along}
+use Rattle.kept_nodes.proofs.AlongLemmas.{stays_beside, whole_beside, step_there, both_there, left_is, both_are, step_along, pair_along}
 use Rattle.kept_nodes.proofs.along.+marks_along.Goals as goal
+
+-- ---- where the whole is looked at
+pub returns-in_default : goal.returns-in_default
+returns-in_default t c = IfOk-weaker c.kept.result _ _ (λ m h σ τ changes placed. h σ τ changes) c.kept.ensures
+
+pub returns-in_default-2 : goal.returns-in_default-2
+returns-in_default-2 t c =
+    IfOk-weaker c.kept-in_default-2.result _ _ (λ m h σ τ changes placed. h σ τ changes) c.kept-in_default-2.ensures
 
 -- ---- at a step
 pub marks_along-requires : goal.marks_along-requires
@@ -28,11 +38,11 @@ returns-in_ok-part-in_default-Step-Step t c =
     let n = c.in_ok-part-in_default-Step-Step.part in
     let parts = step_along c.args.path.now c.in-Some.turn.now c.in-Some.rest.now c.in-Some.ensures.cases.0 old new c.requires.along
     (tree_term here.was.now) left here.ensures here.ensures' in
-    ok_two c.of_step.result _ _ _ (λ m own below σ τ changes. tells_step_parts c.foot_is_in_order.ensures.agreeing σ τ
-    c.args.changed.now c.requires.none.grown changes old true new left m n (sym here.ensures')
-    (stays_beside c.args.changed.now c.requires.none old new parts.1)
+    ok_two c.of_step.result _ _ _ (λ m own below σ τ changes placed. tells_step_parts c.foot_is_in_order.ensures.holding σ τ
+    c.args.changed.now changes old true new left m n (sym here.ensures')
+    (stays_beside σ τ c.args.changed.now c.requires.none changes old new placed parts.1)
     (subst (λ o. TellsKept σ τ o left n) (sym (left_is old (tree_term here.was.now) here.ensures))
-    (c.in_ok-part-in_default-Step-Step.ensures σ τ changes)) own below)
+    (c.in_ok-part-in_default-Step-Step.ensures σ τ changes (step_there σ old (tree_term here.was.now) placed (sym here.ensures)))) own below)
     c.of_step.ensures.own c.of_step.ensures.left
 
 -- ---- into the first part of a pair
@@ -63,12 +73,12 @@ returns-in_ok-first-in-First-Pair-Pair t c =
     let way = c.in-Some.ensures.cases.0 ∙ ap (λ z. z ∷ c.in-Some.rest.now) here.is-0 in
     let parts = pair_along c.args.path.now turns.First c.in-Some.rest.now way old new c.requires.along a b part other here.ensures here.ensures' in
     let stood = both_are old a b here.ensures in
-    ok_three c.of_pair.result _ _ _ _ (λ m own first second σ τ changes. tells_pair_parts c.foot_is_in_order.ensures.agreeing σ τ
-    c.args.changed.now c.requires.none.grown changes old true new part other m n marks.Whole (sym here.ensures')
-    (stays_beside c.args.changed.now c.requires.none old new parts.1)
-    (subst (λ o. TellsKept σ τ o part n) (sym stood.0) (c.in_ok-first-in-First-Pair-Pair.ensures σ τ changes))
-    (whole_beside c.foot_is_in_order.ensures.agreeing σ τ c.args.changed.now c.requires.none changes _ other
-    (stood.1 ∙ ap Some (sym parts.0.1))) own first second)
+    ok_three c.of_pair.result _ _ _ _ (λ m own first second σ τ changes placed. tells_pair_parts c.foot_is_in_order.ensures.holding σ τ
+    c.args.changed.now changes old true new part other m n marks.Whole (sym here.ensures')
+    (stays_beside σ τ c.args.changed.now c.requires.none changes old new placed parts.1)
+    (subst (λ o. TellsKept σ τ o part n) (sym stood.0) (c.in_ok-first-in-First-Pair-Pair.ensures σ τ changes (both_there σ old a b placed (sym here.ensures)).0))
+    (whole_beside c.foot_is_in_order.ensures.holding σ τ c.args.changed.now c.requires.none changes _ other
+    (subst (HasPlaces σ) (sym parts.0.1) (both_there σ old a b placed (sym here.ensures)).1) (stood.1 ∙ ap Some (sym parts.0.1))) own first second)
     c.of_pair.ensures.own c.of_pair.ensures.first c.of_pair.ensures.second
 
 -- ---- and into the second one
@@ -99,10 +109,10 @@ returns-in_ok-second-in-Second-Pair-Pair t c =
     let way = c.in-Some.ensures.cases.0 ∙ ap (λ z. z ∷ c.in-Some.rest.now) here.is-0 in
     let parts = pair_along c.args.path.now turns.Second c.in-Some.rest.now way old new c.requires.along a b other part here.ensures here.ensures' in
     let stood = both_are old a b here.ensures in
-    ok_three c.of_pair-in-Second-Pair-Pair.result _ _ _ _ (λ m own first second σ τ changes. tells_pair_parts
-    c.foot_is_in_order.ensures.agreeing σ τ c.args.changed.now c.requires.none.grown changes old true new other part m marks.Whole n
-    (sym here.ensures') (stays_beside c.args.changed.now c.requires.none old new parts.1)
-    (whole_beside c.foot_is_in_order.ensures.agreeing σ τ c.args.changed.now c.requires.none changes _ other
-    (stood.0 ∙ ap Some (sym parts.0.1)))
-    (subst (λ o. TellsKept σ τ o part n) (sym stood.1) (c.in_ok-second-in-Second-Pair-Pair.ensures σ τ changes)) own first second)
+    ok_three c.of_pair-in-Second-Pair-Pair.result _ _ _ _ (λ m own first second σ τ changes placed. tells_pair_parts
+    c.foot_is_in_order.ensures.holding σ τ c.args.changed.now changes old true new other part m marks.Whole n
+    (sym here.ensures') (stays_beside σ τ c.args.changed.now c.requires.none changes old new placed parts.1)
+    (whole_beside c.foot_is_in_order.ensures.holding σ τ c.args.changed.now c.requires.none changes _ other
+    (subst (HasPlaces σ) (sym parts.0.1) (both_there σ old a b placed (sym here.ensures)).0) (stood.0 ∙ ap Some (sym parts.0.1)))
+    (subst (λ o. TellsKept σ τ o part n) (sym stood.1) (c.in_ok-second-in-Second-Pair-Pair.ensures σ τ changes (both_there σ old a b placed (sym here.ensures)).1)) own first second)
     c.of_pair-in-Second-Pair-Pair.ensures.own c.of_pair-in-Second-Pair-Pair.ensures.first c.of_pair-in-Second-Pair-Pair.ensures.second

@@ -1,9 +1,7 @@
-use Rattle.std.proofs.Common.{length, sym, ap, ◌∙◌}
+use Rattle.std.proofs.Common.{sym}
 use Rattle.std.specs.Prelude.{slice_get, nat_eq}
 use Rattle.std.specs.HashSet.{contains}
-use Rattle.std.proofs.lemmas.List.{length-map}
-use Rattle.task_model.specs.Terms.Value.{value_term}
-use Rattle.kept_nodes.proofs.ChangeLemmas.{layer_long, layer_differs, grown_tells}
+use Rattle.kept_nodes.proofs.ChangeLemmas.{layer_long, layer_differs}
 use Rattle.kept_nodes.proofs.changed.changed_places.Goals as goal
 
 pub returns : goal.returns
@@ -16,7 +14,6 @@ returns c = λ σ e.
     let within = c.changes-changes.ensures.grown in
     let told = rw c.as_slice-values.ensures at c.in_ok-places.ensures in
     record {
-      grown = grown_tells count (length c.as_slice-values.result.now) _ _ (layer_long layer σ list ws count undone e within)
-          (length-map list value_term ∙ ap length (sym c.as_slice-values.ensures));
+      before = sym (layer_long layer σ list ws count undone e within);
       places = layer_differs layer σ list ws count undone e within (contains nat_eq c.in_ok-places.places) told;
     }

@@ -19,3 +19,11 @@ kept_marks-requires g c = λ path e.
     subst (λ (w : SeenLive). DiffersAlong path (tree_term w.tree) (tree_term c.self.inside.tree)) (sym c.before-2.view_is)
     (subst (λ (w : SeenLive). w.along ≡ Some path → DiffersAlong path (tree_term c.args.before.now.tree) (tree_term w.tree)) (sym c.self.view_is)
     (c.requires.along path) e)
+
+pub next_rows-requires-clause-marks : goal.next_rows-requires-clause-marks
+next_rows-requires-clause-marks g c = λ σ e.
+    let before = c.args.before.now in
+    let tells = rw (c.before-2.view_is, c.self.view_is) at c.in_ok-marks.ensures in
+    tells (map value_term σ) (map value_term c.args.store.now.list) (c.in_ok-changed.ensures σ e)
+    (c.fitting_trees_have_their_places.ensures (checked_term c.args.engine.now) (at (tree_term before.tree) (map value_term σ))
+    (c.requires.stood σ e))

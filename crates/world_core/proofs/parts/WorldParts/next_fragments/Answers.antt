@@ -6,7 +6,7 @@ use Rattle.task_model.specs.Terms.Item.{history_term}
 use Rattle.world_core.specs.Inside.{FieldsAgree, seen_next, seen_world}
 use Rattle.world_core.specs.World.{SeenWorld, drawn_as, world_term, next_term}
 use Rattle.world_core.specs.Pages.{AreNextFragments, next_most_steps}
-use Rattle.world_core.proofs.KeptLemmas.{next_fits, has_layer, layer_live, few_of, next_shown, next_drawn_world, next_drawn_kept}
+use Rattle.world_core.proofs.KeptLemmas.{next_fits, has_layer, layer_fits, layer_live, few_of, next_shown, next_drawn_world, next_drawn_kept}
 use Rattle.world_core.proofs.parts.WorldParts.next_fragments.Goals as goal
 
 pub next_drawn_fragments-fragments-requires : goal.next_drawn_fragments-fragments-requires
@@ -19,6 +19,8 @@ next_drawn_fragments-fragments-requires g c =
           c.in-Some.prepared kept;
       live = kept.next_rows;
       layer = has_layer c.self.inside.engine c.self.inside.budget c.self.inside.history c.self.inside.live c.self.inside.store
+          c.in-Some.prepared kept;
+      stood = layer_fits c.self.inside.engine c.self.inside.budget c.self.inside.history c.self.inside.live c.self.inside.store
           c.in-Some.prepared kept;
       before = layer_live c.self.inside.engine c.self.inside.budget c.self.inside.history c.self.inside.live c.self.inside.store
           c.in-Some.prepared kept;

@@ -3,26 +3,26 @@ use Rattle.task_model.specs.Terms.Tree.{tree_term}
 use Rattle.kept_nodes.specs.KeptMarks.{told, TellsKept}
 use Rattle.kept_nodes.proofs.MarkLemmas.{ok_two, ok_three, tells_leaf_parts, tells_step_parts, tells_pair_parts}
 use Rattle.kept_nodes.proofs.CountLemmas.{step_fewer, pair_fewer}
-use Rattle.kept_nodes.proofs.walk.+marks_of.Goals as goal
-use Rattle.kept_nodes.proofs.walk.+marks_of.Goals.{then-stays, else-stays}
+use Rattle.kept_nodes.proofs.walk.+kept.Goals as goal
+use Rattle.kept_nodes.proofs.walk.+kept.Goals.{then-stays, else-stays}
 
-pub marks_of-requires : goal.marks_of-requires
-marks_of-requires t c =
+pub kept-requires : goal.kept-requires
+kept-requires t c =
     let fewer = step_fewer (tree_term c.args.new.now) (tree_term c.in-Step.left.now) (sym c.in-Step.ensures) in
     let was = c.decreases in
-    (omega (arith, fewer, was), c.requires)
+    omega (arith, fewer, was)
 
-pub marks_of-requires-in-Pair : goal.marks_of-requires-in-Pair
-marks_of-requires-in-Pair t c =
+pub kept-requires-in-Pair : goal.kept-requires-in-Pair
+kept-requires-in-Pair t c =
     let fewer = pair_fewer (tree_term c.args.new.now) (tree_term c.in-Pair.a.now) (tree_term c.in-Pair.b.now) (sym c.in-Pair.ensures) in
     let was = c.decreases in
-    (omega (arith, fewer, was), c.requires)
+    omega (arith, fewer, was)
 
-pub marks_of-requires-in-Pair-2 : goal.marks_of-requires-in-Pair-2
-marks_of-requires-in-Pair-2 t c =
+pub kept-requires-in-Pair-2 : goal.kept-requires-in-Pair-2
+kept-requires-in-Pair-2 t c =
     let fewer = pair_fewer (tree_term c.args.new.now) (tree_term c.in-Pair.a.now) (tree_term c.in-Pair.b.now) (sym c.in-Pair.ensures) in
     let was = c.decreases in
-    (omega (arith, fewer, was), c.requires)
+    omega (arith, fewer, was)
 
 pub returns-after-stays : goal.returns-after-stays
 returns-after-stays t c =
@@ -30,7 +30,7 @@ returns-after-stays t c =
       | then-stays w ↦ ap (λ z. told z []) w.result-is ∙ sym w.if-stays.true
       | else-stays w ↦ ap (λ z. told z []) w.result-is ∙ sym w.if-stays.false
     ] in
-    rw c.in-Some.is (λ σ τ changes. tells_leaf_parts c.foot_is_in_order.ensures.agreeing σ τ c.args.changed.now c.requires changes
+    rw c.in-Some.is (λ σ τ changes. tells_leaf_parts c.foot_is_in_order.ensures.holding σ τ c.args.changed.now changes
     (tree_term c.in-Some.there.now) c.stays_alone-stays.result (tree_term c.args.new.now) c.if-stays.result (sym c.in-Leaf.ensures)
     c.stays_alone-stays.ensures root)
 
@@ -39,8 +39,8 @@ returns-in_ok-part-in-Step t c =
     let left = tree_term c.in-Step.left.now in
     let n = c.in_ok-part-in-Step.part in
     let stood = rw c.in-Some.is at c.left_part.ensures in
-    rw c.in-Some.is (ok_two c.of_step.result _ _ _ (λ m own below σ τ changes. tells_step_parts c.foot_is_in_order.ensures.agreeing σ τ
-    c.args.changed.now c.requires changes (tree_term c.in-Some.there.now) c.stays_alone-stays.result (tree_term c.args.new.now) left m n
+    rw c.in-Some.is (ok_two c.of_step.result _ _ _ (λ m own below σ τ changes. tells_step_parts c.foot_is_in_order.ensures.holding σ τ
+    c.args.changed.now changes (tree_term c.in-Some.there.now) c.stays_alone-stays.result (tree_term c.args.new.now) left m n
     (sym c.in-Step.ensures) c.stays_alone-stays.ensures
     (subst (λ o. TellsKept σ τ o left n) stood (c.in_ok-part-in-Step.ensures σ τ changes)) own below)
     c.of_step.ensures.own c.of_step.ensures.left)
@@ -54,7 +54,7 @@ returns-in_ok-second-in-Pair t c =
     let stood = rw c.in-Some.is at c.first_part.ensures in
     let other = rw c.in-Some.is at c.second_part.ensures in
     rw c.in-Some.is (ok_three c.of_pair.result _ _ _ _ (λ m own first second σ τ changes. tells_pair_parts
-    c.foot_is_in_order.ensures.agreeing σ τ c.args.changed.now c.requires changes (tree_term c.in-Some.there.now)
+    c.foot_is_in_order.ensures.holding σ τ c.args.changed.now changes (tree_term c.in-Some.there.now)
     c.stays_alone-stays.result (tree_term c.args.new.now) a b m n w (sym c.in-Pair.ensures) c.stays_alone-stays.ensures
     (subst (λ o. TellsKept σ τ o a n) stood (c.in_ok-first-in-Pair.ensures σ τ changes))
     (subst (λ o. TellsKept σ τ o b w) other (c.in_ok-second-in-Pair.ensures σ τ changes)) own first second)
