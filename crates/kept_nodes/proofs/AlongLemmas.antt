@@ -1,5 +1,5 @@
 -- Trees that differ along a path alone, part by part.
-use Rattle.std.proofs.Common.{◌≡◌, ◌↔◌, ◌<◌, ℕ, Bool, true, false, true≢false, List, [], ◌∷◌, length, Option, Some, refl, sym, ap, ◌∙◌, subst, arith}
+use Rattle.std.proofs.Common.{Bor, ◌≡◌, ◌↔◌, ◌<◌, ℕ, Bool, true, false, true≢false, List, [], ◌∷◌, length, Option, Some, refl, sym, ap, ◌∙◌, subst, arith}
 use Rattle.std.proofs.lemmas.Bool.Decides.{nat_tests}
 use Rattle.std.proofs.lemmas.List.Elements.{All-head, All-tail}
 use Rattle.std.specs.Prelude.{◌||◌, slice_get, nat_eq, IsTrue}
@@ -16,7 +16,10 @@ use Rattle.task_laws.specs.HoldAlike.{HoldAlike}
 use Rattle.kept_nodes.specs.Along.{DiffersAlong, ChangesNoValue}
 use Rattle.kept_nodes.specs.Changed.{AreChanges}
 use Rattle.kept_nodes.specs.KeptMarks.{TellsKept}
-use Rattle.kept_nodes.specs.NodeParts.{left_part_of, first_part_of, second_part_of, step_parts, pair_parts, node_parts}
+use Rattle.kept_nodes.specs.NodeParts.{left_part_of, first_part_of, second_part_of, NodePartsTerm, step_parts, pair_parts, node_parts, node_parts_term}
+use Rattle.kept_nodes.specs.declared.parts.Parts as parts
+use Rattle.kept_nodes.specs.declared.parts.Parts.TheVariants as parted
+use Rattle.task_model.specs.declared.tree.Tree.{Tree}
 use Rattle.kept_nodes.specs.Own.{alone, AreUnchanged, StaysAlone}
 use Rattle.kept_nodes.specs.declared.marks.Marks as marks
 use Rattle.kept_nodes.specs.declared.changed.Changed.{Changed}
@@ -133,86 +136,104 @@ head_same e = cc
 tail_same : {x y : Turn} {xs ys : List Turn} → x ∷ xs ≡ y ∷ ys → xs ≡ ys
 tail_same e = cc
 
+pub leaf_step : {t : Bor Tree} → parted.Leaf ≡ parted.Step t → ⊥
+leaf_step e = cc
+
+pub leaf_pair : {t u : Bor Tree} → parted.Leaf ≡ parted.Pair t u → ⊥
+leaf_pair e = cc
+
+pub step_pair : {t u v : Bor Tree} → parted.Step t ≡ parted.Pair u v → ⊥
+step_pair e = cc
+
 -- of two pairs that differ along a path with this first turn one part differs along the rest, and the other one is the same
 abbrev pub PartsDiffer : Turn → List Turn → (a b c d : TreeTerm) → Type 0
 PartsDiffer turns.First rest a b c d = DiffersAlong rest a c × (d ≡ b)
 PartsDiffer turns.Second rest a b c d = DiffersAlong rest b d × (c ≡ a)
 
+-- of two trees that differ along a path with this first turn so do their parts: the left parts of steps along all of it
+abbrev pub PartsAlong : Turn → List Turn → NodePartsTerm → NodePartsTerm → Type 0
+PartsAlong x rest (step_parts l) (step_parts m) = DiffersAlong (x ∷ rest) l m
+PartsAlong x rest (pair_parts a b) (pair_parts c d) = PartsDiffer x rest a b c d
+PartsAlong x rest p q = ⊥
+
 module _ (x : Turn) (rest : List Turn) (before after : TreeTerm) where
-  below : (path : List Turn) (t u w : TreeTerm) (a : Address) → address_turns a ≡ path → node_at t a ≡ Some before → t ≡ u
-      → w ≡ with_node t a after → DiffersAlong path u w
-  below path t u w a way there e is = record {
+  part_at : (path : List Turn) (t : TreeTerm) (a : Address) → address_turns a ≡ path → node_at t a ≡ Some before
+      → DiffersAlong path t (with_node t a after)
+  part_at path t a way there = record {
     address = a;
     turns = way;
     before = before;
-    there = subst (λ z. node_at z a ≡ Some before) e there;
+    there = there;
     after = after;
-    replaced = is ∙ ap (λ z. with_node z a after) e;
+    replaced = refl;
   }
 
-  step_at : (old new l m : TreeTerm) (a : Address) → address_turns a ≡ x ∷ rest → node_at old a ≡ Some before
-      → new ≡ with_node old a after → node_parts old ≡ step_parts l → node_parts new ≡ step_parts m
-      → DiffersAlong (x ∷ rest) l m × (alone old ≡ alone new)
-  step_at old new l m [] way there is p q = absurd (no_turn way)
-  step_at (then_tree t k) new l m (into_left ∷ a) way there is p q =
-      (below (x ∷ rest) t l m a way there (step_same p) (step_same (sym q ∙ ap node_parts is)), sym (ap alone is))
-  step_at (next_tree t k) new l m (into_left ∷ a) way there is p q =
-      (below (x ∷ rest) t l m a way there (step_same p) (step_same (sym q ∙ ap node_parts is)), sym (ap alone is))
-  step_at (then_tree t k) new l m (into_first ∷ a) way there is p q = absurd (none_some there)
-  step_at (then_tree t k) new l m (into_second ∷ a) way there is p q = absurd (none_some there)
-  step_at (next_tree t k) new l m (into_first ∷ a) way there is p q = absurd (none_some there)
-  step_at (next_tree t k) new l m (into_second ∷ a) way there is p q = absurd (none_some there)
-  step_at (and_tree t u) new l m (d ∷ a) way there is p q = absurd (pair_step p)
-  step_at (or_tree t u) new l m (d ∷ a) way there is p q = absurd (pair_step p)
-  step_at (edit_tree b v) new l m (d ∷ a) way there is p q = absurd (none_some there)
-  step_at (enter_tree b) new l m (d ∷ a) way there is p q = absurd (none_some there)
-  step_at (share_tree b n) new l m (d ∷ a) way there is p q = absurd (none_some there)
-  step_at fail_tree new l m (d ∷ a) way there is p q = absurd (none_some there)
-  step_at (xor_tree i j) new l m (d ∷ a) way there is p q = absurd (none_some there)
+  into_one : (t u : TreeTerm) (a : Address) → turns.First ∷ address_turns a ≡ x ∷ rest → node_at t a ≡ Some before
+      → PartsDiffer x rest t u (with_node t a after) u
+  into_one t u a way there =
+      subst (λ z. PartsDiffer z rest t u (with_node t a after) u) (head_same way) (part_at rest t a (tail_same way) there, refl)
 
-  module _ (a b c d : TreeTerm) where
-    -- into either part of a pair of t and u, which is made of them by f
-    into_one : (t u w : TreeTerm) (e : Address) → turns.First ∷ address_turns e ≡ x ∷ rest → node_at t e ≡ Some before
-        → pair_parts t u ≡ pair_parts a b → pair_parts c d ≡ pair_parts (with_node t e after) u → PartsDiffer x rest a b c d
-    into_one t u w e way there p q = subst (λ z. PartsDiffer z rest a b c d) (head_same way)
-        (below rest t a c e (tail_same way) there (pair_first p) (pair_first q), pair_second q ∙ pair_second p)
+  into_other : (t u : TreeTerm) (a : Address) → turns.Second ∷ address_turns a ≡ x ∷ rest → node_at u a ≡ Some before
+      → PartsDiffer x rest t u t (with_node u a after)
+  into_other t u a way there =
+      subst (λ z. PartsDiffer z rest t u t (with_node u a after)) (head_same way) (part_at rest u a (tail_same way) there, refl)
 
-    into_other : (t u w : TreeTerm) (e : Address) → turns.Second ∷ address_turns e ≡ x ∷ rest → node_at u e ≡ Some before
-        → pair_parts t u ≡ pair_parts a b → pair_parts c d ≡ pair_parts t (with_node u e after) → PartsDiffer x rest a b c d
-    into_other t u w e way there p q = subst (λ z. PartsDiffer z rest a b c d) (head_same way)
-        (below rest u b d e (tail_same way) there (pair_second p) (pair_second q), pair_first q ∙ pair_first p)
-
-    pair_at : (old new : TreeTerm) (e : Address) → address_turns e ≡ x ∷ rest → node_at old e ≡ Some before
-        → new ≡ with_node old e after → node_parts old ≡ pair_parts a b → node_parts new ≡ pair_parts c d
-        → PartsDiffer x rest a b c d × (alone old ≡ alone new)
-    pair_at old new [] way there is p q = absurd (no_turn way)
-    pair_at (and_tree t u) new (into_first ∷ e) way there is p q =
-        (into_one t u new e way there p (sym q ∙ ap node_parts is), sym (ap alone is))
-    pair_at (and_tree t u) new (into_second ∷ e) way there is p q =
-        (into_other t u new e way there p (sym q ∙ ap node_parts is), sym (ap alone is))
-    pair_at (or_tree t u) new (into_first ∷ e) way there is p q =
-        (into_one t u new e way there p (sym q ∙ ap node_parts is), sym (ap alone is))
-    pair_at (or_tree t u) new (into_second ∷ e) way there is p q =
-        (into_other t u new e way there p (sym q ∙ ap node_parts is), sym (ap alone is))
-    pair_at (and_tree t u) new (into_left ∷ e) way there is p q = absurd (none_some there)
-    pair_at (or_tree t u) new (into_left ∷ e) way there is p q = absurd (none_some there)
-    pair_at (then_tree t k) new (f ∷ e) way there is p q = absurd (pair_step (sym p))
-    pair_at (next_tree t k) new (f ∷ e) way there is p q = absurd (pair_step (sym p))
-    pair_at (edit_tree y v) new (f ∷ e) way there is p q = absurd (none_some there)
-    pair_at (enter_tree y) new (f ∷ e) way there is p q = absurd (none_some there)
-    pair_at (share_tree y n) new (f ∷ e) way there is p q = absurd (none_some there)
-    pair_at fail_tree new (f ∷ e) way there is p q = absurd (none_some there)
-    pair_at (xor_tree i j) new (f ∷ e) way there is p q = absurd (none_some there)
+  parts_at : (t : TreeTerm) (a : Address) → address_turns a ≡ x ∷ rest → node_at t a ≡ Some before
+      → PartsAlong x rest (node_parts t) (node_parts (with_node t a after)) × (alone t ≡ alone (with_node t a after))
+  parts_at t [] way there = absurd (no_turn way)
+  parts_at (then_tree t k) (into_left ∷ a) way there = (part_at (x ∷ rest) t a way there, refl)
+  parts_at (next_tree t k) (into_left ∷ a) way there = (part_at (x ∷ rest) t a way there, refl)
+  parts_at (and_tree t u) (into_first ∷ a) way there = (into_one t u a way there, refl)
+  parts_at (and_tree t u) (into_second ∷ a) way there = (into_other t u a way there, refl)
+  parts_at (or_tree t u) (into_first ∷ a) way there = (into_one t u a way there, refl)
+  parts_at (or_tree t u) (into_second ∷ a) way there = (into_other t u a way there, refl)
+  parts_at (then_tree t k) (into_first ∷ a) way there = absurd (none_some there)
+  parts_at (then_tree t k) (into_second ∷ a) way there = absurd (none_some there)
+  parts_at (next_tree t k) (into_first ∷ a) way there = absurd (none_some there)
+  parts_at (next_tree t k) (into_second ∷ a) way there = absurd (none_some there)
+  parts_at (and_tree t u) (into_left ∷ a) way there = absurd (none_some there)
+  parts_at (or_tree t u) (into_left ∷ a) way there = absurd (none_some there)
+  parts_at (edit_tree b v) (d ∷ a) way there = absurd (none_some there)
+  parts_at (enter_tree b) (d ∷ a) way there = absurd (none_some there)
+  parts_at (share_tree b n) (d ∷ a) way there = absurd (none_some there)
+  parts_at fail_tree (d ∷ a) way there = absurd (none_some there)
+  parts_at (xor_tree i j) (d ∷ a) way there = absurd (none_some there)
 
 module _ (path : List Turn) (x : Turn) (rest : List Turn) (e : path ≡ x ∷ rest) (old new : TreeTerm) (along : DiffersAlong path old new)
   where
+    -- the parts of both, and the nodes besides them
+    parts_along : PartsAlong x rest (node_parts old) (node_parts new) × (alone old ≡ alone new)
+    parts_along =
+        subst (λ z. PartsAlong x rest (node_parts old) (node_parts z) × (alone old ≡ alone z)) (sym along.replaced)
+        (parts_at x rest along.before along.after old along.address (along.turns ∙ e) along.there)
+
+    told_along : (p q : NodePartsTerm) → p ≡ node_parts old → q ≡ node_parts new → PartsAlong x rest p q
+    told_along p q f g =
+        subst (λ z. PartsAlong x rest z q) (sym f) (subst (λ z. PartsAlong x rest (node_parts old) z) (sym g) parts_along.0)
+
     pub step_along : (l m : TreeTerm) → step_parts l ≡ node_parts old → step_parts m ≡ node_parts new
         → DiffersAlong path l m × (alone old ≡ alone new)
     step_along l m p q =
-        let r = step_at x rest along.before along.after old new l m along.address (along.turns ∙ e) along.there along.replaced (sym p) (sym q) in
-        (subst (λ z. DiffersAlong z l m) (sym e) r.0, r.1)
+        (subst (λ z. DiffersAlong z l m) (sym e) (told_along (step_parts l) (step_parts m) p q), parts_along.1)
 
     pub pair_along : (a b c d : TreeTerm) → pair_parts a b ≡ node_parts old → pair_parts c d ≡ node_parts new
         → PartsDiffer x rest a b c d × (alone old ≡ alone new)
-    pair_along a b c d p q =
-        pair_at x rest along.before along.after a b c d old new along.address (along.turns ∙ e) along.there along.replaced (sym p) (sym q)
+    pair_along a b c d p q = (told_along (pair_parts a b) (pair_parts c d) p q, parts_along.1)
+
+    -- a path goes on at two steps or at two pairs alone
+    goes_on : (p q : parts.Parts) → node_parts_term p ≡ node_parts old → node_parts_term q ≡ node_parts new
+        → PartsAlong x rest (node_parts_term p) (node_parts_term q)
+    goes_on p q f g = told_along (node_parts_term p) (node_parts_term q) f g
+
+    pub no_way : (p q : parts.Parts) → node_parts_term p ≡ node_parts old → node_parts_term q ≡ node_parts new
+        → ((t u : Bor Tree) → p ≡ parted.Step t → q ≡ parted.Step u → ⊥)
+        → ((s t u v : Bor Tree) → p ≡ parted.Pair s t → q ≡ parted.Pair u v → ⊥) → ⊥
+    no_way parted.Leaf parted.Leaf f g steps pairs = goes_on parted.Leaf parted.Leaf f g
+    no_way parted.Leaf (parted.Step u) f g steps pairs = goes_on parted.Leaf (parted.Step u) f g
+    no_way parted.Leaf (parted.Pair u v) f g steps pairs = goes_on parted.Leaf (parted.Pair u v) f g
+    no_way (parted.Step t) parted.Leaf f g steps pairs = goes_on (parted.Step t) parted.Leaf f g
+    no_way (parted.Step t) (parted.Step u) f g steps pairs = steps t u refl refl
+    no_way (parted.Step t) (parted.Pair u v) f g steps pairs = goes_on (parted.Step t) (parted.Pair u v) f g
+    no_way (parted.Pair s t) parted.Leaf f g steps pairs = goes_on (parted.Pair s t) parted.Leaf f g
+    no_way (parted.Pair s t) (parted.Step u) f g steps pairs = goes_on (parted.Pair s t) (parted.Step u) f g
+    no_way (parted.Pair s t) (parted.Pair u v) f g steps pairs = pairs s t u v refl refl

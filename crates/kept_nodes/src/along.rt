@@ -64,6 +64,6 @@ fn marks_along(
             let second = marks_along(alloc, was, part, rest, changed)?;
             Marks::of_pair(alloc, true, Marks::Whole, second)
         }
-        _ => kept(alloc, Some(old), new, changed),
+        _ => unreachable!(),
     }
 }

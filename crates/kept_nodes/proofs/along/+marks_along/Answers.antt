@@ -7,16 +7,13 @@ use Rattle.kept_nodes.specs.KeptMarks.{TellsKept}
 use Rattle.kept_nodes.specs.declared.marks.Marks as marks
 use Rattle.kept_nodes.proofs.MarkLemmas.{ok_two, ok_three, tells_step_parts, tells_pair_parts}
 use Rattle.kept_nodes.proofs.CountLemmas.{step_fewer, pair_fewer}
-use Rattle.kept_nodes.proofs.AlongLemmas.{stays_beside, whole_beside, step_there, both_there, left_is, both_are, step_along, pair_along}
+use Rattle.kept_nodes.proofs.AlongLemmas.{stays_beside, whole_beside, step_there, both_there, left_is, both_are, step_along, pair_along, leaf_step, leaf_pair, step_pair, no_way}
 use Rattle.kept_nodes.proofs.along.+marks_along.Goals as goal
+use Rattle.kept_nodes.proofs.along.+marks_along.Goals.{in_default-2-via-in-Step+in_default, in_default-2-via-in-Pair+in-First+in_default, in_default-2-via-in-Pair+in-Second+in_default, in_default-2-via-in_default}
 
 -- ---- where the whole is looked at
 pub returns-in_default : goal.returns-in_default
 returns-in_default t c = IfOk-weaker c.kept.result _ _ (λ m h σ τ changes placed. h σ τ changes) c.kept.ensures
-
-pub returns-in_default-2 : goal.returns-in_default-2
-returns-in_default-2 t c =
-    IfOk-weaker c.kept-in_default-2.result _ _ (λ m h σ τ changes placed. h σ τ changes) c.kept-in_default-2.ensures
 
 -- ---- at a step
 pub marks_along-requires : goal.marks_along-requires
@@ -116,3 +113,19 @@ returns-in_ok-second-in-Second-Pair-Pair t c =
     (subst (HasPlaces σ) (sym parts.0.1) (both_there σ old a b placed (sym here.ensures)).0) (stood.0 ∙ ap Some (sym parts.0.1)))
     (subst (λ o. TellsKept σ τ o part n) (sym stood.1) (c.in_ok-second-in-Second-Pair-Pair.ensures σ τ changes (both_there σ old a b placed (sym here.ensures)).1)) own first second)
     c.of_pair-in-Second-Pair-Pair.ensures.own c.of_pair-in-Second-Pair-Pair.ensures.first c.of_pair-in-Second-Pair-Pair.ensures.second
+
+-- ---- a path goes on at two steps or at two pairs
+pub unreachable-requires : goal.unreachable-requires
+unreachable-requires t c =
+    let none = no_way c.args.path.now c.in-Some.turn.now c.in-Some.rest.now c.in-Some.ensures.cases.0 (tree_term c.args.old.now)
+    (tree_term c.args.new.now) c.requires.along c.parts_of.result c.parts_of-2.result c.parts_of.ensures c.parts_of-2.ensures in
+    elim c.in_default-2.branch [
+      | in_default-2-via-in-Step+in_default w ↦
+          none (λ t u p q. w.in_default-2.not-Step-2 u q) (λ s t u v p q. step_pair (sym w.in_default-2.is-1 ∙ p))
+      | in_default-2-via-in-Pair+in-First+in_default w ↦
+          none (λ t u p q. step_pair (sym p ∙ w.in_default-2.is-1)) (λ s t u v p q. w.in_default-2.not-Pair-2 u v q)
+      | in_default-2-via-in-Pair+in-Second+in_default w ↦
+          none (λ t u p q. step_pair (sym p ∙ w.in_default-2.is-1)) (λ s t u v p q. w.in_default-2.not-Pair-2 u v q)
+      | in_default-2-via-in_default w ↦
+          none (λ t u p q. leaf_step (sym w.in_default-2.is-1 ∙ p)) (λ s t u v p q. leaf_pair (sym w.in_default-2.is-1 ∙ p))
+    ]
