@@ -1,6 +1,6 @@
 -- Where the rows of a tree and of its parts stand, and what a walk adds, by the parts.
-use Rattle.std.proofs.Common.{◌≡◌, ◌↔◌, ◌<◌, ◌≤◌, ℕ, suc, ◌+◌, Bool, true, false, List, [], ◌∷◌, ◌++◌, length, length-append, map, Option, None, Some, refl, sym, ap, ◌∙◌, subst, append_assoc, arith}
-use Rattle.std.specs.Prelude.{take, drop, slice_index}
+use Rattle.std.proofs.Common.{◌≡◌, ◌↔◌, ◌<◌, ◌≤◌, ℕ, suc, ◌+◌, true, List, [], ◌∷◌, ◌++◌, length, length-append, map, Option, None, Some, refl, sym, ap, ◌∙◌, subst, append_assoc, arith}
+use Rattle.std.specs.Prelude.{drop, slice_index}
 use Rattle.std.proofs.lemmas.List.{append-nil, get_or_at, length-map, map-append}
 use Rattle.task_model.specs.Terms.Value.{ValueTerm}
 use Rattle.task_model.specs.Terms.Tree.{TreeTerm, edit_tree, enter_tree, share_tree, then_tree, next_tree, fail_tree, and_tree, or_tree, xor_tree, at}
@@ -9,7 +9,7 @@ use Rattle.task_model.specs.Running.Foot.{foot}
 use Rattle.task_laws.specs.HoldAlike.{HoldAlike}
 use Rattle.task_model.specs.Running.Address.{Address, into_left, into_first, into_second, node_at}
 use Rattle.task_model.specs.Checking.Fits.{Fits}
-use Rattle.task_model.specs.Showing.Widget.{WidgetTerm, ShapeTerm, here, shifted, both_widgets, then_shape, step_shape, and_shape, or_shape, AreWidgets}
+use Rattle.task_model.specs.Showing.Widget.{WidgetTerm, ShapeTerm, here, both_widgets, then_shape, step_shape, and_shape, or_shape, AreWidgets}
 use Rattle.task_model.specs.declared.input.Turn.{Turn}
 use Rattle.task_model.specs.declared.input.Turn.TheVariants as turns
 use Rattle.task_tree.specs.Below.{widget_below}
@@ -17,15 +17,14 @@ use Rattle.task_tree.proofs.BelowLemmas.{widgets_at_root, widgets_of_both}
 use Rattle.html_pages.specs.Fragments.{FragmentTerm, fragment_of}
 use Rattle.kept_nodes.specs.Kept.{node_in, IsKeptIn}
 use Rattle.kept_nodes.specs.KeptMarks.{told, TellsKept}
-use Rattle.kept_nodes.specs.NodeParts.{left_part_of, first_part_of, second_part_of, leaf_parts, step_parts, pair_parts, node_parts}
+use Rattle.kept_nodes.specs.NodeParts.{left_part_of, first_part_of, second_part_of, step_parts, pair_parts, node_parts}
 use Rattle.kept_nodes.specs.declared.marks.Marks.{Marks}
 use Rattle.kept_nodes.proofs.MarkLemmas.{in_left, in_first, in_second, not_step, not_pair, pair_step, step_same, pair_first, pair_second, tells_part}
-use Rattle.node_rows.specs.Rows.{RowsTerm, no_rows, AreRows, rows_of, row_of, rows_append, rows_closed, rows_part, widget_signs}
+use Rattle.node_rows.specs.Rows.{RowsTerm, no_rows, AreRows, row_of, rows_append, rows_closed, rows_part, widget_signs}
 use Rattle.node_rows.specs.declared.signs.Signs.{Signs}
 use Rattle.node_rows.specs.TreeNodes.{tree_nodes, sizes_of}
 use Rattle.node_rows.proofs.CountLemmas.{one_each}
 use Rattle.node_rows.proofs.SizeLemmas.{closed, sizes_long, sizes_split}
-use Rattle.kept_rows.specs.Shapes.{IsShape}
 use Rattle.kept_rows.specs.Follows.{RowsFollow, RootFollows, PartsFollow, StandsFrom, RowsStand, FormerStand, FormerIsTold, FormerSize, former_nodes, former_root}
 use Rattle.kept_rows.proofs.PlaceLemmas.{stands_within, stands_taken, stands_rest, stands_first, stands_second, stands_whole, stands_same}
 

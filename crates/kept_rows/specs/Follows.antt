@@ -1,5 +1,5 @@
 -- Where the rows of a tree stand among others.
-use Rattle.std.specs.Prelude.{◌≡◌, ℕ, ◌+◌, ◌<◌, ◌≤◌, List, [], ◌∷◌, ◌++◌, map, length, slice_index, Option, None, Some}
+use Rattle.std.specs.Prelude.{◌≡◌, ℕ, ◌<◌, List, [], ◌∷◌, ◌++◌, map, length, slice_index, Option, None, Some}
 use Rattle.std.specs.Option.{option_map}
 use Rattle.task_model.specs.Terms.Value.{ValueTerm}
 use Rattle.task_model.specs.Terms.Tree.{TreeTerm, tree_term}
@@ -9,7 +9,6 @@ use Rattle.task_model.specs.declared.input.Turn.{Turn}
 use Rattle.task_model.specs.declared.input.Turn.TheVariants as turns
 use Rattle.task_tree.specs.Below.{widget_below}
 use Rattle.html_pages.specs.Fragments.{fragment_of}
-use Rattle.kept_nodes.specs.Kept.{addresses}
 use Rattle.kept_nodes.specs.KeptMarks.{TellsKept}
 use Rattle.kept_nodes.specs.NodeParts.{NodePartsTerm, leaf_parts, step_parts, pair_parts}
 use Rattle.kept_nodes.specs.declared.marks.Marks.{Marks}

@@ -1,10 +1,7 @@
-use Rattle.std.proofs.Common.{◌≡◌, ◌+◌, ◌*◌, ◌≤◌, [], ◌∷◌, ◌++◌, map, refl, sym, ap, ◌∙◌, subst, arith}
+use Rattle.std.proofs.Common.{◌≡◌, ◌+◌, sym, ap, ◌∙◌, arith}
 use Rattle.std.specs.Prelude.{slice_index}
 use Rattle.std.proofs.lemmas.Result.{IfOk-weaker, on_ok_weaker}
-use Rattle.task_model.specs.Terms.Value.{value_term}
 use Rattle.task_model.specs.Terms.Tree.{tree_term}
-use Rattle.task_model.specs.Running.Checked.{checked_term}
-use Rattle.task_model.specs.declared.input.Turn.TheVariants as turns
 use Rattle.kept_nodes.proofs.CountLemmas.{step_fewer, pair_fewer, untold_step, untold_pair}
 use Rattle.kept_rows.specs.Follows.{former_nodes, former_root, tree_in}
 use Rattle.kept_rows.proofs.CountLemmas.{left_within, both_within}

@@ -1,4 +1,4 @@
-use Rattle.std.proofs.Common.{map, ap, arith}
+use Rattle.std.proofs.Common.{ap, arith}
 use Rattle.std.specs.Option.{option_map}
 use Rattle.task_model.specs.Terms.Tree.{tree_term}
 use Rattle.kept_rows.specs.Follows.{former_root, tree_in}
