@@ -1,9 +1,11 @@
 use Rattle.std.proofs.Common.{◌≡◌, Some, map, sym, ap, subst, arith}
 use Rattle.std.proofs.lemmas.Result.{on_ok_weaker}
 use Rattle.task_model.specs.Terms.Value.{value_term}
-use Rattle.task_model.specs.Terms.Tree.{tree_term}
+use Rattle.task_model.specs.Terms.Tree.{tree_term, at}
+use Rattle.task_model.specs.Running.Checked.{checked_term}
 use Rattle.node_rows.specs.TreeNodes.{tree_nodes}
 use Rattle.node_rows.proofs.CountLemmas.{two_each}
+use Rattle.task_laws.specs.TreePlaces.{HasPlaces}
 use Rattle.kept_nodes.specs.Along.{DiffersAlong}
 use Rattle.live_tree.specs.Live.{SeenLive}
 use Rattle.live_tree.proofs.tree.LiveTree.rows_from.Goals as goal
@@ -22,8 +24,8 @@ kept_marks-requires g c = λ path e.
 
 pub next_rows-requires-clause-marks : goal.next_rows-requires-clause-marks
 next_rows-requires-clause-marks g c = λ σ e.
-    let before = c.args.before.now in
-    let tells = rw (c.before-2.view_is, c.self.view_is) at c.in_ok-marks.ensures in
-    tells (map value_term σ) (map value_term c.args.store.now.list) (c.in_ok-changed.ensures σ e)
-    (c.fitting_trees_have_their_places.ensures (checked_term c.args.engine.now) (at (tree_term before.tree) (map value_term σ))
-    (c.requires.stood σ e))
+    let values = map value_term σ in
+    let there = c.fitting_trees_have_their_places.ensures (checked_term c.args.engine.now) (at (tree_term c.args.before.now.tree) values)
+    (c.requires.stood σ e) in
+    c.in_ok-marks-in-Some.ensures values (map value_term c.args.store.now.list) (c.in_ok-changed-in-Some.ensures σ e)
+    (subst (λ (w : SeenLive). HasPlaces values (tree_term w.tree)) (sym c.before-2.view_is) there)
