@@ -1,4 +1,4 @@
--- What an input leaves as it was where nothing fires.
+-- Trees in which nothing fires beside a path.
 use Rattle.std.specs.Prelude.{List}
 use Rattle.task_model.specs.Terms.Value.{ValueTerm}
 use Rattle.task_model.specs.Terms.Tree.{TreeTerm}

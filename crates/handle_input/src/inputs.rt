@@ -53,7 +53,7 @@ pub fn handle(
 
 /// Handles an input and settles the state that it leads to, with a purse of so many units and the full height. `Ok` has the tree,
 /// over the values that the store has then. A refusal leaves the values as they were. Where it is known that nothing fires in the tree (`quiet`), no
-/// more than what stands along the input's path is looked at for what fires.
+/// more than what stands along the input's path is looked at for what fires, unless something does: from then on all of the tree is.
 pub fn interact(
     engine: &Engine,
     t: &Tree,
@@ -108,7 +108,7 @@ fn interacted(
     match led {
         None => Ok(None),
         Some(u) => {
-            // Whether a part beside the path has a value depends on no value of the store.
+            // Whether a part beside the path has a value depends on no value of the store, which has all its places.
             let beside = quiet.then_some(turns);
             settled(engine, u, beside, store, purse)
         }

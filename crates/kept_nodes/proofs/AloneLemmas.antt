@@ -11,7 +11,7 @@ use Rattle.task_model.specs.Terms.Tree.{LaterTerm, TreeTerm, edit_tree, enter_tr
 use Rattle.task_model.specs.Running.Foot.{foot}
 use Rattle.task_model.specs.Running.Address.{Address, into_left, into_first, into_second, node_at}
 use Rattle.task_laws.specs.TreePlaces.{slot_places, places_in, HasPlaces}
-use Rattle.task_laws.specs.HoldAlike.{HoldAlike}
+use Rattle.task_laws.specs.HaveAlike.{HaveAlike}
 use Rattle.kept_nodes.specs.Kept.{node_in, IsKeptIn}
 use Rattle.kept_nodes.specs.Changed.{AreChanges, is_changed}
 use Rattle.kept_nodes.specs.Own.{alone, AreUnchanged, LaterStays, StaysAlone}
@@ -91,8 +91,8 @@ own_places P (xor_tree i j) h = h
 pub own_there : (σ : List ValueTerm) (t : TreeTerm) → HasPlaces σ t → HasPlaces σ (alone t)
 own_there σ t h = own_places (λ n. n < length σ) t h
 
-module _ (holding : (t : TreeTerm) (σ τ : List ValueTerm)
-    → HoldAlike (foot t) σ τ ↔ All (λ n. (n < length σ) × (slice_get σ n ≡ slice_get τ n)) (places_in t)) (σ τ : List ValueTerm) where
+module _ (having : (t : TreeTerm) (σ τ : List ValueTerm)
+    → HaveAlike (foot t) σ τ ↔ All (λ n. (n < length σ) × (slice_get σ n ≡ slice_get τ n)) (places_in t)) (σ τ : List ValueTerm) where
   abbrev Same : ℕ → Type 0
   Same n = (n < length σ) × (slice_get σ n ≡ slice_get τ n)
 
@@ -117,22 +117,22 @@ module _ (holding : (t : TreeTerm) (σ τ : List ValueTerm)
   places_below (and_tree t s) (into_left ∷ a) u e h = absurd (none_some e)
   places_below (or_tree t s) (into_left ∷ a) u e h = absurd (none_some e)
 
-  pub held_below : (t : TreeTerm) (a : Address) (u : TreeTerm) → node_at t a ≡ Some u → HoldAlike (foot t) σ τ → HoldAlike (foot u) σ τ
-  held_below t a u e h = (holding u σ τ).1 (places_below t a u e ((holding t σ τ).0 h))
+  pub alike_below : (t : TreeTerm) (a : Address) (u : TreeTerm) → node_at t a ≡ Some u → HaveAlike (foot t) σ τ → HaveAlike (foot u) σ τ
+  alike_below t a u e h = (having u σ τ).1 (places_below t a u e ((having t σ τ).0 h))
 
   -- what is kept at the root
-  pub root_kept : (o : Option TreeTerm) (t : TreeTerm) → IsKeptIn σ τ o t [] → (o ≡ Some t) × HoldAlike (foot t) σ τ
+  pub root_kept : (o : Option TreeTerm) (t : TreeTerm) → IsKeptIn σ τ o t [] → (o ≡ Some t) × HaveAlike (foot t) σ τ
   root_kept o t k =
       let same : k.node ≡ t = sym (some_same k.after) in
-      (here o t (k.before ∙ ap Some same), subst (λ z. HoldAlike (foot z) σ τ) same k.held)
+      (here o t (k.before ∙ ap Some same), subst (λ z. HaveAlike (foot z) σ τ) same k.alike)
 
-  pub root_stays : (o : Option TreeTerm) (t : TreeTerm) → o ≡ Some t → HoldAlike (foot t) σ τ → IsKeptIn σ τ o t []
-  root_stays o t e h = record { node = t; before = ap (λ z. node_in z []) e; after = refl; held = h }
+  pub root_stays : (o : Option TreeTerm) (t : TreeTerm) → o ≡ Some t → HaveAlike (foot t) σ τ → IsKeptIn σ τ o t []
+  root_stays o t e h = record { node = t; before = ap (λ z. node_in z []) e; after = refl; alike = h }
 
   -- a part of a tree that is kept at its root is kept at its own
   part_kept : (x t : TreeTerm) (d : Address) (o : Option TreeTerm) (u : TreeTerm) → o ≡ Some u → node_at t d ≡ Some u
-      → HoldAlike (foot t) σ τ → IsKeptIn σ τ o u []
-  part_kept x t d o u e is h = root_stays o u e (held_below t d u is h)
+      → HaveAlike (foot t) σ τ → IsKeptIn σ τ o u []
+  part_kept x t d o u e is h = root_stays o u e (alike_below t d u is h)
 
   -- what the parts of a node have to keep
   abbrev pub PartsKept : TreeTerm → TreeTerm → Type 0
@@ -145,14 +145,14 @@ module _ (holding : (t : TreeTerm) (σ τ : List ValueTerm)
   module _ (c : Changed) (changes : AreChanges σ τ c) where
     same_at : (n : ℕ) → is_changed c n ≡ false → Same n
     same_at n e =
-        let both = neither (nat_le c.before n) (contains nat_eq c.places n) e in
-        let there : n < length σ = subst (λ k. n < k) changes.before (leb-false c.before n both.0) in
+        let both = neither (nat_le c.count_before n) (contains nat_eq c.places n) e in
+        let there : n < length σ = subst (λ k. n < k) changes.count (leb-false c.count_before n both.0) in
         (there, (changes.places n there).0 both.1)
 
     unchanged_at : (n : ℕ) → Same n → is_changed c n ≡ false
     unchanged_at n h =
-        let there : n < c.before = subst (λ k. n < k) (sym changes.before) h.0 in
-        ap (λ b. b || contains nat_eq c.places n) (lt-leb c.before n there) ∙ (changes.places n h.0).1 h.1
+        let there : n < c.count_before = subst (λ k. n < k) (sym changes.count) h.0 in
+        ap (λ b. b || contains nat_eq c.places n) (lt-leb c.count_before n there) ∙ (changes.places n h.0).1 h.1
 
     pub same_unchanged : (ns : List ℕ) → AreUnchanged c ns → All Same ns
     same_unchanged [] h = All-nil Same
@@ -164,10 +164,10 @@ module _ (holding : (t : TreeTerm) (σ τ : List ValueTerm)
 
     -- a part that is kept keeps the values of its places
     part_same : (o : Option TreeTerm) (t : TreeTerm) → IsKeptIn σ τ o t [] → All Same (places_in t)
-    part_same o t k = (holding t σ τ).0 (root_kept o t k).1
+    part_same o t k = (having t σ τ).0 (root_kept o t k).1
 
     stays_from : (x t : TreeTerm) → x ≡ t → All Same (places_in t) → IsKeptIn σ τ (Some x) t []
-    stays_from x t e h = root_stays (Some x) t (ap Some e) ((holding t σ τ).1 h)
+    stays_from x t e h = root_stays (Some x) t (ap Some e) ((having t σ τ).1 h)
 
     pub root_up : (x t : TreeTerm) → StaysAlone c x t → PartsKept x t → IsKeptIn σ τ (Some x) t []
     root_up x (edit_tree b v) s p =
@@ -218,7 +218,7 @@ module _ (holding : (t : TreeTerm) (σ τ : List ValueTerm)
         (All-append Same (places_in t) (places_in u) (part_same (first_part_of (Some x)) t p.0)
         (part_same (second_part_of (Some x)) u p.1))
 
-    parts_down : (x t : TreeTerm) → x ≡ t → HoldAlike (foot t) σ τ → PartsKept x t
+    parts_down : (x t : TreeTerm) → x ≡ t → HaveAlike (foot t) σ τ → PartsKept x t
     parts_down x (then_tree l k) e h =
         part_kept x (then_tree l k) (into_left ∷ []) (left_part_of (Some x)) l (ap (λ z. left_part_of (Some z)) e) refl h
     parts_down x (next_tree l k) e h =
@@ -241,7 +241,7 @@ module _ (holding : (t : TreeTerm) (σ τ : List ValueTerm)
     root_down x t k =
         let r = root_kept (Some x) t k in
         let same = some_same r.0 in
-        let all = (holding t σ τ).0 r.1 in
+        let all = (having t σ τ).0 r.1 in
         ((ap alone same, unchanged_same (places_in (alone t)) (own_places Same t all)), parts_down x t same r.1)
 
 -- ---- both sides of a choice

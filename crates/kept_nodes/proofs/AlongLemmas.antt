@@ -12,7 +12,7 @@ use Rattle.task_model.specs.Running.Address.{Address, into_left, into_first, int
 use Rattle.task_model.specs.declared.input.Turn.{Turn}
 use Rattle.task_model.specs.declared.input.Turn.TheVariants as turns
 use Rattle.task_laws.specs.TreePlaces.{slot_places, places_in, HasPlaces}
-use Rattle.task_laws.specs.HoldAlike.{HoldAlike}
+use Rattle.task_laws.specs.HaveAlike.{HaveAlike}
 use Rattle.kept_nodes.specs.Along.{DiffersAlong, ChangesNoValue}
 use Rattle.kept_nodes.specs.Changed.{AreChanges}
 use Rattle.kept_nodes.specs.KeptMarks.{TellsKept}
@@ -26,7 +26,7 @@ use Rattle.kept_nodes.specs.declared.changed.Changed.{Changed}
 use Rattle.kept_nodes.proofs.AloneLemmas.{none_some, all_left, all_right, lt-leb, own_there, root_stays, same_unchanged}
 use Rattle.kept_nodes.proofs.MarkLemmas.{not_step, not_pair, pair_step, step_same, pair_first, pair_second, tells_whole}
 
--- ---- where no place changed
+-- ---- where no place that was there has another value
 none_among : (ks : List ℕ) → length ks ≡ 0 → (n : ℕ) → list_any (nat_eq n) ks ≡ false
 none_among [] e n = refl
 none_among (k ∷ ks) e n = absurd (omega (arith, e))
@@ -45,8 +45,8 @@ unchanged_there : (σ τ : List ValueTerm) (c : Changed) → ChangesNoValue c �
     → AreUnchanged c ns
 unchanged_there σ τ c h changes [] there = tt
 unchanged_there σ τ c h changes (n ∷ ns) there =
-    let lt : n < c.before = subst (λ k. n < k) (sym changes.before) (All-head (λ m. m < length σ) n ns there) in (
-      ap (λ b. b || contains nat_eq c.places n) (lt-leb c.before n lt) ∙ h n,
+    let lt : n < c.count_before = subst (λ k. n < k) (sym changes.count) (All-head (λ m. m < length σ) n ns there) in (
+      ap (λ b. b || contains nat_eq c.places n) (lt-leb c.count_before n lt) ∙ h n,
       unchanged_there σ τ c h changes ns (All-tail (λ m. m < length σ) n ns there),
     )
 
@@ -63,13 +63,13 @@ stays_beside σ τ c h changes x t there e = (
 )
 
 -- and a part that is the same is kept
-pub whole_beside : (holding : (t : TreeTerm) (σ τ : List ValueTerm)
-    → HoldAlike (foot t) σ τ ↔ All (λ n. (n < length σ) × (slice_get σ n ≡ slice_get τ n)) (places_in t))
+pub whole_beside : (having : (t : TreeTerm) (σ τ : List ValueTerm)
+    → HaveAlike (foot t) σ τ ↔ All (λ n. (n < length σ) × (slice_get σ n ≡ slice_get τ n)) (places_in t))
     (σ τ : List ValueTerm) (c : Changed) → ChangesNoValue c → AreChanges σ τ c → (o : Option TreeTerm) (t : TreeTerm) → HasPlaces σ t
     → o ≡ Some t → TellsKept σ τ o t marks.Whole
-whole_beside holding σ τ c h changes o t there is =
-    tells_whole holding σ τ o t (root_stays holding σ τ o t is ((holding t σ τ).1
-    (same_unchanged holding σ τ c changes (places_in t) (unchanged_there σ τ c h changes (places_in t) there))))
+whole_beside having σ τ c h changes o t there is =
+    tells_whole having σ τ o t (root_stays having σ τ o t is ((having t σ τ).1
+    (same_unchanged having σ τ c changes (places_in t) (unchanged_there σ τ c h changes (places_in t) there))))
 
 -- ---- the places of parts
 pub step_there : (σ : List ValueTerm) (t l : TreeTerm) → HasPlaces σ t → node_parts t ≡ step_parts l → HasPlaces σ l

@@ -7,7 +7,7 @@ use Rattle.task_model.specs.Terms.Tree.{LaterTerm, TreeTerm, edit_tree, enter_tr
 use Rattle.task_model.specs.Running.Foot.{foot}
 use Rattle.task_model.specs.Running.Address.{DownTerm, Address, into_left, into_first, into_second, node_at}
 use Rattle.task_laws.specs.TreePlaces.{places_in}
-use Rattle.task_laws.specs.HoldAlike.{HoldAlike}
+use Rattle.task_laws.specs.HaveAlike.{HaveAlike}
 use Rattle.kept_nodes.specs.Kept.{node_in, IsKeptIn}
 use Rattle.kept_nodes.specs.KeptMarks.{told, TellsKept}
 use Rattle.kept_nodes.specs.Changed.{AreChanges}
@@ -15,7 +15,7 @@ use Rattle.kept_nodes.specs.Own.{StaysAlone}
 use Rattle.kept_nodes.specs.NodeParts.{left_part_of, first_part_of, second_part_of, leaf_parts, step_parts, pair_parts, node_parts}
 use Rattle.kept_nodes.specs.declared.marks.Marks as marks
 use Rattle.kept_nodes.specs.declared.changed.Changed.{Changed}
-use Rattle.kept_nodes.proofs.AloneLemmas.{none_some, held_below, root_kept, PartsKept, root_up, root_down}
+use Rattle.kept_nodes.proofs.AloneLemmas.{none_some, alike_below, root_kept, PartsKept, root_up, root_down}
 
 -- ---- both of two tests
 both_true : (a b : Bool) → (a && b) ≡ true → (a ≡ true) × (b ≡ true)
@@ -91,17 +91,17 @@ in_second (Some (and_tree t u)) a = refl
 in_second (Some (or_tree t u)) a = refl
 in_second (Some (xor_tree j k)) a = refl
 
-module _ (holding : (t : TreeTerm) (σ τ : List ValueTerm)
-    → HoldAlike (foot t) σ τ ↔ All (λ n. (n < length σ) × (slice_get σ n ≡ slice_get τ n)) (places_in t)) (σ τ : List ValueTerm) where
+module _ (having : (t : TreeTerm) (σ τ : List ValueTerm)
+    → HaveAlike (foot t) σ τ ↔ All (λ n. (n < length σ) × (slice_get σ n ≡ slice_get τ n)) (places_in t)) (σ τ : List ValueTerm) where
   -- marks that tell of all below a node that it is kept
   pub tells_whole : (o : Option TreeTerm) (t : TreeTerm) → IsKeptIn σ τ o t [] → TellsKept σ τ o t marks.Whole
   tells_whole o t k a u is =
-      let r = root_kept holding σ τ o t k in (
+      let r = root_kept having σ τ o t k in (
         λ _. record {
           node = u;
           before = ap (λ z. node_in z a) r.0 ∙ is;
           after = is;
-          held = held_below holding σ τ t a u is r.1;
+          alike = alike_below having σ τ t a u is r.1;
         },
         λ _. refl,
       )
@@ -117,8 +117,8 @@ part_tells : {σ τ : List ValueTerm} {b c : Bool} {t u : TreeTerm} {o o' : Opti
 part_tells p q e h = (
   λ f.
       let k = h.0 (sym e ∙ f) in
-      record { node = k.node; before = p ∙ k.before; after = q ∙ k.after; held = k.held },
-  λ k. e ∙ h.1 (record { node = k.node; before = sym p ∙ k.before; after = sym q ∙ k.after; held = k.held }),
+      record { node = k.node; before = p ∙ k.before; after = q ∙ k.after; alike = k.alike },
+  λ k. e ∙ h.1 (record { node = k.node; before = sym p ∙ k.before; after = sym q ∙ k.after; alike = k.alike }),
 )
 
 -- marks that tell of a tree tell of a part of it
@@ -128,19 +128,19 @@ pub tells_part : (σ τ : List ValueTerm) (o o' : Option TreeTerm) (t u : TreeTe
 tells_part σ τ o o' t u d m n p q e tells a v is =
     part_tells (sym (p a)) (sym (q a)) (e a) (tells (d ∷ a) v (q a ∙ is))
 
-module _ (holding : (t : TreeTerm) (σ τ : List ValueTerm)
-    → HoldAlike (foot t) σ τ ↔ All (λ n. (n < length σ) × (slice_get σ n ≡ slice_get τ n)) (places_in t)) (σ τ : List ValueTerm) (c : Changed) (changes : AreChanges σ τ c) (x : TreeTerm) (s : Bool) where
+module _ (having : (t : TreeTerm) (σ τ : List ValueTerm)
+    → HaveAlike (foot t) σ τ ↔ All (λ n. (n < length σ) × (slice_get σ n ≡ slice_get τ n)) (places_in t)) (σ τ : List ValueTerm) (c : Changed) (changes : AreChanges σ τ c) (x : TreeTerm) (s : Bool) where
   -- at the root: the node stays besides its parts, and its parts are kept
-  at_root : (t : TreeTerm) (b p : Bool) → (s ≡ true) ↔ StaysAlone c x t → (p ≡ true) ↔ PartsKept holding σ τ x t → b ≡ (s && p)
+  at_root : (t : TreeTerm) (b p : Bool) → (s ≡ true) ↔ StaysAlone c x t → (p ≡ true) ↔ PartsKept having σ τ x t → b ≡ (s && p)
       → (b ≡ true) ↔ IsKeptIn σ τ (Some x) t []
   at_root t b p own parts e = (
-    λ f. let q = both_true s p (sym e ∙ f) in root_up holding σ τ c changes x t (own.0 q.0) (parts.0 q.1),
-    λ k. let q = root_down holding σ τ c changes x t k in e ∙ true_both s p (own.1 q.0) (parts.1 q.1),
+    λ f. let q = both_true s p (sym e ∙ f) in root_up having σ τ c changes x t (own.0 q.0) (parts.0 q.1),
+    λ k. let q = root_down having σ τ c changes x t k in e ∙ true_both s p (own.1 q.0) (parts.1 q.1),
   )
 
   -- a node without parts
   pub tells_leaf : (t : TreeTerm) (m : marks.Marks) → ((d : DownTerm) (a : Address) → node_at t (d ∷ a) ≡ None)
-      → PartsKept holding σ τ x t → (s ≡ true) ↔ StaysAlone c x t → told m [] ≡ s → TellsKept σ τ (Some x) t m
+      → PartsKept having σ τ x t → (s ≡ true) ↔ StaysAlone c x t → told m [] ≡ s → TellsKept σ τ (Some x) t m
   tells_leaf t m none parts own e [] u is = at_root t (told m []) true own (λ _. parts, λ _. refl) (e ∙ and_true s)
     where
       and_true : (b : Bool) → b ≡ (b && true)

@@ -15,6 +15,6 @@ pub record DiffersAlong (path : List Turn) (old new : TreeTerm) : Type 0 where
   pub after : TreeTerm
   pub replaced : new ≡ with_node old address after
 
--- no place that was there has another value
+-- no place is told to have another value
 abbrev pub ChangesNoValue : Changed → Type 0
 ChangesNoValue c = (n : ℕ) → contains nat_eq c.places n ≡ false

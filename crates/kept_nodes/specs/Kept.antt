@@ -4,20 +4,20 @@ use Rattle.task_model.specs.Terms.Value.{ValueTerm}
 use Rattle.task_model.specs.Terms.Tree.{TreeTerm, then_tree, next_tree, and_tree, or_tree, State}
 use Rattle.task_model.specs.Running.Foot.{foot}
 use Rattle.task_model.specs.Running.Address.{Address, into_left, into_first, into_second, node_at}
-use Rattle.task_laws.specs.HoldAlike.{HoldAlike}
+use Rattle.task_laws.specs.HaveAlike.{HaveAlike}
 
 -- the node at an address of what stood in a place, if anything did
 abbrev pub node_in : Option TreeTerm → Address → Option TreeTerm
 node_in None a = None
 node_in (Some t) a = node_at t a
 
--- The node at an address of a part is kept from what stood in the part's place: it is the same tree in both, and both stores hold its foot
+-- The node at an address of a part is kept from what stood in the part's place: it is the same tree in both, and both stores have its foot
 -- alike. So it may be kept where places were added.
 pub record IsKeptIn (σ τ : List ValueTerm) (old : Option TreeTerm) (new : TreeTerm) (a : Address) : Type 0 where
   pub node : TreeTerm
   pub before : node_in old a ≡ Some node
   pub after : node_at new a ≡ Some node
-  pub held : HoldAlike (foot node) σ τ
+  pub alike : HaveAlike (foot node) σ τ
 
 -- the node at an address is kept from one state to another
 abbrev pub IsKeptNode : Address → State → State → Type 0

@@ -15,7 +15,7 @@ use task_laws::foot_is_in_order;
 use task_model::{OutOfMemory, Tree, Turn};
 
 /// What is kept of a tree that differs from another one along a path alone, where these places of the store changed since then. Where no place
-/// that was there has another value, all beside the path is kept, and only the nodes of the path are looked at.
+/// that was there has another value, all beside the path is kept: only the nodes of the path, and all that stands behind its last turn, are looked at.
 pub fn kept_along(
     alloc: Global,
     old: &Tree,

@@ -15,12 +15,12 @@ use task_model::{OutOfMemory, Value, same_value};
 /// Which places of the store have another value than in an earlier list, and how many places that one has.
 #[derive(Drop)]
 pub struct Changed {
-    before: u64,
+    count_before: u64,
     places: HashSet<u64>,
 }
 
 impl Changed {
-    /// Whether no place that was there has another value.
+    /// Whether it tells of no place that it has another value.
     pub(crate) fn is_none(&self) -> bool
         ensures { IsTrue result ↔ ChangesNoValue self.now }
     {
@@ -31,7 +31,7 @@ impl Changed {
     pub(crate) fn has(&self, place: u64) -> bool
         ensures { result ≡ is_changed self.now place }
     {
-        self.before <= place || self.places.contains(&place)
+        self.count_before <= place || self.places.contains(&place)
     }
 }
 
@@ -46,7 +46,7 @@ pub fn changed_places(alloc: Global, store: &Store<Value>) -> Result<Changed, Ou
     let count = changes.count as usize;
     let places = overwritten_places(alloc, changes.overwritten, &values[..count])?;
     Ok(Changed {
-        before: changes.count,
+        count_before: changes.count,
         places,
     })
 }

@@ -10,7 +10,7 @@ ghost use Rattle.kept_nodes.specs.Kept.{addresses, IsKeptNode, IsRedrawn};
 ghost use Rattle.kept_nodes.specs.KeptMarks.{untold, TellsKept};
 ghost use Rattle.kept_nodes.specs.declared.marks.Marks.{Marks};
 
-use task_laws::held_foot_frames_offers_and_widgets;
+use task_laws::foot_alone_decides;
 
 /// A node that is kept has the same value, the same offers and the same widgets as before: so its signs and its fragment are the same.
 pub fn kept_nodes_look_alike()
@@ -20,7 +20,7 @@ pub fn kept_nodes_look_alike()
     ensures widgets { (c : CheckedTerm) (budget : ℕ) (a : Address) (s s' : State) (k : IsKeptNode a s s') (ws : List WidgetTerm) →
         AreWidgets c budget k.node s.store ws ↔ AreWidgets c budget k.node s'.store ws }
 {
-    held_foot_frames_offers_and_widgets();
+    foot_alone_decides();
 }
 
 /// So many nodes of a state aren't kept as are told by marks that tell of each one whether it is.

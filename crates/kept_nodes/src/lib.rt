@@ -1,5 +1,5 @@
 //! What an event leaves as it was: the places of the store whose values it changed, and the nodes that are kept, node by node: by one walk
-//! over the tree before and the tree after, or, where no place changed, along the path alone on which they differ.
+//! over the tree before and the tree after, or, where no place that was there has another value, along the path alone on which they differ.
 #![tactic(auto)]
 
 mod alone;

@@ -6,7 +6,7 @@ use Rattle.task_model.specs.Terms.Value.{ValueTerm}
 use Rattle.task_model.specs.Terms.Tree.{TreeTerm, edit_tree, enter_tree, share_tree, then_tree, next_tree, fail_tree, and_tree, or_tree, xor_tree, at}
 use Rattle.task_model.specs.Running.Checked.{CheckedTerm}
 use Rattle.task_model.specs.Running.Foot.{foot}
-use Rattle.task_laws.specs.HoldAlike.{HoldAlike}
+use Rattle.task_laws.specs.HaveAlike.{HaveAlike}
 use Rattle.task_model.specs.Running.Address.{Address, into_left, into_first, into_second, node_at}
 use Rattle.task_model.specs.Checking.Fits.{Fits}
 use Rattle.task_model.specs.Showing.Widget.{WidgetTerm, ShapeTerm, here, both_widgets, then_shape, step_shape, and_shape, or_shape, AreWidgets}
@@ -448,11 +448,11 @@ module _ (c : CheckedTerm) (budget : ℕ) (o : Option TreeTerm) (t : TreeTerm) (
   pub behind_taken : from + slice_index rows.sizes from ≡ from + former_nodes o
   behind_taken = ap (λ n. from + n) (first_size.1 ∙ ap former_nodes (sym was))
 
-  pub follow_taken : ((c : CheckedTerm) (budget : ℕ) (t : TreeTerm) (σ τ : List ValueTerm) → HoldAlike (foot t) σ τ → (ws : List WidgetTerm)
+  pub follow_taken : ((c : CheckedTerm) (budget : ℕ) (t : TreeTerm) (σ τ : List ValueTerm) → HaveAlike (foot t) σ τ → (ws : List WidgetTerm)
       → AreWidgets c budget t σ ws ↔ AreWidgets c budget t τ ws) → (before after : RowsTerm)
       → after ≡ rows_append before (rows_part from (slice_index rows.sizes from) rows) → RowsFollow c budget t τ p before after
   follow_taken frame before after e =
-      let held = subst (λ z. HoldAlike (foot z) d.values τ) same kept.held in
+      let alike = subst (λ z. HaveAlike (foot z) d.values τ) same kept.alike in
       let count = slice_index rows.sizes from in
       let many = sym first_size.1 in
       let one = ap (λ (r : RowsTerm). r.signs) e in
@@ -460,7 +460,7 @@ module _ (c : CheckedTerm) (budget : ℕ) (o : Option TreeTerm) (t : TreeTerm) (
       let two = ap (λ (r : RowsTerm). r.fragments) e in
       record {
         own = stood.own;
-        are = (frame c budget t d.values τ held stood.own).0 stood.are;
+        are = (frame c budget t d.values τ alike stood.own).0 stood.are;
         signs = one ∙ ap (λ z. before.signs ++ z) (stands_taken rows.signs from count _ stood.signs
             (each_long c budget d.values p rows widget_signs p t stood.own stood.are ∙ many));
         sizes = sizes ∙ ap (λ z. before.sizes ++ z) (stands_taken rows.sizes from count (sizes_of t) stood.sizes (sizes_long t ∙ many));

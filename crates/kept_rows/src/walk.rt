@@ -18,7 +18,7 @@ use node_rows::NodeRows;
 use shared_store::Store;
 use std::sync::ledger::Ledger;
 use task_evaluation::Engine;
-use task_laws::held_foot_frames_offers_and_widgets;
+use task_laws::foot_alone_decides;
 use task_model::{OutOfMemory, Steps, Tree, Turn, Value};
 
 /// The rows of a tree, of those of the tree that stood before it over the newest layer's list. Marks tell which nodes are kept: their rows
@@ -83,7 +83,7 @@ fn add_rows<L: Ledger>(
         drawn.old.trail drawn.old.rows drawn.new.rows) }
 {
     if former.marks.is_whole() {
-        held_foot_frames_offers_and_widgets();
+        foot_alone_decides();
         return drawn.take_over(rows, former.from);
     }
     let number = drawn.rows.len();

@@ -170,7 +170,7 @@ impl LiveTree {
         requires fits { Fits (checked_term engine.now) (at (tree_term self.old.tree) (map value_term store.old.list)) }
         requires live { IsLive (checked_term engine.now) budget (map value_term store.old.list) self.old }
         requires layer { 0 < length store.old.layers }
-        requires stood { (σ : List Value) → slice_get store.old.layers 0 ≡ Some σ
+        requires before_fits { (σ : List Value) → slice_get store.old.layers 0 ≡ Some σ
             → Fits (checked_term engine.now) (at (tree_term before.now.tree) (map value_term σ)) }
         requires before { (σ : List Value) → slice_get store.old.layers 0 ≡ Some σ
             → IsLive (checked_term engine.now) budget (map value_term σ) before.now }
@@ -205,7 +205,7 @@ impl LiveTree {
     ) -> Result<NodeRows, OutOfMemory>
         requires fits { Fits (checked_term engine.now) (at (tree_term self.now.tree) (map value_term store.old.list)) }
         requires layer { 0 < length store.old.layers }
-        requires stood { (σ : List Value) → slice_get store.old.layers 0 ≡ Some σ
+        requires before_fits { (σ : List Value) → slice_get store.old.layers 0 ≡ Some σ
             → Fits (checked_term engine.now) (at (tree_term before.now.tree) (map value_term σ)) }
         requires before { (σ : List Value) → slice_get store.old.layers 0 ≡ Some σ
             → IsLive (checked_term engine.now) budget (map value_term σ) before.now }
@@ -302,7 +302,8 @@ fn path_told(
     }
 }
 
-// What is kept of a tree from the one before, of which it differs along a path alone, if there is one here, and since when these places changed.
+// What is kept of a tree from the one before, from which it differs along this path alone, if one is told. These places changed since then, and the
+// store of then has those of the tree of then.
 fn kept_marks(
     alloc: Global,
     before: &Tree,

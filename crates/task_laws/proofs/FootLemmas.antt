@@ -1,4 +1,4 @@
--- Two stores that agree on a tree's foot, or that hold it alike: its value, failing, tests, offers and widgets agree.
+-- Two stores that agree on a tree's foot, or that have it alike: its value, failing, tests, offers and widgets agree.
 use Rattle.std.proofs.Common.{◌≡◌, ◌↔◌, ◌<◌, ℕ, Bool, true, List, [], ◌∷◌, ◌++◌, length, refl, sym, ap, ◌∙◌, subst, arith}
 use Rattle.std.specs.Prelude.{nat_le, slice_get, slice_index_or}
 use Rattle.std.specs.List.{All, Contains}
@@ -18,7 +18,7 @@ use Rattle.task_model.specs.Running.Offer.{OfferTerm, AreOffers}
 use Rattle.task_model.specs.Showing.Widget.{WidgetTerm, AreWidgets}
 use Rattle.task_laws.specs.TreePlaces.{slot_places, places_in}
 use Rattle.task_laws.specs.StoresGo.{StoresGo}
-use Rattle.task_laws.specs.HoldAlike.{HoldAlike}
+use Rattle.task_laws.specs.HaveAlike.{HaveAlike}
 use Rattle.task_laws.proofs.StoreLemmas.{past_end}
 use Rattle.task_laws.proofs.RenumberLemmas.{TreeIn, tree_to, tree_stays}
 use Rattle.task_laws.proofs.TwinLemmas.{by_cases, Frame, Twins, turned, twins_turned}
@@ -141,9 +141,9 @@ agree_meet ns σ τ a = record {
   homeward = λ n e. renumbered-same (length τ) (length σ) n (sym a.lengths);
 }
 
--- stores that hold these places alike
-hold_meet : (ns : List ℕ) (σ τ : List ValueTerm) → HoldAlike ns σ τ → Meet ns σ τ
-hold_meet ns σ τ a = record {
+-- stores that have these places alike
+alike_meet : (ns : List ℕ) (σ τ : List ValueTerm) → HaveAlike ns σ τ → Meet ns σ τ
+alike_meet ns σ τ a = record {
   values = a.values;
   onward = λ n e. renumbered-old (length σ) (length τ) n (a.there n e);
   homeward = λ n e. renumbered-old (length τ) (length σ) n (by_cases (nat_le (length τ) n)
@@ -181,15 +181,21 @@ module _ (t : TreeTerm) (σ τ : List ValueTerm) (a : AgreeOn (foot t) σ τ) wh
   pub foot_widgets : (c : CheckedTerm) (budget : ℕ) (ws : List WidgetTerm) → AreWidgets c budget t σ ws ↔ AreWidgets c budget t τ ws
   foot_widgets c budget ws = widgets_frame (foot t) σ τ meet t (foot_of t) c budget ws
 
-module _ (t : TreeTerm) (σ τ : List ValueTerm) (a : HoldAlike (foot t) σ τ) where
-  pub held_value : value_of t σ ≡ value_of t τ
-  held_value = value_frame (foot t) σ τ (hold_meet (foot t) σ τ a) t (foot_of t)
+module _ (t : TreeTerm) (σ τ : List ValueTerm) (a : HaveAlike (foot t) σ τ) where
+  abbrev meeting : Meet (foot t) σ τ
+  meeting = alike_meet (foot t) σ τ a
 
-  pub held_offers : (c : CheckedTerm) (budget : ℕ) (os : List OfferTerm) → AreOffers c budget t σ os ↔ AreOffers c budget t τ os
-  held_offers c budget os = offers_frame (foot t) σ τ (hold_meet (foot t) σ τ a) t (foot_of t) c budget os
+  pub alike_value : value_of t σ ≡ value_of t τ
+  alike_value = value_frame (foot t) σ τ meeting t (foot_of t)
 
-  pub held_widgets : (c : CheckedTerm) (budget : ℕ) (ws : List WidgetTerm) → AreWidgets c budget t σ ws ↔ AreWidgets c budget t τ ws
-  held_widgets c budget ws = widgets_frame (foot t) σ τ (hold_meet (foot t) σ τ a) t (foot_of t) c budget ws
+  pub alike_fails : (c : CheckedTerm) (b : Bool) (n h : ℕ) → Fails c (at t σ) b n h ↔ Fails c (at t τ) b n h
+  alike_fails c b n h = fails_frame (foot t) σ τ meeting t (foot_of t) c b n h
+
+  pub alike_offers : (c : CheckedTerm) (budget : ℕ) (os : List OfferTerm) → AreOffers c budget t σ os ↔ AreOffers c budget t τ os
+  alike_offers c budget os = offers_frame (foot t) σ τ meeting t (foot_of t) c budget os
+
+  pub alike_widgets : (c : CheckedTerm) (budget : ℕ) (ws : List WidgetTerm) → AreWidgets c budget t σ ws ↔ AreWidgets c budget t τ ws
+  alike_widgets c budget ws = widgets_frame (foot t) σ τ meeting t (foot_of t) c budget ws
 
 -- a value more among the slots is no place more
 places-value : (ss : List SlotTerm) (v : ValueTerm) → slot_places (ss ++ plain_slot v ∷ []) ≡ slot_places ss
@@ -197,17 +203,31 @@ places-value [] v = refl
 places-value (plain_slot w ∷ ss) v = places-value ss v
 places-value (place_slot n ∷ ss) v = ap (λ z. n ∷ z) (places-value ss v)
 
-module _ (c : CheckedTerm) (k : LaterTerm) (σ τ : List ValueTerm) (a : AgreeOn (with_places k.slots []) σ τ) where
-  pub foot_side : (b : Bool) (n h : ℕ) → Test c (side c k σ) b n h ↔ Test c (side c k τ) b n h
-  foot_side b n h = test_frame (with_places k.slots []) σ τ (agree_meet (with_places k.slots []) σ τ a) c k.body k.slots
-      (λ m e. among-slots k.slots m ∙ e) b n h
+module _ (c : CheckedTerm) (k : LaterTerm) (σ τ : List ValueTerm) where
+  side_frame : Meet (with_places k.slots []) σ τ → (b : Bool) (n h : ℕ) → Test c (side c k σ) b n h ↔ Test c (side c k τ) b n h
+  side_frame m b n h = test_frame (with_places k.slots []) σ τ m c k.body k.slots (λ n e. among-slots k.slots n ∙ e) b n h
 
-  pub foot_trial : (v : ValueTerm) (b : Bool) (n h : ℕ) → Test c (trial c k v σ) b n h ↔ Test c (trial c k v τ) b n h
-  foot_trial v b n h =
-      test_frame (with_places k.slots []) σ τ (agree_meet (with_places k.slots []) σ τ a) c k.body (k.slots ++ plain_slot v ∷ [])
-      (λ m e. among-slots k.slots m ∙ subst (λ z. among z m ≡ true) (places-value k.slots v) e) b n h
+  trial_frame : Meet (with_places k.slots []) σ τ → (v : ValueTerm) (b : Bool) (n h : ℕ)
+      → Test c (trial c k v σ) b n h ↔ Test c (trial c k v τ) b n h
+  trial_frame m v b n h =
+      test_frame (with_places k.slots []) σ τ m c k.body (k.slots ++ plain_slot v ∷ [])
+      (λ n e. among-slots k.slots n ∙ subst (λ z. among z n ≡ true) (places-value k.slots v) e) b n h
 
--- ---- what it is to agree on a foot, and to hold it alike
+  module _ (a : AgreeOn (with_places k.slots []) σ τ) where
+    pub foot_side : (b : Bool) (n h : ℕ) → Test c (side c k σ) b n h ↔ Test c (side c k τ) b n h
+    foot_side b n h = side_frame (agree_meet (with_places k.slots []) σ τ a) b n h
+
+    pub foot_trial : (v : ValueTerm) (b : Bool) (n h : ℕ) → Test c (trial c k v σ) b n h ↔ Test c (trial c k v τ) b n h
+    foot_trial v b n h = trial_frame (agree_meet (with_places k.slots []) σ τ a) v b n h
+
+  module _ (a : HaveAlike (with_places k.slots []) σ τ) where
+    pub alike_side : (b : Bool) (n h : ℕ) → Test c (side c k σ) b n h ↔ Test c (side c k τ) b n h
+    alike_side b n h = side_frame (alike_meet (with_places k.slots []) σ τ a) b n h
+
+    pub alike_trial : (v : ValueTerm) (b : Bool) (n h : ℕ) → Test c (trial c k v σ) b n h ↔ Test c (trial c k v τ) b n h
+    alike_trial v b n h = trial_frame (alike_meet (with_places k.slots []) σ τ a) v b n h
+
+-- ---- what it is to agree on a foot, and to have it alike
 -- what holds of each place of a foot holds of all in the tree
 module _ (t : TreeTerm) (P : ℕ → Type 0) where
   foot_all : ((n : ℕ) → among (foot t) n ≡ true → P n) → All P (places_in t)
@@ -223,8 +243,8 @@ module _ (t : TreeTerm) (σ τ : List ValueTerm) where
   abbrev AgreeAt : ℕ → Type 0
   AgreeAt n = slice_get σ n ≡ slice_get τ n
 
-  abbrev HeldAt : ℕ → Type 0
-  HeldAt n = (n < length σ) × (slice_get σ n ≡ slice_get τ n)
+  abbrev AlikeAt : ℕ → Type 0
+  AlikeAt n = (n < length σ) × (slice_get σ n ≡ slice_get τ n)
 
   pub agree_places : AgreeOn (foot t) σ τ ↔ ((length σ ≡ length τ) × All AgreeAt (places_in t))
   agree_places = (
@@ -232,10 +252,10 @@ module _ (t : TreeTerm) (σ τ : List ValueTerm) where
     (λ a. record { lengths = a.0; values = foot_each t AgreeAt a.1 }),
   )
 
-  pub hold_places : HoldAlike (foot t) σ τ ↔ All HeldAt (places_in t)
-  hold_places = (
-    (λ a. foot_all t HeldAt (λ n e. (a.there n e, a.values n e))),
-    (λ a. record { there = λ n e. (foot_each t HeldAt a n e).0; values = λ n e. (foot_each t HeldAt a n e).1 }),
+  pub alike_places : HaveAlike (foot t) σ τ ↔ All AlikeAt (places_in t)
+  alike_places = (
+    (λ a. foot_all t AlikeAt (λ n e. (a.there n e, a.values n e))),
+    (λ a. record { there = λ n e. (foot_each t AlikeAt a n e).0; values = λ n e. (foot_each t AlikeAt a n e).1 }),
   )
 
 pub foot_contains : (t : TreeTerm) (n : ℕ) → Contains (foot t) n ↔ Contains (places_in t) n

@@ -3,4 +3,4 @@ pub mod ActsAt
 pub mod ProgramNodes
 pub mod BodyFronts
 pub mod StoresGo
-pub mod HoldAlike
+pub mod HaveAlike

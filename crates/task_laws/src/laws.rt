@@ -35,7 +35,7 @@ ghost use Rattle.task_model.specs.Terms.Text.{Text};
 ghost use Rattle.task_model.specs.declared.widget.Face.{Face};
 ghost use Rattle.task_laws.specs.TreePlaces.{places_in};
 ghost use Rattle.task_laws.specs.StoresGo.{StoresGo};
-ghost use Rattle.task_laws.specs.HoldAlike.{HoldAlike};
+ghost use Rattle.task_laws.specs.HaveAlike.{HaveAlike};
 
 /// Every judgement has at most one result, one number of units and one height, and so have tests, a cont applied to a value, sides and
 /// trials with the state that they lead to and whether it is failing, and the handling of inputs.
@@ -79,14 +79,14 @@ pub fn one_state()
 {}
 
 /// A tree's foot has exactly the places that are in the tree, in increasing order and each once. Two stores agree on it
-/// where they have the same length and the same values at these places, and hold it alike where both have these places, with the same values.
+/// where they have the same length and the same values at these places, and have it alike where both have these places, with the same values.
 pub fn foot_is_in_order()
     ensures increasing { (t : TreeTerm) → IsStrictlyIncreasing (foot t) }
     ensures places { (t : TreeTerm) (n : ℕ) → Contains (foot t) n ↔ Contains (places_in t) n }
     ensures agreeing { (t : TreeTerm) (σ τ : List ValueTerm) →
         AgreeOn (foot t) σ τ ↔ ((length σ ≡ length τ) × All (λ n. slice_get σ n ≡ slice_get τ n) (places_in t)) }
-    ensures holding { (t : TreeTerm) (σ τ : List ValueTerm) →
-        HoldAlike (foot t) σ τ ↔ All (λ n. (n < length σ) × (slice_get σ n ≡ slice_get τ n)) (places_in t) }
+    ensures alike { (t : TreeTerm) (σ τ : List ValueTerm) →
+        HaveAlike (foot t) σ τ ↔ All (λ n. (n < length σ) × (slice_get σ n ≡ slice_get τ n)) (places_in t) }
 {}
 
 /// Over stores that agree on a tree's foot the tree has the same value, and is failing or not in the same number of units
@@ -130,13 +130,23 @@ pub fn foot_frames_offers_and_widgets()
         (ws : List WidgetTerm) → AreWidgets c budget t σ ws ↔ AreWidgets c budget t τ ws }
 {}
 
-/// Over stores that hold a tree's foot alike the tree has the same value, the same offers and the same widgets, however many other places
-/// each of them has: a new place has another number in the one than in the other, and nothing that is offered or shown depends on it.
-pub fn held_foot_frames_offers_and_widgets()
-    ensures value { (t : TreeTerm) (σ τ : List ValueTerm) → HoldAlike (foot t) σ τ → value_of t σ ≡ value_of t τ }
-    ensures offers { (c : CheckedTerm) (budget : ℕ) (t : TreeTerm) (σ τ : List ValueTerm) → HoldAlike (foot t) σ τ →
+/// Over stores that have a tree's foot alike, whatever other places each of them has, the tree has the same value, is failing or not in the same
+/// number of units and at the same height, and has the same offers and the same widgets. So it is with the end of a cont's trial at a value
+/// and of the test of a side over stores that have the places of its slots alike. The places that a test adds have other numbers in the one
+/// store than in the other where these aren't of one length, and nothing of all that depends on them.
+pub fn foot_alone_decides()
+    ensures value { (t : TreeTerm) (σ τ : List ValueTerm) → HaveAlike (foot t) σ τ → value_of t σ ≡ value_of t τ }
+    ensures failing { (c : CheckedTerm) (t : TreeTerm) (σ τ : List ValueTerm) → HaveAlike (foot t) σ τ →
+        (failing : Bool) (n h : ℕ) → Fails c (at t σ) failing n h ↔ Fails c (at t τ) failing n h }
+    ensures trial { (c : CheckedTerm) (k : LaterTerm) (v : ValueTerm) (σ τ : List ValueTerm) →
+        HaveAlike (with_places k.slots []) σ τ →
+        (failing : Bool) (n h : ℕ) → Test c (trial c k v σ) failing n h ↔ Test c (trial c k v τ) failing n h }
+    ensures side { (c : CheckedTerm) (k : LaterTerm) (σ τ : List ValueTerm) →
+        HaveAlike (with_places k.slots []) σ τ →
+        (failing : Bool) (n h : ℕ) → Test c (side c k σ) failing n h ↔ Test c (side c k τ) failing n h }
+    ensures offers { (c : CheckedTerm) (budget : ℕ) (t : TreeTerm) (σ τ : List ValueTerm) → HaveAlike (foot t) σ τ →
         (os : List OfferTerm) → AreOffers c budget t σ os ↔ AreOffers c budget t τ os }
-    ensures widgets { (c : CheckedTerm) (budget : ℕ) (t : TreeTerm) (σ τ : List ValueTerm) → HoldAlike (foot t) σ τ →
+    ensures widgets { (c : CheckedTerm) (budget : ℕ) (t : TreeTerm) (σ τ : List ValueTerm) → HaveAlike (foot t) σ τ →
         (ws : List WidgetTerm) → AreWidgets c budget t σ ws ↔ AreWidgets c budget t τ ws }
 {}
 

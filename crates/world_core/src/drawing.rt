@@ -63,7 +63,7 @@ pub(crate) fn next_drawn_fragments<L: Ledger>(
     requires fits { Fits (checked_term engine.now) (at (tree_term live.old.tree) (map value_term store.old.list)) }
     requires live { IsLive (checked_term engine.now) budget (map value_term store.old.list) live.old }
     requires layer { 0 < length store.old.layers }
-    requires stood { (σ : List Value) → slice_get store.old.layers 0 ≡ Some σ
+    requires before_fits { (σ : List Value) → slice_get store.old.layers 0 ≡ Some σ
         → Fits (checked_term engine.now) (at (tree_term before.now.tree) (map value_term σ)) }
     requires before { (σ : List Value) → slice_get store.old.layers 0 ≡ Some σ
         → IsLive (checked_term engine.now) budget (map value_term σ) before.now }

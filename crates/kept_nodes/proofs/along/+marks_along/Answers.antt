@@ -35,7 +35,7 @@ returns-in_ok-part-in_default-Step-Step t c =
     let n = c.in_ok-part-in_default-Step-Step.part in
     let parts = step_along c.args.path.now c.in-Some.turn.now c.in-Some.rest.now c.in-Some.ensures.cases.0 old new c.requires.along
     (tree_term here.was.now) left here.ensures here.ensures' in
-    ok_two c.of_step.result _ _ _ (λ m own below σ τ changes placed. tells_step_parts c.foot_is_in_order.ensures.holding σ τ
+    ok_two c.of_step.result _ _ _ (λ m own below σ τ changes placed. tells_step_parts c.foot_is_in_order.ensures.alike σ τ
     c.args.changed.now changes old true new left m n (sym here.ensures')
     (stays_beside σ τ c.args.changed.now c.requires.none changes old new placed parts.1)
     (subst (λ o. TellsKept σ τ o left n) (sym (left_is old (tree_term here.was.now) here.ensures))
@@ -70,11 +70,11 @@ returns-in_ok-first-in-First-Pair-Pair t c =
     let way = c.in-Some.ensures.cases.0 ∙ ap (λ z. z ∷ c.in-Some.rest.now) here.is-0 in
     let parts = pair_along c.args.path.now turns.First c.in-Some.rest.now way old new c.requires.along a b part other here.ensures here.ensures' in
     let stood = both_are old a b here.ensures in
-    ok_three c.of_pair.result _ _ _ _ (λ m own first second σ τ changes placed. tells_pair_parts c.foot_is_in_order.ensures.holding σ τ
+    ok_three c.of_pair.result _ _ _ _ (λ m own first second σ τ changes placed. tells_pair_parts c.foot_is_in_order.ensures.alike σ τ
     c.args.changed.now changes old true new part other m n marks.Whole (sym here.ensures')
     (stays_beside σ τ c.args.changed.now c.requires.none changes old new placed parts.1)
     (subst (λ o. TellsKept σ τ o part n) (sym stood.0) (c.in_ok-first-in-First-Pair-Pair.ensures σ τ changes (both_there σ old a b placed (sym here.ensures)).0))
-    (whole_beside c.foot_is_in_order.ensures.holding σ τ c.args.changed.now c.requires.none changes _ other
+    (whole_beside c.foot_is_in_order.ensures.alike σ τ c.args.changed.now c.requires.none changes _ other
     (subst (HasPlaces σ) (sym parts.0.1) (both_there σ old a b placed (sym here.ensures)).1) (stood.1 ∙ ap Some (sym parts.0.1))) own first second)
     c.of_pair.ensures.own c.of_pair.ensures.first c.of_pair.ensures.second
 
@@ -107,9 +107,9 @@ returns-in_ok-second-in-Second-Pair-Pair t c =
     let parts = pair_along c.args.path.now turns.Second c.in-Some.rest.now way old new c.requires.along a b other part here.ensures here.ensures' in
     let stood = both_are old a b here.ensures in
     ok_three c.of_pair-in-Second-Pair-Pair.result _ _ _ _ (λ m own first second σ τ changes placed. tells_pair_parts
-    c.foot_is_in_order.ensures.holding σ τ c.args.changed.now changes old true new other part m marks.Whole n
+    c.foot_is_in_order.ensures.alike σ τ c.args.changed.now changes old true new other part m marks.Whole n
     (sym here.ensures') (stays_beside σ τ c.args.changed.now c.requires.none changes old new placed parts.1)
-    (whole_beside c.foot_is_in_order.ensures.holding σ τ c.args.changed.now c.requires.none changes _ other
+    (whole_beside c.foot_is_in_order.ensures.alike σ τ c.args.changed.now c.requires.none changes _ other
     (subst (HasPlaces σ) (sym parts.0.1) (both_there σ old a b placed (sym here.ensures)).0) (stood.0 ∙ ap Some (sym parts.0.1)))
     (subst (λ o. TellsKept σ τ o part n) (sym stood.1) (c.in_ok-second-in-Second-Pair-Pair.ensures σ τ changes (both_there σ old a b placed (sym here.ensures)).1)) own first second)
     c.of_pair-in-Second-Pair-Pair.ensures.own c.of_pair-in-Second-Pair-Pair.ensures.first c.of_pair-in-Second-Pair-Pair.ensures.second

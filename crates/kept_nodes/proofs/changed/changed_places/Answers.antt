@@ -14,6 +14,6 @@ returns c = λ σ e.
     let within = c.changes-changes.ensures.grown in
     let told = rw c.as_slice-values.ensures at c.in_ok-places.ensures in
     record {
-      before = sym (layer_long layer σ list ws count undone e within);
+      count = sym (layer_long layer σ list ws count undone e within);
       places = layer_differs layer σ list ws count undone e within (contains nat_eq c.in_ok-places.places) told;
     }

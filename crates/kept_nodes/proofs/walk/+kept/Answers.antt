@@ -30,7 +30,7 @@ returns-after-stays t c =
       | then-stays w ↦ ap (λ z. told z []) w.result-is ∙ sym w.if-stays.true
       | else-stays w ↦ ap (λ z. told z []) w.result-is ∙ sym w.if-stays.false
     ] in
-    rw c.in-Some.is (λ σ τ changes. tells_leaf_parts c.foot_is_in_order.ensures.holding σ τ c.args.changed.now changes
+    rw c.in-Some.is (λ σ τ changes. tells_leaf_parts c.foot_is_in_order.ensures.alike σ τ c.args.changed.now changes
     (tree_term c.in-Some.there.now) c.stays_alone-stays.result (tree_term c.args.new.now) c.if-stays.result (sym c.in-Leaf.ensures)
     c.stays_alone-stays.ensures root)
 
@@ -39,7 +39,7 @@ returns-in_ok-part-in-Step t c =
     let left = tree_term c.in-Step.left.now in
     let n = c.in_ok-part-in-Step.part in
     let stood = rw c.in-Some.is at c.left_part.ensures in
-    rw c.in-Some.is (ok_two c.of_step.result _ _ _ (λ m own below σ τ changes. tells_step_parts c.foot_is_in_order.ensures.holding σ τ
+    rw c.in-Some.is (ok_two c.of_step.result _ _ _ (λ m own below σ τ changes. tells_step_parts c.foot_is_in_order.ensures.alike σ τ
     c.args.changed.now changes (tree_term c.in-Some.there.now) c.stays_alone-stays.result (tree_term c.args.new.now) left m n
     (sym c.in-Step.ensures) c.stays_alone-stays.ensures
     (subst (λ o. TellsKept σ τ o left n) stood (c.in_ok-part-in-Step.ensures σ τ changes)) own below)
@@ -54,7 +54,7 @@ returns-in_ok-second-in-Pair t c =
     let stood = rw c.in-Some.is at c.first_part.ensures in
     let other = rw c.in-Some.is at c.second_part.ensures in
     rw c.in-Some.is (ok_three c.of_pair.result _ _ _ _ (λ m own first second σ τ changes. tells_pair_parts
-    c.foot_is_in_order.ensures.holding σ τ c.args.changed.now changes (tree_term c.in-Some.there.now)
+    c.foot_is_in_order.ensures.alike σ τ c.args.changed.now changes (tree_term c.in-Some.there.now)
     c.stays_alone-stays.result (tree_term c.args.new.now) a b m n w (sym c.in-Pair.ensures) c.stays_alone-stays.ensures
     (subst (λ o. TellsKept σ τ o a n) stood (c.in_ok-first-in-Pair.ensures σ τ changes))
     (subst (λ o. TellsKept σ τ o b w) other (c.in_ok-second-in-Pair.ensures σ τ changes)) own first second)

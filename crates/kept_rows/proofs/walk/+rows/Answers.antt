@@ -40,7 +40,7 @@ pub add_rows-returns-then-is_whole-clause-rows : goal.add_rows-returns-then-is_w
 add_rows-returns-then-is_whole-clause-rows g t c =
     let whole = sym c.is_whole.ensures ∙ c.if-is_whole.true in
     on_ok_weaker c.take_over.result
-    (follow_taken _ _ _ _ _ _ _ _ _ c.requires.told whole c.held_foot_frames_offers_and_widgets.ensures.widgets _ _)
+    (follow_taken _ _ _ _ _ _ _ _ _ c.requires.told whole c.foot_alone_decides.ensures.widgets _ _)
     c.take_over.ensures.rows
 
 -- ---- any other node

@@ -1,5 +1,5 @@
 use Rattle.task_laws.proofs.PlaceLemmas.{foot_increasing}
-use Rattle.task_laws.proofs.FootLemmas.{foot_contains, agree_places, hold_places}
+use Rattle.task_laws.proofs.FootLemmas.{foot_contains, agree_places, alike_places}
 use Rattle.task_laws.proofs.laws.foot_is_in_order.Goals as goal
 
 pub returns-clause-increasing : goal.returns-clause-increasing
@@ -11,5 +11,5 @@ returns-clause-places k = λ t n. foot_contains t n
 pub returns-clause-agreeing : goal.returns-clause-agreeing
 returns-clause-agreeing k = λ t σ τ. agree_places t σ τ
 
-pub returns-clause-holding : goal.returns-clause-holding
-returns-clause-holding k = λ t σ τ. hold_places t σ τ
+pub returns-clause-alike : goal.returns-clause-alike
+returns-clause-alike k = λ t σ τ. alike_places t σ τ

@@ -26,6 +26,6 @@ pub next_rows-requires-clause-marks : goal.next_rows-requires-clause-marks
 next_rows-requires-clause-marks g c = λ σ e.
     let values = map value_term σ in
     let there = c.fitting_trees_have_their_places.ensures (checked_term c.args.engine.now) (at (tree_term c.args.before.now.tree) values)
-    (c.requires.stood σ e) in
+    (c.requires.before_fits σ e) in
     c.in_ok-marks-in-Some.ensures values (map value_term c.args.store.now.list) (c.in_ok-changed-in-Some.ensures σ e)
     (subst (λ (w : SeenLive). HasPlaces values (tree_term w.tree)) (sym c.before-2.view_is) there)

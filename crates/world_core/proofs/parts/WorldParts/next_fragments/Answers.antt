@@ -20,7 +20,7 @@ next_drawn_fragments-fragments-requires g c =
       live = kept.next_rows;
       layer = has_layer c.self.inside.engine c.self.inside.budget c.self.inside.history c.self.inside.live c.self.inside.store
           c.in-Some.prepared kept;
-      stood = layer_fits c.self.inside.engine c.self.inside.budget c.self.inside.history c.self.inside.live c.self.inside.store
+      before_fits = layer_fits c.self.inside.engine c.self.inside.budget c.self.inside.history c.self.inside.live c.self.inside.store
           c.in-Some.prepared kept;
       before = layer_live c.self.inside.engine c.self.inside.budget c.self.inside.history c.self.inside.live c.self.inside.store
           c.in-Some.prepared kept;

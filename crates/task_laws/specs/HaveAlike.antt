@@ -3,7 +3,7 @@ use Rattle.std.specs.Prelude.{◌≡◌, ◌<◌, ℕ, true, List, length, slice
 use Rattle.task_model.specs.Terms.Value.{ValueTerm}
 use Rattle.task_model.specs.Running.Foot.{among}
 
--- both have each of these places, with the same value there
-pub record HoldAlike (ns : List ℕ) (σ τ : List ValueTerm) : Type 0 where
+-- the first store has each of these places, and the second has the same value there: so both have them
+pub record HaveAlike (ns : List ℕ) (σ τ : List ValueTerm) : Type 0 where
   pub there : (n : ℕ) → among ns n ≡ true → n < length σ
   pub values : (n : ℕ) → among ns n ≡ true → slice_get σ n ≡ slice_get τ n
