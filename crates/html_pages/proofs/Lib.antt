@@ -1,4 +1,4 @@
-pub mod Chunks
+pub mod ChunkLemmas
 pub mod Escapes
 pub mod Inert
 pub mod Framed

@@ -1,5 +1,5 @@
 -- Fragments, and the pages that are framed of them (docs/FORMATS.md, "Pages" and "HTML pages").
-use Rattle.std.specs.Prelude.{ℕ, List, [], ◌∷◌, ◌++◌, codes, decimal}
+use Rattle.std.specs.Prelude.{ℕ, ◌+◌, length, List, [], ◌∷◌, ◌++◌, codes, decimal}
 use Rattle.task_model.specs.Terms.Text.{Text}
 use Rattle.task_model.specs.Terms.Basic.{BasicTerm}
 use Rattle.task_model.specs.Terms.Value.{ValueTerm}
@@ -61,6 +61,11 @@ fragments_text face (f ∷ fs) = fragment_text face f ++ fragments_text face fs
 abbrev pub chunks_list : {A : Type 0} → List (List A) → List A
 chunks_list [] = []
 chunks_list (xs ∷ xss) = xs ++ chunks_list xss
+
+-- how many items stand before each of these lists, in front of all of which so many stand
+abbrev pub chunk_starts : {A : Type 0} → ℕ → List (List A) → List ℕ
+chunk_starts n [] = []
+chunk_starts n (xs ∷ xss) = n ∷ chunk_starts (n + length xs) xss
 
 -- what stands in front of a page's fragments
 abbrev pub page_start : Face → ℕ → ℕ → Text

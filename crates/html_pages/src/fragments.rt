@@ -2,20 +2,18 @@ ghost use Rattle.std.specs.Prelude.{◌≡◌, ◌+◌, ◌≤◌, [], ◌∷◌
 ghost use Rattle.html_pages.specs.Fragments.{chunks_list};
 
 use crate::chunk::Chunk;
+use crate::chunks::{CHUNK, Chunks};
 use crate::fragment::Fragment;
 use std::alloc::Global;
 use std::marker::Model;
 use task_model::OutOfMemory;
 
-// A chunk has at most so many fragments.
-const CHUNK: usize = 64;
-
 /// Fragments in order, in chunks that copies and later lists share. Contracts see their list.
 #[derive(Drop)]
 pub struct Fragments {
     alloc: Global,
-    // The shared chunks. Two neighbours have more than `CHUNK` fragments together.
-    chunks: Vec<Chunk>,
+    // The shared chunks.
+    chunks: Chunks,
     // The fragments behind them, at most `CHUNK`, which no other list shares as a chunk.
     last: Vec<Fragment>,
     // How many fragments there are in all.
@@ -24,13 +22,13 @@ pub struct Fragments {
 
 impl Model for Fragments {
     ghost use Rattle.std.specs.Prelude.{◌≡◌, ◌++◌, List, length};
-    ghost use Rattle.html_pages.specs.Fragments.{FragmentTerm, chunks_list};
+    ghost use Rattle.html_pages.specs.Fragments.{FragmentTerm};
 
     ghost Value = { List FragmentTerm };
 
-    ghost view = { λ f. chunks_list f.chunks.items ++ f.last.items };
+    ghost view = { λ f. f.chunks ++ f.last.items };
 
-    ghost invariant = { λ f. f.count ≡ length (chunks_list f.chunks.items ++ f.last.items) };
+    ghost invariant = { λ f. f.count ≡ length (f.chunks ++ f.last.items) };
 }
 
 impl Fragments {
@@ -40,7 +38,7 @@ impl Fragments {
     {
         Fragments {
             alloc,
-            chunks: Vec::new(alloc),
+            chunks: Chunks::new(alloc),
             last: Vec::new(alloc),
             count: 0,
         }
@@ -81,8 +79,12 @@ impl Fragments {
         requires { from + count ≤ length others.now }
         ensures { OnOk result (self.new ≡ self.old ++ take count (drop from others.now)) }
     {
-        let (chunks, last) = others.parts();
-        let mut skip = from;
+        if count == 0 {
+            return Ok(());
+        }
+        let (chunks, before) = others.chunks.chunks_from(from);
+        let last = others.last.as_slice();
+        let mut skip = before;
         let mut left = count;
         for chunk in chunks {
             if left == 0 {
@@ -133,7 +135,7 @@ impl Fragments {
             return Err(OutOfMemory);
         };
         seal(self.alloc, &mut self.chunks, &mut self.last)?;
-        put(self.alloc, &mut self.chunks, chunk.copy()?)?;
+        self.chunks.push(self.alloc, chunk.copy()?)?;
         self.count = count;
         Ok(())
     }
@@ -150,33 +152,17 @@ impl Fragments {
 }
 
 // Makes a chunk of the last fragments. It fails only where memory runs out, and changes nothing then.
-fn seal(alloc: Global, chunks: &mut Vec<Chunk>, last: &mut Vec<Fragment>) -> Result<(), OutOfMemory>
-    ensures chunks { OnOk result (chunks_list chunks.new.items ≡ chunks_list chunks.old.items ++ last.old.items) }
+fn seal(alloc: Global, chunks: &mut Chunks, last: &mut Vec<Fragment>) -> Result<(), OutOfMemory>
+    ensures chunks { OnOk result (chunks.new ≡ chunks.old ++ last.old.items) }
     ensures last { OnOk result (last.new.items ≡ []) }
-    ensures err_chunks { OnErr result (chunks.new.items ≡ chunks.old.items) }
+    ensures err_chunks { OnErr result (chunks.new ≡ chunks.old) }
     ensures err_last { OnErr result (last.new.items ≡ last.old.items) }
 {
     if last.is_empty() {
         return Ok(());
     }
     let chunk = Chunk::of(alloc, last.as_slice(), &[])?;
-    put(alloc, chunks, chunk)?;
+    chunks.push(alloc, chunk)?;
     last.truncate(0);
-    Ok(())
-}
-
-// Puts a chunk behind the others; it and the one before become one where a chunk can hold both. It fails only where memory runs out, and
-// changes nothing then.
-fn put(alloc: Global, chunks: &mut Vec<Chunk>, chunk: Chunk) -> Result<(), OutOfMemory>
-    ensures ok { OnOk result (chunks_list chunks.new.items ≡ chunks_list chunks.old.items ++ chunk) }
-    ensures err { OnErr result (chunks.new.items ≡ chunks.old.items) }
-{
-    let count = chunks.len();
-    if count > 0 && chunks[count - 1].len().saturating_add(chunk.len()) <= CHUNK {
-        let both = Chunk::of(alloc, chunks[count - 1].as_slice(), chunk.as_slice())?;
-        chunks[count - 1] = both;
-        return Ok(());
-    }
-    chunks.push(chunk)?;
     Ok(())
 }

@@ -3,6 +3,7 @@
 #![tactic(auto)]
 
 mod chunk;
+mod chunks;
 mod escaping;
 mod forms;
 mod fragment;

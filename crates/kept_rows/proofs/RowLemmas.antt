@@ -23,6 +23,7 @@ use Rattle.kept_nodes.proofs.MarkLemmas.{in_left, in_first, in_second, not_step,
 use Rattle.node_rows.specs.Rows.{RowsTerm, no_rows, AreRows, row_of, rows_append, rows_closed, rows_part, widget_signs}
 use Rattle.node_rows.specs.declared.signs.Signs.{Signs}
 use Rattle.node_rows.specs.TreeNodes.{tree_nodes, sizes_of}
+use Rattle.node_rows.proofs.NextLemmas.{rows_with}
 use Rattle.node_rows.proofs.CountLemmas.{one_each}
 use Rattle.node_rows.proofs.SizeLemmas.{closed, sizes_long, sizes_split}
 use Rattle.kept_rows.specs.Follows.{RowsFollow, RootFollows, PartsFollow, StandsFrom, RowsStand, FormerStand, FormerIsTold, FormerSize, former_nodes, former_root}
@@ -486,9 +487,6 @@ told_root c budget old new σ τ p rows m root r tells =
       };
       marks = tells;
     }
-
-abbrev rows_with : List Signs → List ℕ → List FragmentTerm → RowsTerm
-rows_with xs ns ys = record { signs = xs; sizes = ns; fragments = ys }
 
 pub follow_root : (c : CheckedTerm) (budget : ℕ) (t : TreeTerm) (τ : List ValueTerm) (p : List Turn) (before after : RowsTerm) → p ≡ []
     → before ≡ no_rows → RowsFollow c budget t τ p before after → AreRows c budget t τ after

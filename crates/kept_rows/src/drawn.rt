@@ -9,7 +9,7 @@ ghost use Rattle.node_rows.specs.Rows.{no_rows, row_of, rows_append, rows_part};
 ghost use Rattle.kept_rows.specs.Follows.{RootFollows};
 
 use crate::shapes::shape_of;
-use node_rows::NodeRows;
+use node_rows::{NextRows, NodeRows};
 use shared_store::Store;
 use std::alloc::Global;
 use std::sync::ledger::Ledger;
@@ -17,24 +17,27 @@ use task_evaluation::Engine;
 use task_model::{OutOfMemory, Shape, Steps, Tree, Value};
 use terminal_view::PrintedTrail;
 
-/// Where a walk through a tree is, and the rows of the nodes that it has met.
+/// Where a walk through a tree is, and the rows of the nodes that it has met, beside those of the tree before.
 #[derive(Drop)]
-pub(crate) struct Drawn {
+pub(crate) struct Drawn<'r> {
     pub(crate) trail: PrintedTrail,
-    pub(crate) rows: NodeRows,
+    pub(crate) next: NextRows<'r>,
 }
 
-impl Drawn {
-    /// At the root, with no row and room for so many.
-    pub(crate) fn with_room(alloc: Global, count: usize) -> Result<Drawn, OutOfMemory>
+impl<'r> Drawn<'r> {
+    /// At the root, with no row beside these, and with room for so many.
+    pub(crate) fn beside(
+        alloc: Global,
+        older: &'r NodeRows,
+        room: usize,
+    ) -> Result<Drawn<'r>, OutOfMemory>
         ensures trail { IfOk result (λ d. d.trail ≡ []) }
-        ensures rows { IfOk result (λ d. d.rows ≡ no_rows) }
+        ensures older { IfOk result (λ d. d.next.older ≡ older.now) }
+        ensures rows { IfOk result (λ d. d.next.rows ≡ no_rows) }
     {
-        let mut rows = NodeRows::new(alloc);
-        rows.reserve(count)?;
         Ok(Drawn {
             trail: PrintedTrail::new(alloc)?,
-            rows,
+            next: NextRows::beside(alloc, older, room)?,
         })
     }
 
@@ -49,10 +52,11 @@ impl Drawn {
     ) -> Result<(), OutOfMemory>
         requires fits { Fits (checked_term engine.now) (at (tree_term t.now) (map value_term store.old.list)) }
         ensures trail { self.new.trail ≡ self.old.trail }
+        ensures older { self.new.next.older ≡ self.old.next.older }
         ensures store { store.new ≡ store.old }
         ensures steps { OnOk result (steps.new ≤ steps.old + 3) }
         ensures root { OnOk result (RootFollows (checked_term engine.now) budget (tree_term t.now) (map value_term store.old.list)
-            self.old.trail self.old.rows self.new.rows) }
+            self.old.trail self.old.next.rows self.new.next.rows) }
     {
         let shape = shape_of(engine, t, store, budget, steps)?;
         self.draw(engine.alloc(), shape, steps)
@@ -66,26 +70,30 @@ impl Drawn {
         steps: &mut Steps<L>,
     ) -> Result<(), OutOfMemory>
         ensures trail { self.new.trail ≡ self.old.trail }
-        ensures row { OnOk result (self.new.rows ≡ rows_append self.old.rows (row_of (widget_below self.old.trail
+        ensures older { self.new.next.older ≡ self.old.next.older }
+        ensures row { OnOk result (self.new.next.rows ≡ rows_append self.old.next.rows (row_of (widget_below self.old.trail
             (here (shape_term shape))))) }
         ensures steps { OnOk result (steps.new ≡ steps.old + 1) }
     {
-        self.rows.draw(alloc, self.trail.as_str(), &shape, steps)
+        self.next.draw(alloc, self.trail.as_str(), &shape, steps)
     }
 
-    /// Takes over the rows of the part whose first one has this number, and answers the number behind them: nothing is tested and nothing drawn.
-    pub(crate) fn take_over(&mut self, rows: &NodeRows, from: usize) -> Result<usize, OutOfMemory>
-        requires number { from < length rows.now.sizes }
-        requires room { from + slice_index rows.now.sizes from ≤ usize.MAX }
-        requires signs { from + slice_index rows.now.sizes from ≤ length rows.now.signs }
-        requires sizes { from + slice_index rows.now.sizes from ≤ length rows.now.sizes }
-        requires fragments { from + slice_index rows.now.sizes from ≤ length rows.now.fragments }
+    /// Takes over the older rows of the part whose first one has this number, and answers the number behind them: nothing is tested and nothing
+    /// drawn.
+    pub(crate) fn take_over(&mut self, from: usize) -> Result<usize, OutOfMemory>
+        requires number { from < length self.old.next.older.sizes }
+        requires room { from + slice_index self.old.next.older.sizes from ≤ usize.MAX }
+        requires signs { from + slice_index self.old.next.older.sizes from ≤ length self.old.next.older.signs }
+        requires sizes { from + slice_index self.old.next.older.sizes from ≤ length self.old.next.older.sizes }
+        requires fragments { from + slice_index self.old.next.older.sizes from ≤ length self.old.next.older.fragments }
         ensures trail { self.new.trail ≡ self.old.trail }
-        ensures behind { IfOk result (λ n. n ≡ from + slice_index rows.now.sizes from) }
-        ensures rows { OnOk result (self.new.rows ≡ rows_append self.old.rows (rows_part from (slice_index rows.now.sizes from) rows.now)) }
+        ensures older { self.new.next.older ≡ self.old.next.older }
+        ensures behind { IfOk result (λ n. n ≡ from + slice_index self.old.next.older.sizes from) }
+        ensures rows { OnOk result (self.new.next.rows ≡ rows_append self.old.next.rows
+            (rows_part from (slice_index self.old.next.older.sizes from) self.old.next.older)) }
     {
-        let count = rows.size_at(from);
-        self.rows.take_over(rows, from, count)?;
-        Ok(from + count)
+        let behind = from + self.next.older().size_at(from);
+        self.next.take_over(from, behind)?;
+        Ok(behind)
     }
 }

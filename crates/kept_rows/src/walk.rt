@@ -54,18 +54,18 @@ pub fn next_rows<L: Ledger>(
         from: 0,
         marks,
     };
-    let mut drawn = Drawn::with_room(engine.alloc(), length)?;
-    let _behind = add_rows(&mut drawn, engine, &former, rows, new, store, budget, steps)?;
-    Ok(drawn.rows)
+    let mut drawn = Drawn::beside(engine.alloc(), rows, length)?;
+    let _behind = add_rows(&mut drawn, engine, &former, new, store, budget, steps)?;
+    let next = drawn.next.finish()?;
+    Ok(next)
 }
 
 // Adds the rows of a part, and answers the number of the first row behind those of what stood in its place.
 #[cycle(rows)]
 fn add_rows<L: Ledger>(
-    drawn: &mut Drawn,
+    drawn: &mut Drawn<'_>,
     engine: &Engine,
     former: &Former<'_>,
-    rows: &NodeRows,
     new: &Tree,
     store: &mut Store<Value>,
     budget: u32,
@@ -73,33 +73,33 @@ fn add_rows<L: Ledger>(
 ) -> Result<usize, OutOfMemory>
     requires fits { Fits (checked_term engine.now) (at (tree_term new.now) (map value_term store.old.list)) }
     requires told { FormerIsTold (checked_term engine.now) budget (tree_in former.now) (tree_term new.now) (map value_term store.old.list)
-        drawn.old.trail former.now.from rows.now former.now.marks.now }
+        drawn.old.trail former.now.from drawn.old.next.older former.now.marks.now }
     requires room { former.now.from + former_nodes (tree_in former.now) ≤ usize.MAX }
     ensures trail { OnOk result (drawn.new.trail ≡ drawn.old.trail) }
+    ensures older { drawn.new.next.older ≡ drawn.old.next.older }
     ensures store { store.new ≡ store.old }
     ensures behind { IfOk result (λ n. n ≡ former.now.from + former_nodes (tree_in former.now)) }
     ensures steps { OnOk result (steps.new ≤ steps.old + 3 * untold former.now.marks.now (addresses (tree_term new.now))) }
     ensures rows { OnOk result (RowsFollow (checked_term engine.now) budget (tree_term new.now) (map value_term store.old.list)
-        drawn.old.trail drawn.old.rows drawn.new.rows) }
+        drawn.old.trail drawn.old.next.rows drawn.new.next.rows) }
 {
     if former.marks.is_whole() {
         foot_alone_decides();
-        return drawn.take_over(rows, former.from);
+        return drawn.take_over(former.from);
     }
-    let number = drawn.rows.len();
+    let number = drawn.next.len();
     drawn.add_root(engine, new, store, budget, steps)?;
-    let behind = add_parts(drawn, engine, former, rows, new, store, budget, steps)?;
-    drawn.rows.close(number);
+    let behind = add_parts(drawn, engine, former, new, store, budget, steps)?;
+    drawn.next.close(number);
     Ok(behind)
 }
 
 // Adds the rows of the parts of a node that isn't kept.
 #[cycle(rows)]
 fn add_parts<L: Ledger>(
-    drawn: &mut Drawn,
+    drawn: &mut Drawn<'_>,
     engine: &Engine,
     former: &Former<'_>,
-    rows: &NodeRows,
     new: &Tree,
     store: &mut Store<Value>,
     budget: u32,
@@ -107,49 +107,30 @@ fn add_parts<L: Ledger>(
 ) -> Result<usize, OutOfMemory>
     requires fits { Fits (checked_term engine.now) (at (tree_term new.now) (map value_term store.old.list)) }
     requires told { FormerIsTold (checked_term engine.now) budget (tree_in former.now) (tree_term new.now) (map value_term store.old.list)
-        drawn.old.trail former.now.from rows.now former.now.marks.now }
+        drawn.old.trail former.now.from drawn.old.next.older former.now.marks.now }
     requires room { former.now.from + former_nodes (tree_in former.now) ≤ usize.MAX }
     requires root { told former.now.marks.now [] ≡ false }
     ensures trail { OnOk result (drawn.new.trail ≡ drawn.old.trail) }
+    ensures older { drawn.new.next.older ≡ drawn.old.next.older }
     ensures store { store.new ≡ store.old }
     ensures behind { IfOk result (λ n. n ≡ former.now.from + former_nodes (tree_in former.now)) }
     ensures steps { OnOk result (steps.new + 3 ≤ steps.old + 3 * untold former.now.marks.now (addresses (tree_term new.now))) }
     ensures rows { OnOk result (PartsFollow (checked_term engine.now) budget (node_parts (tree_term new.now)) (map value_term store.old.list)
-        drawn.old.trail drawn.old.rows drawn.new.rows) }
+        drawn.old.trail drawn.old.next.rows drawn.new.next.rows) }
 {
     match parts_of(new) {
-        Parts::Leaf => Ok(former.behind(rows)),
+        Parts::Leaf => Ok(former.behind(drawn.next.older())),
         Parts::Step(part) => {
             let there = former.left();
-            let left = add_rows(drawn, engine, &there, rows, part, store, budget, steps)?;
-            Ok(former.behind_left(rows, left))
+            let left = add_rows(drawn, engine, &there, part, store, budget, steps)?;
+            Ok(former.behind_left(drawn.next.older(), left))
         }
         Parts::Pair(a, b) => {
             let there = former.first();
-            let first = add_part(
-                drawn,
-                Turn::First,
-                engine,
-                &there,
-                rows,
-                a,
-                store,
-                budget,
-                steps,
-            )?;
+            let first = add_part(drawn, Turn::First, engine, &there, a, store, budget, steps)?;
             let there = former.second(first);
-            let second = add_part(
-                drawn,
-                Turn::Second,
-                engine,
-                &there,
-                rows,
-                b,
-                store,
-                budget,
-                steps,
-            )?;
-            Ok(former.behind_second(rows, second))
+            let second = add_part(drawn, Turn::Second, engine, &there, b, store, budget, steps)?;
+            Ok(former.behind_second(drawn.next.older(), second))
         }
     }
 }
@@ -157,11 +138,10 @@ fn add_parts<L: Ledger>(
 // Adds the rows of the part that a turn leads to.
 #[cycle(rows)]
 fn add_part<L: Ledger>(
-    drawn: &mut Drawn,
+    drawn: &mut Drawn<'_>,
     turn: Turn,
     engine: &Engine,
     former: &Former<'_>,
-    rows: &NodeRows,
     part: &Tree,
     store: &mut Store<Value>,
     budget: u32,
@@ -169,17 +149,18 @@ fn add_part<L: Ledger>(
 ) -> Result<usize, OutOfMemory>
     requires fits { Fits (checked_term engine.now) (at (tree_term part.now) (map value_term store.old.list)) }
     requires told { FormerIsTold (checked_term engine.now) budget (tree_in former.now) (tree_term part.now) (map value_term store.old.list)
-        (drawn.old.trail ++ turn ∷ []) former.now.from rows.now former.now.marks.now }
+        (drawn.old.trail ++ turn ∷ []) former.now.from drawn.old.next.older former.now.marks.now }
     requires room { former.now.from + former_nodes (tree_in former.now) ≤ usize.MAX }
     ensures trail { OnOk result (drawn.new.trail ≡ drawn.old.trail) }
+    ensures older { drawn.new.next.older ≡ drawn.old.next.older }
     ensures store { store.new ≡ store.old }
     ensures behind { IfOk result (λ n. n ≡ former.now.from + former_nodes (tree_in former.now)) }
     ensures steps { OnOk result (steps.new ≤ steps.old + 3 * untold former.now.marks.now (addresses (tree_term part.now))) }
     ensures rows { OnOk result (RowsFollow (checked_term engine.now) budget (tree_term part.now) (map value_term store.old.list)
-        (drawn.old.trail ++ turn ∷ []) drawn.old.rows drawn.new.rows) }
+        (drawn.old.trail ++ turn ∷ []) drawn.old.next.rows drawn.new.next.rows) }
 {
     drawn.trail.go(turn)?;
-    let behind = add_rows(drawn, engine, former, rows, part, store, budget, steps)?;
+    let behind = add_rows(drawn, engine, former, part, store, budget, steps)?;
     drawn.trail.back();
     Ok(behind)
 }

@@ -1,3 +1,4 @@
 pub mod CountLemmas
 pub mod OfferLemmas
 pub mod SizeLemmas
+pub mod NextLemmas

@@ -73,6 +73,27 @@ rows_part from count r = record {
   fragments = take count (drop from r.fragments);
 }
 
+-- rows, and behind them the signs and the sizes of so many others, from a number on
+abbrev pub signs_taken : RowsTerm → ℕ → ℕ → RowsTerm → RowsTerm
+signs_taken r from count others = record {
+  signs = r.signs ++ take count (drop from others.signs);
+  sizes = r.sizes ++ take count (drop from others.sizes);
+  fragments = r.fragments;
+}
+
+-- rows, and behind them the fragments of so many others, from a number on
+abbrev pub fragments_taken : RowsTerm → ℕ → ℕ → RowsTerm → RowsTerm
+fragments_taken r from count others = record {
+  signs = r.signs;
+  sizes = r.sizes;
+  fragments = r.fragments ++ take count (drop from others.fragments);
+}
+
+-- rows that are made beside older ones
+pub record NextRowsTerm : Type 0 where
+  pub older : RowsTerm
+  pub rows : RowsTerm
+
 -- sizes where the part of the node of this number is all from there on
 abbrev pub sizes_closed : ℕ → List ℕ → List ℕ
 sizes_closed number ns = slice_set ns number (length ns - number)

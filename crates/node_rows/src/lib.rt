@@ -3,11 +3,13 @@
 #![tactic(auto)]
 
 mod fresh;
+mod next;
 mod offering;
 mod rows;
 mod signs;
 mod sizes;
 
 pub use fresh::fresh_rows;
+pub use next::NextRows;
 pub use rows::NodeRows;
 pub use signs::Signs;

@@ -1,7 +1,7 @@
-ghost use Rattle.std.specs.Prelude.{◌≡◌, ◌+◌, ◌<◌, ◌≤◌, [], ◌∷◌, ◌++◌, length, slice_index, OnOk};
+ghost use Rattle.std.specs.Prelude.{◌≡◌, ◌+◌, ◌-◌, ◌<◌, ◌≤◌, [], ◌∷◌, ◌++◌, length, slice_index, OnOk};
 ghost use Rattle.task_model.specs.Showing.Widget.{shape_term, widget_term};
 ghost use Rattle.html_pages.specs.Fragments.{fragment_of};
-ghost use Rattle.node_rows.specs.Rows.{no_rows, row_at, rows_append, rows_closed, rows_part, rows_sized, widget_signs};
+ghost use Rattle.node_rows.specs.Rows.{fragments_taken, no_rows, row_at, rows_append, rows_closed, rows_sized, signs_taken, widget_signs};
 
 use crate::signs::Signs;
 use crate::sizes::close;
@@ -30,7 +30,7 @@ impl Model for NodeRows {
 
 impl NodeRows {
     /// No rows, in no memory.
-    pub fn new(alloc: Global) -> NodeRows
+    pub(crate) fn new(alloc: Global) -> NodeRows
         ensures { result ≡ no_rows }
     {
         NodeRows::of_sizes(alloc, Vec::new(alloc))
@@ -48,7 +48,7 @@ impl NodeRows {
     }
 
     /// Makes room for the signs and sizes of so many rows more.
-    pub fn reserve(&mut self, count: usize) -> Result<(), OutOfMemory>
+    pub(crate) fn reserve(&mut self, count: usize) -> Result<(), OutOfMemory>
         ensures { self.new ≡ self.old }
     {
         self.signs.reserve(count)?;
@@ -85,7 +85,7 @@ impl NodeRows {
 
     /// Draws the widget of a shape at a path, which is given as it is printed, and puts its row behind the others: its node has no parts as yet.
     /// It counts one step.
-    pub fn draw<L: Ledger>(
+    pub(crate) fn draw<L: Ledger>(
         &mut self,
         alloc: Global,
         path: &str,
@@ -102,31 +102,42 @@ impl NodeRows {
     }
 
     /// The part of the node of this number is all from there on.
-    pub fn close(&mut self, number: usize)
+    pub(crate) fn close(&mut self, number: usize)
         requires { number < length self.old.sizes }
         ensures { self.new ≡ rows_closed number self.old }
     {
         close(&mut self.sizes, number);
     }
 
-    /// Puts so many rows of others, from a number on, behind these: nothing is drawn.
-    pub fn take_over(
+    /// Puts the signs and the sizes of the rows of others from a number on, up to another one, behind these. Their fragments are still to come.
+    pub(crate) fn take_signs(
         &mut self,
         others: &NodeRows,
         from: usize,
-        count: usize,
+        to: usize,
     ) -> Result<(), OutOfMemory>
-        requires signs { from + count ≤ length others.now.signs }
-        requires sizes { from + count ≤ length others.now.sizes }
-        requires fragments { from + count ≤ length others.now.fragments }
-        ensures { OnOk result (self.new ≡ rows_append self.old (rows_part from count others.now)) }
+        requires order { from ≤ to }
+        requires signs { to ≤ length others.now.signs }
+        requires sizes { to ≤ length others.now.sizes }
+        ensures { OnOk result (self.new ≡ signs_taken self.old from (to - from) others.now) }
     {
-        self.fragments.take_over(&others.fragments, from, count)?;
-        self.signs
-            .extend_from_slice(&others.signs[from..from + count])?;
-        self.sizes
-            .extend_from_slice(&others.sizes[from..from + count])?;
+        self.signs.extend_from_slice(&others.signs[from..to])?;
+        self.sizes.extend_from_slice(&others.sizes[from..to])?;
         Ok(())
+    }
+
+    /// Puts the fragments of the rows of others from a number on, up to another one, behind these.
+    pub(crate) fn take_fragments(
+        &mut self,
+        others: &NodeRows,
+        from: usize,
+        to: usize,
+    ) -> Result<(), OutOfMemory>
+        requires order { from ≤ to }
+        requires fragments { to ≤ length others.now.fragments }
+        ensures { OnOk result (self.new ≡ fragments_taken self.old from (to - from) others.now) }
+    {
+        self.fragments.take_over(&others.fragments, from, to - from)
     }
 
     /// How many rows there are.

@@ -2,7 +2,7 @@ use Rattle.std.specs.Prelude.{string_bytes}
 use Rattle.std.proofs.Common.{rules, ◌++◌, ap, ◌∙◌}
 use Rattle.html_pages.specs.Fragments.{fragments_text}
 use Rattle.html_pages.proofs.Pieces.{on_ok}
-use Rattle.html_pages.proofs.Chunks.{last_texts, next_texts}
+use Rattle.html_pages.proofs.ChunkLemmas.{last_texts, next_texts}
 use Rattle.html_pages.proofs.framing.push_fragments.Goals as goal
 
 pub loop-chunk-preserved : goal.loop-chunk-preserved

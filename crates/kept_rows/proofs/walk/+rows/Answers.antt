@@ -32,7 +32,7 @@ pub add_rows-returns-then-is_whole-clause-behind : goal.add_rows-returns-then-is
 add_rows-returns-then-is_whole-clause-behind g t c =
     let whole = sym c.is_whole.ensures ∙ c.if-is_whole.true in
     let from = c.args.former.now.from in
-    IfOk-weaker c.take_over.result (λ n. n ≡ from + slice_index c.args.rows.now.sizes from)
+    IfOk-weaker c.take_over.result (λ n. n ≡ from + slice_index c.args.drawn.now.next.older.sizes from)
     (λ n. n ≡ from + former_nodes (tree_in c.args.former.now))
     (λ n e. e ∙ behind_taken _ _ _ _ _ _ _ _ _ c.requires.told whole) c.take_over.ensures.behind
 
@@ -53,18 +53,23 @@ add_rows-close-requires g t c =
 pub add_rows-returns-clause-rows : goal.add_rows-returns-clause-rows
 add_rows-returns-clause-rows g t c =
     let root = c.in_ok-add_root.ensures in
-    follow_closed _ _ _ _ _ (tree_term c.args.new.now) _ _ _ _ c.len-number.ensures c.close.ensures root.root
+    follow_closed _ _ _ _ _ (tree_term c.args.new.now) _ _ _ _ c.len-number.ensures c.close.ensures.rows root.root
     (rw (root.store, root.trail) at c.in_ok-behind.ensures.rows)
 
 -- ---- the parts of a node
 pub add_parts-behind-requires-clause-size : goal.add_parts-behind-requires-clause-size
-add_parts-behind-requires-clause-size g t c = former_size _ _ _ _ _ (tree_in c.args.former.now) _ c.requires.told.stand
+add_parts-behind-requires-clause-size g t c =
+    rw c.older.ensures (former_size _ _ _ _ _ (tree_in c.args.former.now) _ c.requires.told.stand)
 
 pub add_parts-behind_left-requires-clause-size : goal.add_parts-behind_left-requires-clause-size
-add_parts-behind_left-requires-clause-size g t c = former_size _ _ _ _ _ (tree_in c.args.former.now) _ c.requires.told.stand
+add_parts-behind_left-requires-clause-size g t c =
+    rw (c.older-in-Step.ensures, c.in_ok-left-in-Step.ensures.older)
+    (former_size _ _ _ _ _ (tree_in c.args.former.now) _ c.requires.told.stand)
 
 pub add_parts-behind_second-requires-clause-size : goal.add_parts-behind_second-requires-clause-size
-add_parts-behind_second-requires-clause-size g t c = former_size _ _ _ _ _ (tree_in c.args.former.now) _ c.requires.told.stand
+add_parts-behind_second-requires-clause-size g t c =
+    rw (c.older-in-Pair.ensures, c.in_ok-second-in-Pair.ensures.older, c.in_ok-first-in-Pair.ensures.older)
+    (former_size _ _ _ _ _ (tree_in c.args.former.now) _ c.requires.told.stand)
 
 pub add_parts-add_rows-requires : goal.add_parts-add_rows-requires
 add_parts-add_rows-requires g t c κs within =
@@ -147,7 +152,7 @@ add_parts-add_part-requires-in-Pair g t c κs within =
         (
           rw first.store (fits_pair _ new a b _ is c.requires.fits).1,
           (
-            rw (first.store, first.trail, there.tree, there.from, behind)
+            rw (first.store, first.trail, first.older, there.tree, there.from, behind)
                 (told_second _ _ _ _ _ _ _ _ _ c.second-there.result.marks.now c.requires.told a b is there.marks),
             omega (arith, less, room, from, nodes),
           ),

@@ -10,8 +10,9 @@ use Rattle.kept_rows.proofs.walk.next_rows.Goals as goal
 pub add_rows-requires-clause-told : goal.add_rows-requires-clause-told
 add_rows-requires-clause-told g c =
     let layer = first_of c.args.store.now.layers c.requires.layer in
-    told_root _ _ (tree_term c.args.old.now) (tree_term c.args.new.now) (map value_term layer.0) _ _ _ _ c.in_ok-drawn.ensures.trail
-    (c.requires.rows layer.0 layer.1) (c.requires.marks layer.0 layer.1)
+    rw c.in_ok-drawn.ensures.older
+    (told_root _ _ (tree_term c.args.old.now) (tree_term c.args.new.now) (map value_term layer.0) _ _ _ _ c.in_ok-drawn.ensures.trail
+    (c.requires.rows layer.0 layer.1) (c.requires.marks layer.0 layer.1))
 
 pub add_rows-requires-clause-room : goal.add_rows-requires-clause-room
 add_rows-requires-clause-room g c =
@@ -23,7 +24,9 @@ add_rows-requires-clause-room g c =
 
 pub returns-clause-rows : goal.returns-clause-rows
 returns-clause-rows g c =
-    follow_root _ _ (tree_term c.args.new.now) _ _ _ _ c.in_ok-drawn.ensures.trail c.in_ok-drawn.ensures.rows c.in_ok-_behind.ensures.rows
+    rw c.in_ok-next.ensures
+    (follow_root _ _ (tree_term c.args.new.now) _ _ _ _ c.in_ok-drawn.ensures.trail c.in_ok-drawn.ensures.rows
+    c.in_ok-_behind.ensures.rows)
 
 pub returns-clause-most : goal.returns-clause-most
 returns-clause-most g c =

@@ -1,9 +1,10 @@
 -- Lists in chunks.
-use Rattle.std.proofs.Common.{◌≡◌, ℕ, suc, zero, ◌+◌, ◌-◌, ◌<◌, ◌≤◌, min, List, [], ◌∷◌, ◌++◌, length, take, drop, get_or, set, refl, sym, ap, ap₂, ◌∙◌, arith, append_assoc, append-nil, length-append}
-use Rattle.std.proofs.lemmas.List.{drop_all, drop_more}
+use Rattle.std.proofs.Common.{◌≡◌, ℕ, suc, zero, ◌+◌, ◌-◌, ◌<◌, ◌≤◌, min, List, [], ◌∷◌, ◌++◌, length, take, drop, get_or, set, refl, sym, ap, ap₂, ◌∙◌, arith, append_assoc, append-nil, length-append, length-drop}
+use Rattle.std.proofs.Math.Seq.{drop-append-add}
+use Rattle.std.proofs.lemmas.List.{drop_all, drop_more, drop-append-le, drop-drop}
 use Rattle.task_model.specs.Terms.Text.{Text}
 use Rattle.task_model.specs.declared.widget.Face.{Face}
-use Rattle.html_pages.specs.Fragments.{FragmentTerm, fragment_text, fragments_text, chunks_list}
+use Rattle.html_pages.specs.Fragments.{FragmentTerm, fragment_text, fragments_text, chunks_list, chunk_starts}
 
 pub chunks_list_push : {A : Type 0} (xss : List (List A)) (c : List A) → chunks_list (xss ++ c ∷ []) ≡ chunks_list xss ++ c
 chunks_list_push [] c = append-nil c
@@ -17,6 +18,78 @@ chunks_list_merged (x ∷ []) zero both c d n b = append-nil both ∙ b ∙ ap (
 chunks_list_merged (x ∷ (y ∷ xs)) zero both c d n b = absurd (omega arith)
 chunks_list_merged (x ∷ xs) (suc i) both c d n b =
     ap (λ l. x ++ l) (chunks_list_merged xs i both c d (omega arith) b) ∙ sym (append_assoc x (chunks_list xs) c)
+
+-- ---- how many items stand before each list
+pub starts_push : {A : Type 0} (n : ℕ) (xss : List (List A)) (c : List A)
+    → chunk_starts n (xss ++ c ∷ []) ≡ chunk_starts n xss ++ (n + length (chunks_list xss)) ∷ []
+starts_push n [] c = ap (λ k. k ∷ []) {x = n} {y = n + 0} (omega arith)
+starts_push n (xs ∷ xss) c =
+    let both = length-append xs (chunks_list xss) in
+    ap (λ l. n ∷ l)
+    (starts_push (n + length xs) xss c
+    ∙ ap (λ k. chunk_starts (n + length xs) xss ++ k ∷ []) {x = (n + length xs) + length (chunks_list xss)}
+    {y = n + length (xs ++ chunks_list xss)} (omega (arith, both)))
+
+pub starts_merged : {A : Type 0} (n : ℕ) (xss : List (List A)) (i : ℕ) (both : List A) → i + 1 ≡ length xss
+    → chunk_starts n (set xss i both) ≡ chunk_starts n xss
+starts_merged n [] i both l = absurd (omega arith)
+starts_merged n (x ∷ []) zero both l = refl
+starts_merged n (x ∷ (y ∷ xs)) zero both l = absurd (omega arith)
+starts_merged n (x ∷ xs) (suc i) both l = ap (λ l. n ∷ l) (starts_merged (n + length x) xs i both (omega arith))
+
+pub starts_long : {A : Type 0} (n : ℕ) (xss : List (List A)) → length (chunk_starts n xss) ≡ length xss
+starts_long n [] = refl
+starts_long n (xs ∷ xss) = ap suc (starts_long (n + length xs) xss)
+
+start_at : {A : Type 0} (n : ℕ) (xss : List (List A)) (i d : ℕ) → i < length xss
+    → get_or (chunk_starts n xss) i d ≡ n + length (chunks_list (take i xss))
+start_at n [] i d lt = absurd (omega arith)
+start_at n (xs ∷ xss) zero d lt = omega arith
+start_at n (xs ∷ xss) (suc i) d lt =
+    let later = start_at (n + length xs) xss i d (omega arith) in
+    let both = length-append xs (chunks_list (take i xss)) in
+    omega (arith, later, both)
+
+pub start_is : {A : Type 0} (xss : List (List A)) (starts : List ℕ) (i found : ℕ) → starts ≡ chunk_starts 0 xss → i < length xss
+    → found ≡ get_or starts i found → found ≡ length (chunks_list (take i xss))
+start_is xss starts i found is lt e =
+    let at = e ∙ ap (λ ns. get_or ns i found) is ∙ start_at 0 xss i found lt in omega (arith, at)
+
+-- what stands from a list on
+pub rest_from : {A : Type 0} (xss : List (List A)) (i : ℕ)
+    → chunks_list (drop i xss) ≡ drop (length (chunks_list (take i xss))) (chunks_list xss)
+rest_from [] zero = refl
+rest_from [] (suc i) = refl
+rest_from (xs ∷ xss) zero = refl
+rest_from (xs ∷ xss) (suc i) =
+    rest_from xss i ∙ sym (drop-append-add xs (chunks_list xss) (length (chunks_list (take i xss))))
+    ∙ ap (λ n. drop n (xs ++ chunks_list xss)) (sym (length-append xs (chunks_list (take i xss))))
+
+pub within_from : {A : Type 0} (xss : List (List A)) (i : ℕ) → length (chunks_list (take i xss)) ≤ length (chunks_list xss)
+within_from [] zero = omega arith
+within_from [] (suc i) = omega arith
+within_from (xs ∷ xss) zero = omega arith
+within_from (xs ∷ xss) (suc i) =
+    let later = within_from xss i in
+    let first = length-append xs (chunks_list (take i xss)) in
+    let all = length-append xs (chunks_list xss) in
+    omega (arith, later, first, all)
+
+-- what stands from a number on, of some lists and of what is behind them
+pub all_from : {A : Type 0} (all last rest : List A) (from before : ℕ) → before ≤ from → from - before ≤ length all
+    → rest ≡ drop (from - before) all → drop before (rest ++ last) ≡ drop from (all ++ last)
+all_from all last rest from before le within is =
+    ap (λ l. drop before (l ++ last)) is ∙ ap (drop before) (sym (drop-append-le (from - before) all last within))
+    ∙ drop-drop before (from - before) (all ++ last)
+    ∙ ap (λ n. drop n (all ++ last)) {x = from - before + before} {y = from} (omega arith)
+
+pub all_long : {A : Type 0} (all last rest : List A) (from before : ℕ) → before ≤ from → from - before ≤ length all
+    → rest ≡ drop (from - before) all → length (rest ++ last) + from ≡ length (all ++ last) + before
+all_long all last rest from before le within is =
+    let one = length-append rest last in
+    let two = length-append all last in
+    let three = ap length is ∙ length-drop (from - before) all in
+    omega (arith, one, two, three)
 
 -- so many items from a number on are some of c, and then some of what stands behind it
 pub taken : {A : Type 0} (c r : List A) (skip left at many skipped more : ℕ) → at + skipped ≡ skip → many + more ≡ left
