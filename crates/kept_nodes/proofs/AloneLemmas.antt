@@ -1,9 +1,8 @@
 -- A node is its own part and its parts.
-use Rattle.std.proofs.Common.{◌≡◌, ◌↔◌, ◌<◌, ℕ, Bool, true, false, List, [], ◌∷◌, ◌++◌, length, Option, None, Some, refl, sym, ap, ◌∙◌, subst, arith}
+use Rattle.std.proofs.Common.{◌≡◌, ◌↔◌, ◌<◌, ℕ, Bool, true, false, List, [], ◌∷◌, ◌++◌, length, Option, None, Some, refl, sym, ap, ◌∙◌, subst}
 use Rattle.std.specs.Prelude.{◌||◌, slice_get, nat_eq, nat_le}
 use Rattle.std.specs.HashSet.{contains}
-use Rattle.std.proofs.lemmas.Bool.{leb-false}
-use Rattle.std.proofs.lemmas.Bool.Decides.{nat_tests}
+use Rattle.std.proofs.lemmas.Bool.{leb-false, lt-leb}
 use Rattle.std.specs.List.{All}
 use Rattle.std.proofs.lemmas.List.Elements.{All-nil, All-cons, All-head, All-tail, All-append}
 use Rattle.task_model.specs.Terms.Value.{ValueTerm}
@@ -39,9 +38,6 @@ unchanged_parts c (x ∷ xs) ys p = let q = unchanged_parts c xs ys p.1 in ((p.0
 neither : (a b : Bool) → (a || b) ≡ false → (a ≡ false) × (b ≡ false)
 neither true b e = absurd (cc)
 neither false b e = (refl, e)
-
-pub lt-leb : (k n : ℕ) → n < k → nat_le k n ≡ false
-lt-leb k n lt = grind (arith, nat_tests, lt)
 
 -- ---- a node of what is left of it alone, and of its parts
 abbrev joined : TreeTerm → Option TreeTerm → Option TreeTerm → Option TreeTerm → TreeTerm

@@ -1,5 +1,6 @@
 -- Trees that differ along a path alone, part by part.
 use Rattle.std.proofs.Common.{Bor, ◌≡◌, ◌↔◌, ◌<◌, ℕ, Bool, true, false, true≢false, List, [], ◌∷◌, length, Option, Some, refl, sym, ap, ◌∙◌, subst, arith}
+use Rattle.std.proofs.lemmas.Bool.{lt-leb}
 use Rattle.std.proofs.lemmas.Bool.Decides.{nat_tests}
 use Rattle.std.proofs.lemmas.List.Elements.{All-head, All-tail}
 use Rattle.std.specs.Prelude.{◌||◌, slice_get, nat_eq, IsTrue}
@@ -23,7 +24,7 @@ use Rattle.task_model.specs.declared.tree.Tree.{Tree}
 use Rattle.kept_nodes.specs.Own.{alone, AreUnchanged, StaysAlone}
 use Rattle.kept_nodes.specs.declared.marks.Marks as marks
 use Rattle.kept_nodes.specs.declared.changed.Changed.{Changed}
-use Rattle.kept_nodes.proofs.AloneLemmas.{none_some, all_left, all_right, lt-leb, own_there, root_stays, same_unchanged}
+use Rattle.kept_nodes.proofs.AloneLemmas.{none_some, all_left, all_right, own_there, root_stays, same_unchanged}
 use Rattle.kept_nodes.proofs.MarkLemmas.{not_step, not_pair, pair_step, step_same, pair_first, pair_second, tells_whole}
 
 -- ---- where no place that was there has another value
