@@ -1,7 +1,7 @@
 ghost use Rattle.std.specs.Prelude.{◌≡◌, ◌++◌, IfOk, IsNone, codes, decimal};
 ghost use Rattle.task_model.specs.Terms.Input.{entry_term};
 ghost use Rattle.task_model.specs.Running.State.{IsSeat};
-ghost use Rattle.world_core.specs.World.{world_term};
+ghost use Rattle.world_core.specs.World.{world_term, Replies};
 ghost use Rattle.input_lines.specs.ScriptLines.{HasSeat, gives, shows, line_term};
 ghost use Rattle.tophat.specs.Session.{Answers};
 
@@ -18,6 +18,8 @@ use world_core::{Taken, World};
 pub(crate) struct Runner<L: Ledger> {
     world: World,
     steps: Steps<L>,
+    // Whether the present state was shown.
+    is_shown: bool,
     ghost rest: { IsNone world.next },
 }
 
@@ -26,7 +28,11 @@ impl<L: Ledger> Runner<L> {
         requires { IsNone world.next }
         ensures { result.world ≡ world }
     {
-        Runner { world, steps }
+        Runner {
+            world,
+            steps,
+            is_shown: false,
+        }
     }
 
     // Does what a line asks for: its answer.
@@ -47,6 +53,7 @@ impl<L: Ledger> Runner<L> {
         ensures { IfOk result (λ text. Answers (world_term self.old.world) (shows seat) text.list (world_term self.new.world)) }
     {
         let page = self.world.page(alloc, Face::Text, seat, &mut self.steps)?;
+        self.is_shown = true;
         Ok(page.into_bytes())
     }
 
@@ -56,12 +63,27 @@ impl<L: Ledger> Runner<L> {
         ensures { IfOk result (λ text. Answers (world_term self.old.world) (gives (entry_term entry)) text.list
             (world_term self.new.world)) }
     {
-        match self.world.handle(entry.seat, entry.input) {
+        match self.handle(alloc, entry) {
             Ok(taken) => taken_text(alloc, taken),
             Err(ActStop::NotOffered) => row_of(alloc, b"not offered\n"),
             Err(ActStop::Over) => row_of(alloc, b"over budget\n"),
             Err(ActStop::Memory) => Err(OutOfMemory),
         }
+    }
+
+    // Gives an input to the world. Where the present state was shown the next one likely is, too.
+    fn handle(&mut self, alloc: Global, entry: Entry) -> Result<Taken, ActStop>
+        requires { IsSeat entry.seat }
+        ensures { Replies (world_term self.old.world) (entry_term entry) (world_term self.new.world) result }
+    {
+        if !self.is_shown {
+            return self.world.handle(entry.seat, entry.input);
+        }
+        let taken = self
+            .world
+            .handle_and_draw(alloc, entry.seat, entry.input, &mut self.steps)?;
+        self.is_shown = false;
+        Ok(taken)
     }
 }
 

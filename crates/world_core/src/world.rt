@@ -1,4 +1,4 @@
-ghost use Rattle.std.specs.Prelude.{◌≡◌, ◌+◌, ◌*◌, ◌≤◌, ℕ, [], ◌∷◌, IfErr, IfOk, IsSome, None, OnOk, Some, slice_get, true};
+ghost use Rattle.std.specs.Prelude.{◌≡◌, ◌+◌, ◌*◌, ◌≤◌, ℕ, [], ◌∷◌, IfErr, IfOk, IsSome, None, OnOk, Some, slice_get, false, true};
 ghost use Rattle.std.specs.Option.{option_map};
 ghost use Rattle.task_model.specs.Terms.Tree.{tree_term, State};
 ghost use Rattle.task_model.specs.Terms.Input.{input_term};
@@ -112,6 +112,32 @@ impl World {
         ensures rest { self.new.next ≡ None }
     {
         self.prepare(seat, input)?;
+        Ok(self.commit())
+    }
+
+    /// The same, and the state that it leads to is drawn: where the present one was, no more than the nodes that aren't kept are tested and
+    /// drawn. Where memory runs out for that the input isn't taken.
+    pub fn handle_and_draw<L: Ledger>(
+        &mut self,
+        alloc: Global,
+        seat: u8,
+        input: Input,
+        steps: &mut Steps<L>,
+    ) -> Result<Taken, ActStop>
+        requires seat { IsSeat seat }
+        requires rest { self.old.next ≡ None }
+        ensures replies { Replies (world_term self.old) (record { seat = seat; input = input_term input }) (world_term self.new) result }
+        ensures rest { self.new.next ≡ None }
+        ensures made { OnOk result (self.new.drawn ≡ true) }
+        ensures steps { OnOk result (steps.new ≤ steps.old + most_steps false (tree_term self.new.tree)) }
+        ensures few { OnOk result (self.old.drawn ≡ true → (m : ℕ) → IsRedrawn (world_term self.old).state (world_term self.new).state m
+            → steps.new ≤ steps.old + 3 * m) }
+    {
+        self.prepare(seat, input)?;
+        if self.next_fragments(alloc, steps).is_err() {
+            self.abandon();
+            return Err(ActStop::Memory);
+        }
         Ok(self.commit())
     }
 

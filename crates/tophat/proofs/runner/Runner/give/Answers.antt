@@ -12,28 +12,28 @@ pub returns-in-Ok : goal.returns-in-Ok
 returns-in-Ok g c =
     let w = world_term c.args.self.now.world in
     let e = entry_term c.args.entry in
-    let new = world_term c.handle.new.self in
+    let new = world_term c.handle.new.self.world in
     IfOk-weaker c.taken_text.result _ (λ text. Answers w (gives e) text.list new)
-    (λ text is. subst (λ (z : Text). Answers w (gives e) z new) (sym is) (taken_answers w e new c.in-Ok.taken c.in-Ok.ensures.replies))
+    (λ text is. subst (λ (z : Text). Answers w (gives e) z new) (sym is) (taken_answers w e new c.in-Ok.taken c.in-Ok.ensures))
     c.taken_text.ensures
 
 pub returns-in-Err-NotOffered : goal.returns-in-Err-NotOffered
 returns-in-Err-NotOffered g c =
     let w = world_term c.args.self.now.world in
     let e = entry_term c.args.entry in
-    let new = world_term c.handle.new.self in
+    let new = world_term c.handle.new.self.world in
     IfOk-weaker c.row_of.result _ (λ text. Answers w (gives e) text.list new)
     (λ text is. subst (λ (z : Text). Answers w (gives e) z new) (sym is)
     (refused_answers w e new (subst (λ stop. Replies w e new (Err stop)) c.in-Err-NotOffered.field-0-is
-    c.in-Err-NotOffered.ensures.replies)))
+    c.in-Err-NotOffered.ensures)))
     c.row_of.ensures
 
 pub returns-in-Err-Over : goal.returns-in-Err-Over
 returns-in-Err-Over g c =
     let w = world_term c.args.self.now.world in
     let e = entry_term c.args.entry in
-    let new = world_term c.handle.new.self in
+    let new = world_term c.handle.new.self.world in
     IfOk-weaker c.row_of-in-Err-Over.result _ (λ text. Answers w (gives e) text.list new)
     (λ text is. subst (λ (z : Text). Answers w (gives e) z new) (sym is)
-    (over_answers w e new (subst (λ stop. Replies w e new (Err stop)) c.in-Err-Over.field-0-is c.in-Err-Over.ensures.replies)))
+    (over_answers w e new (subst (λ stop. Replies w e new (Err stop)) c.in-Err-Over.field-0-is c.in-Err-Over.ensures)))
     c.row_of-in-Err-Over.ensures
