@@ -38,7 +38,7 @@ closes_93 = (omega arith, λ d. let high = d.1 in omega (arith, high))
 pub no_blank : (t : ℕ) (z : Text) → t ≢ 32 → NoBlank (t ∷ z)
 no_blank t z n y e = n (let same : t ≡ 32 = cc in same)
 
--- two lists with other first literal_bytes
+-- two lists with other first bytes
 pub apart : (t u : ℕ) (s w : Text) → t ≢ u → t ∷ s ≡ u ∷ w → ⊥
 apart t u s w n e = n cc
 

@@ -39,7 +39,7 @@ escaped_low c l n10 n9 n13 = grind (arith, nat_tests)
 two_high : (a b : ℕ) → 128 ≤ a → 128 ≤ b → escaped_all (a ∷ (b ∷ [])) ≡ a ∷ (b ∷ [])
 two_high a b p q = ap (λ l. l ++ (escaped b ++ [])) (escaped_high a p) ∙ ap (λ l. a ∷ (l ++ [])) (escaped_high b q)
 
--- a character of more literal_bytes is written raw
+-- a character of more than one byte is written raw
 pub escaped_wide : (c : ℕ) → IsScalar c → 128 ≤ c → escaped_all (encode_utf8 c) ≡ encode_utf8 c
 escaped_wide c s high = go (shape_of c s)
   where

@@ -83,7 +83,7 @@ pub record IsRawByte (byte : ℕ) : Type 0 where
   pub no_quote : byte ≢ 34
   pub no_backslash : byte ≢ 92
 
--- how many literal_bytes a character has that begins with this one, or 0 (Unicode, table 3-7)
+-- how many bytes a character has that begins with this one, or 0 (Unicode, table 3-7)
 abbrev pub width_of : ℕ → ℕ
 width_of lead = if nat_lt lead 194 then 0 else if nat_lt lead 224 then 2 else if nat_lt lead 240 then 3 else if nat_lt lead 245 then 4
     else 0
@@ -94,14 +94,14 @@ pub record InRange (low high : ℕ) (t : Text) (byte : ℕ) : Type 0 where
   pub above : low ≤ byte
   pub below : byte ≤ high
 
--- a character or an escape of a text's content, of at most so many literal_bytes of content
+-- a character or an escape of a text's content, of at most so many bytes of content
 pub record Part (room : ℕ) (t content : Text) : Type 0 where
   pub part : TextPart
   pub are : t ≡ part_spelling part
   pub is : PartIs part content
   pub fits : length content ≤ room
 
--- a character that stands for itself and has more than one byte, of at most so many literal_bytes
+-- a character that stands for itself and has more than one byte, of at most so many bytes
 pub record Wide (room : ℕ) (t content : Text) : Type 0 where
   pub character : ℕ
   pub are : t ≡ content

@@ -1,4 +1,4 @@
--- Which literal_bytes are a literal, and of which value (docs/FORMATS.md, "Literals").
+-- Which bytes are a literal, and of which value (docs/FORMATS.md, "Literals").
 use Rattle.std.specs.Prelude.{◌≡◌, ℕ, ℤ, pos, negsuc, zero, suc, ◌≤◌, max, Bool, true, false, List, [], ◌∷◌, ◌++◌, length, replicate, FitsSigned}
 use Rattle.std.specs.Int.{w64}
 use Rattle.task_model.specs.Terms.Text.{Text}
@@ -10,7 +10,7 @@ use Rattle.task_model.specs.Terms.Token.{SpellsNumber, IsText}
 abbrev pub spaces : ℕ → Text
 spaces n = replicate n 32
 
--- what a stretch of literal_bytes can be: a literal, or what stands behind an element of a list
+-- what a stretch of bytes can be: a literal, or what stands behind an element of a list
 pub data LiteralForm : Type 0 where
   literal : LiteralForm
   further : LiteralForm
@@ -39,7 +39,7 @@ abbrev pub minus_text : Bool → Text
 minus_text true = 45 ∷ []
 minus_text false = []
 
--- the literal_bytes of a parse
+-- the bytes of a parse
 abbrev pub literal_bytes : {f : LiteralForm} → LiteralParse f → Text
 literal_bytes (unit m n) = 40 ∷ (spaces m ++ (41 ∷ spaces n))
 literal_bytes (bool b n) = bool_text b ++ spaces n
@@ -74,7 +74,7 @@ value (last n) = []
 value (more k v vs) = value v ∷ value vs
 
 abbrev mutual
-  -- the limits of a literal: an int has 64 bits, a text at most 65,536 literal_bytes, a list at most 1,024 elements
+  -- the limits of a literal: an int has 64 bits, a text at most 65,536 bytes, a list at most 1,024 elements
   pub IsWithinLiteralLimits : ValueTerm → Type 0
   IsWithinLiteralLimits unit_value = Unit {0}
   IsWithinLiteralLimits (bool_value b) = Unit {0}
@@ -101,7 +101,7 @@ abbrev mutual
   levels_in no_values = 0
   levels_in (more_values v vs) = max (levels_of v) (levels_in vs)
 
--- The literal_bytes are a literal of the value: spaces, and then a parse of it, within the limits and 64 levels.
+-- The bytes are a literal of the value: spaces, and then a parse of it, within the limits and 64 levels.
 pub record IsLiteral (t : Text) (v : ValueTerm) : Type 0 where
   pub before : ℕ
   pub parse : LiteralParse literal

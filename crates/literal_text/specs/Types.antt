@@ -1,4 +1,4 @@
--- Which type_bytes are the name of a type (docs/FORMATS.md, "Types").
+-- Which bytes are the name of a type (docs/FORMATS.md, "Types").
 use Rattle.std.specs.Prelude.{◌≡◌, ℕ, ◌≤◌, ◌∷◌, ◌++◌, codes}
 use Rattle.task_model.specs.Terms.Text.{Text}
 use Rattle.task_model.specs.Terms.Basic.{BasicTerm, unit_type, bool_type, int_type, text_type, pair_type, list_type}
@@ -17,7 +17,7 @@ pub data TypeParse : Type 0 where
   -- "[" type "]"
   list : ℕ → TypeParse → ℕ → TypeParse
 
--- the type_bytes of a parse
+-- the bytes of a parse
 abbrev pub type_bytes : TypeParse → Text
 type_bytes (unit n) = codes "unit" ++ spaces n
 type_bytes (bool n) = codes "bool" ++ spaces n
@@ -34,7 +34,7 @@ basic (text n) = text_type
 basic (pair m a k b n) = pair_type (basic a) (basic b)
 basic (list m a n) = list_type (basic a)
 
--- The type_bytes are the name of a type of at most 64 symbols: spaces, and then a parse of it.
+-- The bytes are the name of a type of at most 64 symbols: spaces, and then a parse of it.
 pub record IsTypeName (t : Text) (b : BasicTerm) : Type 0 where
   pub before : ℕ
   pub parse : TypeParse

@@ -63,7 +63,7 @@ pub data StrideList (one : State → Work State) : State → State → ℕ → �
 abbrev pub Parts : Type 1
 Parts = (q : Judgement) → Work (Derived q)
 
--- the plan_work of a plan over the derivations of its parts: units are summed, and the height is the greatest
+-- the work of a plan over the derivations of its parts: units are summed, and the height is the greatest
 abbrev pub plan_work : {A : Type 0} → Parts → Plan A → Work A
 plan_work part (give x) = gives x
 plan_work part stuck = never
