@@ -222,13 +222,12 @@ version 0 seat 1
 .SS fail
 
 $ run p.th
-task view(copy : ref int, true_one : ref int) : int =
-  share copy >>= seen . if seen == !true_one then fail int else (copy := !true_one ; view(copy, true_one))
-task label(words : text) : text = edit words >>= seen . if seen == words then fail text else label(words)
+task view(r : ref int) : unit = edit !r >>= seen . if seen == !r then fail unit else view(r)
+task label(words : text) : unit = edit words >>= seen . if seen == words then fail unit else label(words)
 task take(left : ref int) : unit =
   enter int >>? days . if 0 < days && days <= !left then (left := !left - days ; take(left)) else fail unit
-task main() : (text, (unit, int)) =
-  new left = 25 in new copy = 25 in label("take days of leave") <&> (take(left) <&> view(copy, left))
+task main() : (unit, (unit, unit)) =
+  new left = 25 in label("take days of leave") <&> (take(left) <&> view(left))
 = 0
 > 1 .SF set 5
 taken 1
@@ -247,7 +246,7 @@ version 4 seat 1
 .SF step
 .SF enter int
 .SS then
-.SS share int 20
+.SS edit int 20
 > 2 .SF set 21
 taken 5
 > 2 .SF next
@@ -256,9 +255,9 @@ not offered
 $ run p.th
 task send(kept : ref int) : unit =
   enter int >>? bid . if bid > 0 then (kept := bid ; edit ()) else fail unit
-task bids(both : (int, int)) : (int, int) =
-  edit both >>= seen . if seen == both then fail (int, int) else bids(both)
-task main() : (int, int) =
+task bids(both : (int, int)) : unit =
+  edit both >>= seen . if seen == both then fail unit else bids(both)
+task main() : unit =
   new a = 0 in new b = 0 in (send(a) <&> send(b)) >>= sent . bids((!a, !b))
 = 0
 > 1 .F set 70
@@ -286,29 +285,114 @@ version 5 seat 2
 . edit (int, int) (70, 60)
 
 $ run p.th
-task label(words : text) : text = edit words >>= seen . if seen == words then fail text else label(words)
+task asked(sum : int) : bool = edit sum >>= seen . if seen == sum then fail bool else asked(sum)
 task decide(sum : int) : text =
-  (edit sum <&> (edit true <?> edit false)) >>? d .
-    if fst d != sum then decide(sum)
-    else if snd d then label("granted") else label("not granted")
+  (asked(sum) <|> ((edit true <?> edit false) >>? yes . edit yes)) >>= yes .
+    if yes then edit "granted" else edit "not granted"
 task main() : text = enter int >>? sum . decide(sum)
 = 0
 > 1 . set 40
 taken 1
 > 1 . next
 taken 2
-> 2 .S left
-taken 3
 > 1 .F set 9000
+taken 3
+> 2 .S left
 taken 4
-> 2 . next
+> 2 show
+version 4 seat 2
+. then
+. or
+.F then
+.F edit int 40
+.S step next
+.S edit bool true
+> 2 .S next
 taken 5
 > 2 show
 version 5 seat 2
-. step
+. edit text "granted"
+
+$ run p.th
+# WRONG: a second press of the employee grants the days
+task ask(left : ref int) : unit =
+  enter int >>? days . if 0 < days && days <= !left then decide(left, days) else fail unit
+task decide(left : ref int, days : int) : unit =
+  (edit days <&> (edit true <?> edit false)) >>? d .
+    if snd d then (left := !left - days ; ask(left)) else ask(left)
+task main() : (unit, int) = new left = 25 in ask(left) <&> share left
+= 0
+> 1 .F set 10
+taken 1
+> 1 .F next
+taken 2
+> # the head looks at what granting would be, and hasn't pressed next
+> 2 .FS left
+taken 3
+> # the employee presses next once more, on the page that still shows the form
+> 1 .F next
+taken 4
+> 1 show
+version 4 seat 1
 . and
-.F edit int 40
-.S pick left right
+.F step
+.F enter int
+.S share int 15
+
+$ run p.th
+task asked(days : int) : bool = edit days >>= seen . if seen == days then fail bool else asked(days)
+task ask(left : ref int) : unit =
+  enter int >>? days . if 0 < days && days <= !left then decide(left, days) else fail unit
+task decide(left : ref int, days : int) : unit =
+  (asked(days) <|> ((edit true <?> edit false) >>? yes . edit yes)) >>= yes .
+    if yes then (left := !left - days ; ask(left)) else ask(left)
+task main() : (unit, int) = new left = 25 in ask(left) <&> share left
+= 0
+> 1 .F set 10
+taken 1
+> 1 .F next
+taken 2
+> 2 .FS left
+taken 3
+> 1 .F next
+not offered
+> 1 show
+version 3 seat 1
+. and
+.F then
+.F or
+.FF then
+.FF edit int 10
+.FS step next
+.FS edit bool true
+.S share int 25
+
+$ run p.th
+task asked(number : int) : unit = edit number >>= seen . if seen == number then fail unit else asked(number)
+task next_case(number : int, closed : ref [int]) : unit =
+  (asked(number) <|> (enter int >>? typed . if typed == number then edit () else fail unit)) >>= u .
+    (closed := number :: !closed ; next_case(number + 1, closed))
+task main() : (unit, [int]) = new closed = nil int in next_case(1, closed) <&> share closed
+= 0
+> 1 .FS set 1
+taken 1
+> 1 .FS next
+taken 2
+> # another one closes case 1, on the page before
+> 2 .FS set 1
+taken 3
+> 2 .FS next
+not offered
+> 2 show
+version 3 seat 2
+. and
+.F then
+.F or
+.FF then
+.FF edit int 2
+.FS step
+.FS edit int 1
+.S share [int] [1]
 
 $ run p.th
 # WRONG: next is offered for a room that is booked
@@ -356,10 +440,8 @@ task is_booked(room : text, rest : [text]) : bool =
 task book(board : ref [text], said : text) : unit =
   (edit said <&> enter text) >>? form . (is_booked(snd form, !board) >>= yes .
     if yes then book(board, "that room is taken") else (board := snd form :: !board ; book(board, "booked")))
-task view(copy : ref [text], board : ref [text]) : [text] =
-  share copy >>= seen . if seen == !board then fail [text] else (copy := !board ; view(copy, board))
-task main() : (unit, [text]) =
-  new board = nil text in new copy = nil text in book(board, "which room?") <&> view(copy, board)
+task view(board : ref [text]) : unit = edit !board >>= seen . if seen == !board then fail unit else view(board)
+task main() : (unit, unit) = new board = nil text in book(board, "which room?") <&> view(board)
 = 0
 > 1 .FS set "Blue"
 taken 1
@@ -377,7 +459,7 @@ version 4 seat 1
 .FF edit text "that room is taken"
 .FS enter text
 .S then
-.S share [text] ["Blue"]
+.S edit [text] ["Blue"]
 
 $ run p.th
 task add(queue : ref [text]) : unit =
@@ -416,6 +498,22 @@ same program
 $ run p.th --budget 8
 same program
 = 4 tophat: opening over budget
+
+$ run p.th
+fun digit(n : int) : text =
+  if n < 5 then (if n == 0 then "0" else if n == 1 then "1" else if n == 2 then "2" else if n == 3 then "3" else "4")
+  else if n == 5 then "5" else if n == 6 then "6" else if n == 7 then "7" else if n == 8 then "8" else "9"
+fun two(n : int) : text = digit(n quot 10) ++ digit(n rem 10)
+fun four(n : int) : text = two(n quot 100) ++ two(n rem 100)
+task text_of(n : int, behind : text) : text =
+  if n < 10 then edit (digit(n) ++ behind) else (edit () >>= u . text_of(n quot 10, digit(n rem 10) ++ behind))
+task main() : (text, text) = (text_of(2047, "") >>= t . edit ("room " ++ t)) <&> edit ("room " ++ four(47))
+= 0
+> 1 show
+version 0 seat 1
+. and
+.F edit text "room 2047"
+.S edit text "room 0047"
 
 $ run p.th
 task count_on(n : int) : int = edit n >>= x . count_on(x + 1)
