@@ -19,6 +19,7 @@ const EXAMPLES: &[&str] = &[
     "incidents",
     "leave",
     "meeting",
+    "notes",
     "order",
     "pair",
     "rooms",
