@@ -121,7 +121,7 @@ one_line d (gives e) (shows z) h g = absurd (act_is_no_show (path_text e.input.p
 one_line d (gives e) (gives f) h g = ap gives (one_entry e.input.path f.input.path e.seat f.seat e.input.act f.input.act (sym h.0 ∙ g.0))
 
 -- one datum is read
-one_datum : (o : Option Data) (d e : Data) → o ≡ Some d → o ≡ Some e → d ≡ e
+pub one_datum : (o : Option Data) (d e : Data) → o ≡ Some d → o ≡ Some e → d ≡ e
 one_datum o d e h g = cc
 
 one_text : (t : Text) (l m : LineTerm) → IsJsonText t l → IsJsonText t m → l ≡ m

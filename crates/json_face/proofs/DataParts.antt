@@ -19,6 +19,10 @@ abbrev pub rest_in : Members → Members
 rest_in no_members = no_members
 rest_in (member k d ms) = ms
 
+abbrev pub key_in : Members → Text
+key_in no_members = []
+key_in (member k d ms) = k
+
 abbrev pub text_in : Data → Text
 text_in (string t) = t
 text_in d = []

@@ -7,3 +7,6 @@ pub mod KindLemmas
 pub mod ReturnLemmas
 pub mod AskedLemmas
 pub mod WidgetLemmas
+pub mod ValueDecisions
+pub mod LineDecisions
+pub mod OnePage

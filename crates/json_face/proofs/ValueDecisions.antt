@@ -1,12 +1,12 @@
 -- Data is the form of a value within the limits, or of none.
-use Rattle.std.proofs.Common.{◌≡◌, ℕ, ◌≤◌, ◌<◌, ◌^◌, ℤ, pos, negsuc, Bool, true, false, ◌&&◌, List, [], ◌∷◌, length, codes, ◌⊎◌, inl, inr, refl, sym, ap, ◌∙◌, subst, arith, true≢false, FitsSigned, w64}
+use Rattle.std.proofs.Common.{◌≡◌, ℕ, ◌+◌, ◌≤◌, ◌^◌, ℤ, pos, negsuc, Bool, true, false, ◌&&◌, length, codes, ◌⊎◌, inl, inr, refl, sym, ap, ◌∙◌, subst, arith, true≢false, FitsSigned, w64}
 use Rattle.std.specs.Str.{bytes_eq}
 use Rattle.std.proofs.lemmas.Bool.{and_parts}
 use Rattle.std.proofs.lemmas.Bool.Decides.{leb_tells}
 use Rattle.std.proofs.lemmas.Slice.Eq.{bytes_eq-Decides}
 use Rattle.task_model.specs.Terms.Text.{Text}
 use Rattle.task_model.specs.Terms.Value.{ValueTerm, ValueTerms, unit_value, bool_value, int_value, text_value, pair_value, list_value, no_values, more_values, count_of}
-use Rattle.literal_text.specs.Literals.{IsWithinLiteralLimits, AreWithinLiteralLimits, levels_of, levels_in}
+use Rattle.literal_text.specs.Literals.{IsWithinLiteralLimits, AreWithinLiteralLimits, levels_of}
 use Rattle.serde_json.specs.Data.{Num, unsigned, negative, float, Data, null, boolean, number, string, array, object, Items, no_items, item, Members, no_members, member}
 use Rattle.serde_json.specs.Find.{of_integer}
 use Rattle.json_face.specs.JsonValues.{value_data, values_data}
@@ -132,13 +132,13 @@ mutual
   limits_in (more_values v vs) = both (limits_of v) (limits_in vs)
 
 -- a value within the limits and 64 levels, whose form the data is
-abbrev pub IsHeld : ValueTerm → Type 0
-IsHeld v = IsWithinLiteralLimits v × (levels_of v ≤ 64)
+abbrev pub IsWithin : ValueTerm → Type 0
+IsWithin v = IsWithinLiteralLimits v × (levels_of v ≤ 64)
 
-pub decide_value : (d : Data) → Decided ((v : ValueTerm) × (d ≡ value_data v) × IsHeld v)
+pub decide_value : (d : Data) → Decided ((v : ValueTerm) × (d ≡ value_data v) × IsWithin v)
 decide_value d = go (is_value d) refl (both (limits_of (value_in d)) (at_most (levels_of (value_in d)) 64))
   where
-    go : (told : Bool) → is_value d ≡ told → Decided (IsHeld (value_in d)) → Decided ((v : ValueTerm) × (d ≡ value_data v) × IsHeld v)
+    go : (told : Bool) → is_value d ≡ told → Decided (IsWithin (value_in d)) → Decided ((v : ValueTerm) × (d ≡ value_data v) × IsWithin v)
     go true told (inl held) = inl (value_in d, value_is d told, held)
-    go true told (inr none) = inr (λ h. none (subst IsHeld (sym (ap value_in h.1 ∙ value_back h.0)) h.2))
+    go true told (inr none) = inr (λ h. none (subst IsWithin (sym (ap value_in h.1 ∙ value_back h.0)) h.2))
     go false told held = inr (λ h. absurd (true≢false (sym (value_told h.0) ∙ (ap is_value (sym h.1) ∙ told))))

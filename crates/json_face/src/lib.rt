@@ -6,6 +6,7 @@ mod data;
 mod fields;
 mod forms;
 mod kinds;
+mod laws;
 mod line;
 mod page;
 mod parse;
@@ -18,6 +19,7 @@ mod whole;
 mod widget;
 mod write;
 
+pub use laws::one_json_line;
 pub use page::JsonPage;
 pub use parse::parse_json_line;
 pub use read::read_page;

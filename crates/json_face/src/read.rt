@@ -1,4 +1,4 @@
-ghost use Rattle.std.specs.Prelude.{◌≡◌, List, Err, IfOk, map};
+ghost use Rattle.std.specs.Prelude.{◌≡◌, List, Err, IfOk, MatchResult, map};
 ghost use Rattle.task_model.specs.Showing.Widget.{WidgetTerm, widget_term};
 ghost use Rattle.json_face.specs.JsonPages.{AreJsonWidgets, IsWidgetArray, FitsPage, IsJsonPage, JsonPageTerm, page_data, json_page_term};
 ghost use Rattle.json_face.specs.declared.stop.JsonStop.TheVariants as JsonStop;
@@ -17,7 +17,14 @@ use task_model::{Row, Widget};
 /// The page that these bytes are (docs/FORMATS.md, "JSON").
 pub fn read_page(alloc: Global, bytes: &[u8]) -> Result<JsonPage, JsonStop>
     ensures found { IfOk result (λ p. IsJsonPage bytes.now (json_page_term p)) }
-    // `Bad` exactly where they are no page.
+    // They are no other page, and a page is refused only for want of memory: `Bad` exactly where they are none.
+    ensures only { (p : JsonPageTerm) → IsJsonPage bytes.now p → MatchResult result (λ q. json_page_term q ≡ p) (λ e. e ≡ JsonStop.Memory) }
+{
+    page_in(alloc, bytes)
+}
+
+fn page_in(alloc: Global, bytes: &[u8]) -> Result<JsonPage, JsonStop>
+    ensures found { IfOk result (λ p. IsJsonPage bytes.now (json_page_term p)) }
     ensures bad { result ≡ Err JsonStop.Bad → (p : JsonPageTerm) → IsJsonPage bytes.now p → ⊥ }
 {
     let json = read_json(alloc, bytes)?;
