@@ -10,7 +10,7 @@ use Rattle.clap.specs.declared.parser.matches.ArgMatches.{ArgMatches}
 use Rattle.task_model.specs.Terms.Text.{Text}
 use Rattle.command_words.specs.WordReading.{Use, has, is_distinct, read, value_given}
 use Rattle.command_words.specs.ClapReading.{clap_read}
-use Rattle.command_words.specs.Commands.{CommandTerm, IsAsked, ServeTerm, Values, budget_in, connections_in, looked_up, port_in, run_in, run_options, run_with, seats_in, serve_in, serve_options, serve_with, serving_in, serving_with, usual_budget, workers_in}
+use Rattle.command_words.specs.Commands.{CommandTerm, IsAsked, ServeTerm, Values, budget_in, connections_in, json_in, json_with, looked_up, port_in, run_in, run_options, run_with, seats_in, serve_in, serve_options, serve_with, serving_in, serving_with, usual_budget, workers_in}
 use Rattle.command_words.specs.WordNumbers.{number_or}
 use Rattle.command_words.specs.CommandTables.{Finds, HasUses, is_table}
 use Rattle.command_words.specs.declared.command.Command.{Command}
@@ -71,6 +71,24 @@ run_fails uses name h e =
 
     go : value_given (codes "budget") uses ≡ Some dash → run_in (λ n. value_given n uses) ≡ None
     go is = ap (λ o. run_with file (number_or usual_budget 1 1000000 o)) is ∙ run_needs file
+
+-- ---- the same of `json`
+
+json_needs : (file : Option Text) → json_with file None ≡ None
+json_needs None = refl
+json_needs (Some file) = refl
+
+pub json_fails : (uses : List Use) (name : Text) → has name run_options ≡ true → value_given name uses ≡ Some dash
+    → json_in (λ n. value_given n uses) ≡ None
+json_fails uses name h e =
+    ⊎_elim (λ same. go (given_dash (codes "budget") name uses same e)) (λ none. absurd (true≢false (sym none)))
+    (either_name (codes "budget") name [] h)
+  where
+    file : Option Text
+    file = value_given (codes "FILE") uses
+
+    go : value_given (codes "budget") uses ≡ Some dash → json_in (λ n. value_given n uses) ≡ None
+    go is = ap (λ o. json_with file (number_or usual_budget 1 1000000 o)) is ∙ json_needs file
 
 -- ---- the same of the numbers of `serve`
 

@@ -41,6 +41,8 @@ pub data CommandTerm : Type 0 where
   drill : ℕ → ℕ → CommandTerm
   -- the program in the file of this name is served with these numbers
   serve : Text → ServeTerm → CommandTerm
+  -- as `run`, with the lines of the script and the answers as JSON
+  json : Text → ℕ → CommandTerm
 
 -- a command of the code as such a term
 abbrev pub command_term : Command → CommandTerm
@@ -49,6 +51,7 @@ command_term (commands.Check file) = check file
 command_term (commands.Soak count seed) = soak count seed
 command_term (commands.Drill seats each) = drill seats each
 command_term (commands.Serve file serving) = serve file (serve_term serving)
+command_term (commands.Json file budget) = json file budget
 
 -- the value of each argument and option, by its name
 abbrev pub Values : Type 0
@@ -157,13 +160,25 @@ serve_with (Some file) (Some serving) = Some (serve file serving)
 abbrev pub serve_in : Values → Option CommandTerm
 serve_in value = serve_with (value (codes "FILE")) (serving_in value)
 
+-- ---- json FILE [--budget N]
+
+-- a file and a budget are needed
+abbrev pub json_with : Option Text → Option ℕ → Option CommandTerm
+json_with None budget = None
+json_with (Some file) None = None
+json_with (Some file) (Some budget) = Some (json file budget)
+
+-- a run of the file that is named, in JSON, within the budget that is given
+abbrev pub json_in : Values → Option CommandTerm
+json_in value = json_with (value (codes "FILE")) (budget_in value)
+
 -- ---- all
 
--- the argument of `run`, `check` and `serve`
+-- the argument of `run`, `check`, `serve` and `json`
 abbrev pub file_argument : List Text
 file_argument = codes "FILE" ∷ []
 
--- the option of `run`
+-- the option of `run` and `json`
 abbrev pub run_options : List Text
 run_options = codes "budget" ∷ []
 
@@ -188,7 +203,8 @@ command_of (name ∷ words) =
     else (if bytes_eq name (codes "soak") then looked_up soak_in (read words soak_arguments [] None)
     else (if bytes_eq name (codes "drill") then looked_up drill_in (read words drill_arguments [] None)
     else (if bytes_eq name (codes "serve") then looked_up serve_in (read words file_argument serve_options None)
-    else None))))
+    else (if bytes_eq name (codes "json") then looked_up json_in (read words file_argument run_options None)
+    else None)))))
 
 -- the numbers of `serve` are within their ranges
 pub record AreServeNumbers (serving : ServeTerm) : Type 0 where
@@ -205,6 +221,7 @@ IsInRange (check file) = Unit {0}
 IsInRange (soak count seed) = (1 ≤ count) × (count ≤ 100000)
 IsInRange (drill seats each) = IsSeat seats × ((1 ≤ each) × (each ≤ 10000))
 IsInRange (serve file serving) = AreServeNumbers serving
+IsInRange (json file budget) = IsBudget budget
 
 -- what is asked for is answered, nothing is asked for and the words are outside, or memory ran out
 abbrev pub IsAsked : Option CommandTerm → Result Command WordStop → Type 0

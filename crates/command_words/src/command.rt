@@ -14,4 +14,6 @@ pub enum Command {
     Drill { seats: u8, each: u32 },
     /// The program in this file is served with these numbers.
     Serve { file: TaskText, serving: ServeWords },
+    /// As `Run`, with the lines of the script and the answers as JSON.
+    Json { file: TaskText, budget: u32 },
 }

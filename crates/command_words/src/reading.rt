@@ -3,7 +3,7 @@ ghost use Rattle.std.specs.List.{All};
 ghost use Rattle.std.specs.Str.{IsUtf8};
 ghost use Rattle.clap.specs.Matches.{first_value, found_of};
 ghost use Rattle.clap.specs.Walk.{texts};
-ghost use Rattle.command_words.specs.Commands.{AreAsked, IsAsked, budget_in, check_in, drill_in, drill_arguments, file_argument, looked_up, run_in, run_options, serve_in, serve_options, serving_in, soak_in, soak_arguments};
+ghost use Rattle.command_words.specs.Commands.{AreAsked, IsAsked, budget_in, check_in, drill_in, drill_arguments, file_argument, json_in, looked_up, run_in, run_options, serve_in, serve_options, serving_in, soak_in, soak_arguments};
 ghost use Rattle.command_words.specs.WordNumbers.{number_at, number_or};
 ghost use Rattle.command_words.specs.WordReading.{read};
 ghost use Rattle.command_words.specs.CommandTables.{IsReadAs};
@@ -24,6 +24,17 @@ pub(crate) fn run(alloc: Global, words: &[&str]) -> Result<Command, WordStop>
 {
     match matches(alloc, &["FILE"], &["budget"], words) {
         Ok(found) => run_found(alloc, &found),
+        Err(stop) => Err(stop),
+    }
+}
+
+/// `json FILE [--budget N]`.
+pub(crate) fn json(alloc: Global, words: &[&str]) -> Result<Command, WordStop>
+    requires { All (λ w. IsUtf8 w.now) words.now }
+    ensures { IsAsked (looked_up json_in (read (texts words.now) file_argument run_options None)) result }
+{
+    match matches(alloc, &["FILE"], &["budget"], words) {
+        Ok(found) => json_found(alloc, &found),
         Err(stop) => Err(stop),
     }
 }
@@ -98,6 +109,14 @@ fn run_found(alloc: Global, found: &ArgMatches<'_>) -> Result<Command, WordStop>
     let file = text_found(alloc, found, "FILE")?;
     let budget = budget_found(found)?;
     Ok(Command::Run { file, budget })
+}
+
+fn json_found(alloc: Global, found: &ArgMatches<'_>) -> Result<Command, WordStop>
+    ensures { IsAsked (json_in (first_value (found_of found.now))) result }
+{
+    let file = text_found(alloc, found, "FILE")?;
+    let budget = budget_found(found)?;
+    Ok(Command::Json { file, budget })
 }
 
 fn check_found(alloc: Global, found: &ArgMatches<'_>) -> Result<Command, WordStop>

@@ -14,3 +14,4 @@ mod EntryLines
 mod SmallTypes
 pub mod SmallTrees
 pub mod ReplayLemmas
+pub mod SameHistories

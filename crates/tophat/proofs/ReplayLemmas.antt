@@ -25,7 +25,9 @@ use Rattle.input_lines.specs.ScriptLines.{IsScriptLine, show, shows, gives}
 use Rattle.input_lines.proofs.SeatLemmas.{SeatShape, one, two, shape_of_seat}
 use Rattle.command_words.specs.Commands.{run}
 use Rattle.tophat.specs.Verdict.{accepted, IsVerdict}
-use Rattle.tophat.specs.Session.{Tells, answer_text}
+use Rattle.tophat.specs.declared.line_form.LineForm.TheVariants.{Script}
+use Rattle.tophat.specs.LineForms.{answer_text}
+use Rattle.tophat.specs.Session.{Tells}
 use Rattle.tophat.specs.Top.{limits, world, world_at, Reports}
 use Rattle.history_lines.specs.EntryLines.{entries_text}
 use Rattle.tophat.specs.Replay.{show_line, replay_script, taken_lines, replayed, AreShort, AskAgain, IsReplayable}
@@ -82,7 +84,7 @@ module _ (longest seat : ℕ) (room : 7 ≤ longest) (is : IsSeat seat) (t : Sta
       → AreShort longest items → LeadTo w.checked w.budget w.state items t → AreWidgets w.checked w.budget t.tree t.store ws
       → version_of w.history ≡ k
       → k + version_of items ≡ n
-      → Tells longest w number (replay_lines items seat) Done (record
+      → Tells Script longest w number (replay_lines items seat) Done (record
       { output = taken_after k items ++ page_text n seat ws; finish = Done })
   tells_items w number [] k h again short lead shown version all =
       let here : k ≡ n = omega (arith, all) in
@@ -109,7 +111,7 @@ module _ (longest seat : ℕ) (room : 7 ≤ longest) (is : IsSeat seat) (t : Sta
       inl (record {
         asked = gives e;
         is = (again.0, short.0);
-        text = answer_text w e (taken lead.0);
+        text = answer_text Script w e (taken lead.0);
         next = next;
         rest = record { output = later ++ page; finish = Done };
         answers = (taken lead.0, lead.1, refl, refl);
@@ -130,7 +132,7 @@ taken_sum k (took e ∷ items) h =
 pub script_taken : (longest limit : ℕ) (w : WorldTerm) (items : List ItemTerm) (seat : ℕ) (t : State) (ws : List WidgetTerm) → 7 ≤ longest
     → IsSeat seat → AreEntries items → AskAgain items → AreShort longest items → LeadTo w.checked w.budget w.state items t
     → AreWidgets w.checked w.budget t.tree t.store ws → version_of w.history ≡ 0 → length (replay_script items seat) ≤ limit
-    → TellsScript (Tells longest w 1) limit (replay_script items seat)
+    → TellsScript (Tells Script longest w 1) limit (replay_script items seat)
     (record { output = taken_lines (version_of items) ++ page_text (version_of items) seat ws; finish = Done })
 unfolding TellsScript
 script_taken longest limit w items seat t ws room is h again short lead shown none le =
@@ -146,11 +148,11 @@ script_taken longest limit w items seat t ws room is h again short lead shown no
     ∙ append-nil lines in
     let sum : 0 + n ≡ n = omega arith in
     let all : taken_after 0 items ≡ taken_lines n = taken_sum 0 items h ∙ ap taken_lines sum in
-    let tells : Tells longest w 1 lines Done told =
-    subst (λ (z : Text). Tells longest w 1 lines Done (record { output = z ++ page; finish = Done })) all
+    let tells : Tells Script longest w 1 lines Done told =
+    subst (λ (z : Text). Tells Script longest w 1 lines Done (record { output = z ++ page; finish = Done })) all
     (tells_items longest seat room is t ws n w 1 items 0 h again short lead shown none sum) in
-    subst (λ (ls : List Text). Tells longest w 1 ls (end_of limit script) told) (sym cut)
-    (subst (λ (f : Finish). Tells longest w 1 lines f told) (sym (end_all limit script le)) tells)
+    subst (λ (ls : List Text). Tells Script longest w 1 ls (end_of limit script) told) (sym cut)
+    (subst (λ (f : Finish). Tells Script longest w 1 lines f told) (sym (end_all limit script le)) tells)
 
 -- ---- reports
 -- the printed program is accepted again
@@ -168,7 +170,7 @@ history_replayed name p budget items seat page h (ws, (t, program, (s, opening, 
     let w : WorldTerm = world_at (typed_program p) budget s in
     let n : ℕ = version_of items in
     let told : Told = record { output = taken_lines n ++ page_text n seat ws; finish = Done } in
-    let tells : TellsScript (Tells limits.line w 1) limits.script (replay_script items seat) told =
+    let tells : TellsScript (Tells Script limits.line w 1) limits.script (replay_script items seat) told =
     script_taken limits.line limits.script w items seat t ws (omega arith) h.seat_is h.legal.1 (legal_again p budget items h.legal) h.lines
     lead
     widgets refl h.script in

@@ -7,13 +7,15 @@ use Rattle.world_core.specs.World.{WorldTerm}
 use Rattle.line_frame.specs.Told.{Told}
 use Rattle.line_frame.specs.Script.{TellsScript}
 use Rattle.line_frame.specs.declared.finish.Finish.{Finish}
-use Rattle.command_words.specs.Commands.{CommandTerm, run, check, soak, drill, serve}
+use Rattle.command_words.specs.Commands.{CommandTerm, run, check, soak, drill, serve, json}
 use Rattle.tophat.specs.declared.ending.CommandEnding.TheVariants.{Usage, Absent, FileTooLong, Unopened}
 use Rattle.tophat.specs.declared.no_world.NoWorld.TheVariants.{Refused, OverBudget}
 use Rattle.tophat.specs.Verdict.{Verdict, accepted, refused}
+use Rattle.tophat.specs.declared.line_form.LineForm.{LineForm}
+use Rattle.tophat.specs.declared.line_form.LineForm.TheVariants.{Script, Json}
 use Rattle.tophat.specs.Session.{Tells}
 use Rattle.tophat.specs.SoakReport.{TallyTerm, no_inputs, summary_text, IsSummary}
-use Rattle.tophat.specs.Top.{Limits, NeedsMore, Report, ends, writes, reported, Opened, world, none, world_at, checks, soak_budget, OpensVerdict, ReportsFile, ReportsOpened, ReportsVerdict, ReportsTold, ReportsSoak, ReportsCommand, Reports, ReportsLines}
+use Rattle.tophat.specs.Top.{Limits, NeedsMore, form_of, Report, ends, writes, reported, Opened, world, none, world_at, checks, soak_budget, OpensVerdict, ReportsFile, ReportsOpened, ReportsVerdict, ReportsTold, ReportsSoak, ReportsCommand, Reports, ReportsLines, runs}
 use Rattle.tophat.proofs.SessionLemmas.{script_exists, script_once, told_exists}
 use Rattle.tophat.proofs.SoakLemmas.{soaks_exist, soaks_once}
 
@@ -109,6 +111,9 @@ command_once l None file verdict TellsAt one r s d e = d ∙ sym e
 command_once l (Some (run name budget)) file verdict TellsAt one r s d e =
     file_once l.file file (ReportsVerdict budget verdict (ReportsTold TellsAt))
     (verdict_once budget verdict (ReportsTold TellsAt) (told_reported_once TellsAt one)) r s d e
+command_once l (Some (json name budget)) file verdict TellsAt one r s d e =
+    file_once l.file file (ReportsVerdict budget verdict (ReportsTold TellsAt))
+    (verdict_once budget verdict (ReportsTold TellsAt) (told_reported_once TellsAt one)) r s d e
 command_once l (Some (check name)) file verdict TellsAt one r s d e =
     file_once l.file file (λ z. z ≡ checks verdict) (λ a b p q. p ∙ sym q) r s d e
 command_once l (Some (soak count seed)) file verdict TellsAt one r s d e = soak_verdict_once count seed verdict r s d e
@@ -122,6 +127,9 @@ command_reported l None file verdict TellsAt plain some = (ends Usage, refl)
 command_reported l (Some (run name budget)) file verdict TellsAt plain some =
     file_exists l.file file (ReportsVerdict budget verdict (ReportsTold TellsAt))
     (verdict_exists budget verdict (ReportsTold TellsAt) (told_reported TellsAt some))
+command_reported l (Some (json name budget)) file verdict TellsAt plain some =
+    file_exists l.file file (ReportsVerdict budget verdict (ReportsTold TellsAt))
+    (verdict_exists budget verdict (ReportsTold TellsAt) (told_reported TellsAt some))
 command_reported l (Some (check name)) file verdict TellsAt plain some = file_exists l.file file (λ z. z ≡ checks verdict) (checks verdict, refl)
 command_reported l (Some (soak count seed)) file verdict TellsAt plain some =
     verdict_exists soak_budget verdict (ReportsSoak count seed) (soak_exists count seed)
@@ -131,20 +139,21 @@ command_reported l (Some (serve name serving)) file verdict TellsAt plain some =
 pub report_once : (l : Limits) (command : Option CommandTerm) (file : Option Text) (verdict : Verdict) (script : Text) (r s : Report)
     → Reports l command file verdict script r → Reports l command file verdict script s → r ≡ s
 report_once l command file verdict script r s d e =
-    command_once l command file verdict (λ w told. TellsScript (Tells l.line w 1) l.script script told)
-    (λ w t u p q. script_once l.line l.script w script t u p q) r s d e
+    command_once l command file verdict (λ w told. TellsScript (Tells (form_of command) l.line w 1) l.script script told)
+    (λ w t u p q. script_once (form_of command) l.line l.script w script t u p q) r s d e
 
 pub report_exists : (l : Limits) (command : Option CommandTerm) (file : Option Text) (verdict : Verdict) (script : Text)
     → (NeedsMore command → ⊥) → (r : Report) × Reports l command file verdict script r
 report_exists l command file verdict script plain =
-    command_reported l command file verdict (λ w told. TellsScript (Tells l.line w 1) l.script script told) plain
-    (λ w. script_exists l.line l.script w script)
+    command_reported l command file verdict (λ w told. TellsScript (Tells (form_of command) l.line w 1) l.script script told) plain
+    (λ w. script_exists (form_of command) l.line l.script w script)
 
 -- of a command that needs more nothing is reported
 pub nothing_reported : (l : Limits) (command : Option CommandTerm) (file : Option Text) (verdict : Verdict) (script : Text)
     (report : Report) → NeedsMore command → Reports l command file verdict script report → ⊥
 nothing_reported l None file verdict script report more d = more
 nothing_reported l (Some (run name budget)) file verdict script report more d = more
+nothing_reported l (Some (json name budget)) file verdict script report more d = more
 nothing_reported l (Some (check name)) file verdict script report more d = more
 nothing_reported l (Some (soak count seed)) file verdict script report more d = more
 nothing_reported l (Some (drill seats each)) file verdict script report more d = d
@@ -155,4 +164,17 @@ pub lines_reported : (l : Limits) (command : Option CommandTerm) (file : Option 
     (finish : Finish)
     → (NeedsMore command → ⊥) → (r : Report) × ReportsLines l command file verdict lines finish r
 lines_reported l command file verdict lines finish plain =
-    command_reported l command file verdict (λ w told. Tells l.line w 1 lines finish told) plain (λ w. told_exists l.line w 1 lines finish)
+    command_reported l command file verdict (λ w told. Tells (form_of command) l.line w 1 lines finish told) plain (λ w. told_exists (form_of command) l.line w 1 lines finish)
+
+-- what is reported of a command that runs lines of a form
+pub lines_reported_of : (form : LineForm) (l : Limits) (name : Text) (budget : ℕ) (file : Option Text) (verdict : Verdict) (script : Text)
+    (report : Report) → Reports l (Some (runs form name budget)) file verdict script report
+    → ReportsFile l.file file (ReportsVerdict budget verdict (ReportsTold (λ w told. TellsScript (Tells form l.line w 1) l.script script told))) report
+lines_reported_of Script l name budget file verdict script report d = d
+lines_reported_of Json l name budget file verdict script report d = d
+
+pub lines_read_of : (form : LineForm) (l : Limits) (name : Text) (budget : ℕ) (file : Option Text) (verdict : Verdict) (lines : List Text)
+    (finish : Finish) (report : Report) → ReportsLines l (Some (runs form name budget)) file verdict lines finish report
+    → ReportsFile l.file file (ReportsVerdict budget verdict (ReportsTold (λ w told. Tells form l.line w 1 lines finish told))) report
+lines_read_of Script l name budget file verdict lines finish report d = d
+lines_read_of Json l name budget file verdict lines finish report d = d

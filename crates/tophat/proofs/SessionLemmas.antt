@@ -1,19 +1,17 @@
 -- What is told of lines, by what the world's calls answer.
-use Rattle.std.proofs.Common.{◌≡◌, ℕ, ◌+◌, ◌≤◌, List, [], ◌∷◌, ◌++◌, length, take, Ok, Err, refl, sym, ap, ◌∙◌, subst, ◌⊎◌, inl, inr, arith, length-take}
-use Rattle.std.specs.Prelude.{codes, decimal}
+use Rattle.std.proofs.Common.{◌≡◌, ℕ, ◌+◌, ◌≤◌, List, [], ◌∷◌, length, take, Ok, Err, refl, sym, ap, ◌∙◌, subst, ◌⊎◌, inl, inr, arith, length-take}
 use Rattle.std.proofs.lemmas.List.{take_all}
 use Rattle.task_model.specs.Terms.Text.{Text}
 use Rattle.task_model.specs.Terms.Input.{EntryTerm}
 use Rattle.task_model.specs.Running.Outcome.{taken, not_offered, over_budget}
 use Rattle.task_model.specs.Showing.Page.{page_text}
-use Rattle.task_model.specs.declared.widget.Face.TheVariants as faces
+use Rattle.task_model.specs.Showing.Widget.{WidgetTerm}
 use Rattle.task_model.specs.Running.State.{version_of}
 use Rattle.task_laws.proofs.OutcomeLemmas.{outcome_exists, outcome_once}
 use Rattle.task_laws.proofs.OfferLemmas.{widgets_exist, widgets_once}
 use Rattle.task_model.specs.declared.stops.ActStop.TheVariants.{NotOffered, Over}
 use Rattle.world_core.specs.declared.answers.Taken.{Taken}
 use Rattle.world_core.specs.World.{WorldTerm, Replies}
-use Rattle.world_core.specs.Pages.{IsWorldPage}
 use Rattle.line_frame.specs.Told.{Told, told_after, TellsFirst, TellsBad}
 use Rattle.line_frame.specs.BadLine.{IfBad}
 use Rattle.line_frame.specs.declared.machine.LineStop.{LineStop}
@@ -22,93 +20,112 @@ use Rattle.line_frame.specs.Script.{TellsScript, lines_in, end_of}
 use Rattle.line_frame.specs.declared.finish.Finish.{Finish}
 use Rattle.line_frame.specs.declared.finish.Finish.TheVariants as finishes
 use Rattle.input_lines.specs.ScriptLines.{LineTerm, nothing, shows, gives}
-use Rattle.input_lines.specs.LinePlaces.{IsLineWithin, IsBadLine, IsBadColumn}
-use Rattle.tophat.proofs.LineLemmas.{line_once, bad_once, line_apart, cut_bad, line_decided}
-use Rattle.tophat.specs.Session.{Answers, Tells, answer_text, world_after}
+use Rattle.json_face.specs.JsonPages.{page_data}
+use Rattle.tophat.specs.declared.line_form.LineForm.{LineForm}
+use Rattle.tophat.specs.declared.line_form.LineForm.TheVariants.{Script, Json}
+use Rattle.tophat.specs.LineForms.{IsAsking, IsOutside, IsOutsideColumn, IsShown, answer_text, json_line, taken_text, not_offered_text, over_budget_text}
+use Rattle.tophat.proofs.LineLemmas.{asked_once, outside_once, form_apart, cut_outside, form_decided, asking_within}
+use Rattle.tophat.specs.Session.{Answers, Tells, world_after}
 
 -- ---- what the world replied is the answer
-pub taken_answers : (w : WorldTerm) (e : EntryTerm) (new : WorldTerm) (done : Taken) → Replies w e new (Ok done)
-    → Answers w (gives e) (codes "taken " ++ decimal done.version ++ codes "\n") new
-taken_answers w e new done r = (
+pub taken_answers : (form : LineForm) (w : WorldTerm) (e : EntryTerm) (new : WorldTerm) (done : Taken) (text : Text) → Replies w e new (Ok done)
+    → text ≡ taken_text form done.version → Answers form w (gives e) text new
+taken_answers form w e new done text r is = (
   taken r.0,
   r.1,
-  ap (λ v. codes "taken " ++ decimal v ++ codes "\n")
-      (r.3 ∙ ap (λ z. version_of z.history) r.2),
+  is ∙ ap (taken_text form) (r.3 ∙ ap (λ (z : WorldTerm). version_of z.history) r.2),
   r.2,
 )
 
-pub refused_answers : (w : WorldTerm) (e : EntryTerm) (new : WorldTerm) → Replies w e new (Err NotOffered)
-    → Answers w (gives e) (codes "not offered\n") new
-refused_answers w e new r = (not_offered, r.0, refl, r.1)
+-- the version at a refusal is the one before
+version_kept : (w new : WorldTerm) (version : ℕ) → version ≡ version_of new.history → new ≡ w → version ≡ version_of w.history
+version_kept w new version is same = is ∙ ap (λ (z : WorldTerm). version_of z.history) same
 
-pub over_answers : (w : WorldTerm) (e : EntryTerm) (new : WorldTerm) → Replies w e new (Err Over)
-    → Answers w (gives e) (codes "over budget\n") new
-over_answers w e new r = (over_budget, r.0, refl, r.1)
+pub refused_answers : (form : LineForm) (w : WorldTerm) (e : EntryTerm) (new : WorldTerm) (version : ℕ) (text : Text)
+    → Replies w e new (Err NotOffered) → version ≡ version_of new.history → text ≡ not_offered_text form version
+    → Answers form w (gives e) text new
+refused_answers form w e new version text r v is =
+    (not_offered, r.0, is ∙ ap (not_offered_text form) (version_kept w new version v r.1), r.1)
+
+pub over_answers : (form : LineForm) (w : WorldTerm) (e : EntryTerm) (new : WorldTerm) (version : ℕ) (text : Text)
+    → Replies w e new (Err Over) → version ≡ version_of new.history → text ≡ over_budget_text form version
+    → Answers form w (gives e) text new
+over_answers form w e new version text r v is =
+    (over_budget, r.0, is ∙ ap (over_budget_text form) (version_kept w new version v r.1), r.1)
 
 -- ---- a line is answered in exactly one way
-page_once : (w : WorldTerm) (seat : ℕ) (a b : Text) → IsWorldPage faces.Text w seat a → IsWorldPage faces.Text w seat b → a ≡ b
-page_once w seat a b p q =
+page_once : (form : LineForm) (w : WorldTerm) (seat : ℕ) (a b : Text) → IsShown form w seat a → IsShown form w seat b → a ≡ b
+page_once Json w seat a b p q =
+    p.2 ∙ ap (λ (ws : List WidgetTerm). json_line (page_data (version_of w.history) seat ws))
+    (widgets_once w.checked w.budget w.state.tree w.state.store p.0 q.0 p.1 q.1) ∙ sym q.2
+page_once Script w seat a b p q =
     p.2 ∙ ap (page_text (version_of w.history) seat) (widgets_once w.checked w.budget w.state.tree w.state.store p.0 q.0 p.1 q.1) ∙ sym q.2
 
-answers_once : (w : WorldTerm) (line : LineTerm) (a b : Text) (v u : WorldTerm) → Answers w line a v → Answers w line b u
+answers_once : (form : LineForm) (w : WorldTerm) (line : LineTerm) (a b : Text) (v u : WorldTerm) → Answers form w line a v → Answers form w line b u
     → (a ≡ b) × (v ≡ u)
-answers_once w nothing a b v u p q = (p.0 ∙ sym q.0, p.1 ∙ sym q.1)
-answers_once w (shows seat) a b v u p q = (page_once w seat a b p.0 q.0, p.1 ∙ sym q.1)
-answers_once w (gives e) a b v u p q =
+answers_once form w nothing a b v u p q = (p.0 ∙ sym q.0, p.1 ∙ sym q.1)
+answers_once form w (shows seat) a b v u p q = (page_once form w seat a b p.0 q.0, p.1 ∙ sym q.1)
+answers_once form w (gives e) a b v u p q =
     let same = outcome_once w.checked w.budget w.state e.input p.0 q.0 p.1 q.1 in
-    (p.2 ∙ ap (answer_text w e) same ∙ sym q.2, p.3 ∙ ap (world_after w e) same ∙ sym q.3)
+    (p.2 ∙ ap (answer_text form w e) same ∙ sym q.2, p.3 ∙ ap (world_after w e) same ∙ sym q.3)
 
-answers_exist : (w : WorldTerm) (line : LineTerm) → (text : Text) × (next : WorldTerm) × Answers w line text next
-answers_exist w nothing = ([], w, (refl, refl))
-answers_exist w (shows seat) =
+pub page_exists : (form : LineForm) (w : WorldTerm) (seat : ℕ) → (text : Text) × IsShown form w seat text
+page_exists Script w seat =
     let ws = widgets_exist w.checked w.budget w.state.tree w.state.store in
-    (page_text (version_of w.history) seat ws.0, w, ((ws.0, ws.1, refl), refl))
-answers_exist w (gives e) =
+    (page_text (version_of w.history) seat ws.0, (ws.0, ws.1, refl))
+page_exists Json w seat =
+    let ws = widgets_exist w.checked w.budget w.state.tree w.state.store in
+    (json_line (page_data (version_of w.history) seat ws.0), (ws.0, ws.1, refl))
+
+pub answers_exist : (form : LineForm) (w : WorldTerm) (line : LineTerm) → (text : Text) × (next : WorldTerm) × Answers form w line text next
+answers_exist form w nothing = ([], w, (refl, refl))
+answers_exist form w (shows seat) = let page = page_exists form w seat in (page.0, w, (page.1, refl))
+answers_exist form w (gives e) =
     let o = outcome_exists w.checked w.budget w.state e.input in
-    (answer_text w e o.0, world_after w e o.0, (o.0, o.1, refl, refl))
+    (answer_text form w e o.0, world_after w e o.0, (o.0, o.1, refl, refl))
 
 -- ---- of lines exactly one thing is told
-pub told_exists : (longest : ℕ) (w : WorldTerm) (number : ℕ) (lines : List Text) (finish : Finish)
-    → (told : Told) × Tells longest w number lines finish told
-told_exists longest w number [] finish = (record { output = []; finish = finish }, refl)
-told_exists longest w number (line ∷ lines) finish = by (λ next. told_exists longest next (number + 1) lines finish)
-    (line_decided longest line)
+pub told_exists : (form : LineForm) (longest : ℕ) (w : WorldTerm) (number : ℕ) (lines : List Text) (finish : Finish)
+    → (told : Told) × Tells form longest w number lines finish told
+told_exists form longest w number [] finish = (record { output = []; finish = finish }, refl)
+told_exists form longest w number (line ∷ lines) finish = by (λ next. told_exists form longest next (number + 1) lines finish)
+    (form_decided form longest line)
   where
-    by : ((next : WorldTerm) → (rest : Told) × Tells longest next (number + 1) lines finish rest)
-        → ((m : LineTerm) × IsLineWithin longest line m) ⊎ ((p : ℕ) × IsBadLine longest line p)
-        → (told : Told) × Tells longest w number (line ∷ lines) finish told
+    by : ((next : WorldTerm) → (rest : Told) × Tells form longest next (number + 1) lines finish rest)
+        → ((m : LineTerm) × IsAsking form longest line m) ⊎ ((p : ℕ) × IsOutside form longest line p)
+        → (told : Told) × Tells form longest w number (line ∷ lines) finish told
     by tells (inl (m, is)) =
-        let a = answers_exist w m in
+        let a = answers_exist form w m in
         let more = tells a.1 in (
           told_after a.0 more.0,
           inl (record { asked = m; is = is; text = a.0; next = a.1; rest = more.0; answers = a.2; tells = more.1; all = refl }),
         )
     by tells (inr (p, bad)) = (_, inr (record { place = p; bad = bad; all = refl }))
 
-pub told_once : (longest : ℕ) (w : WorldTerm) (number : ℕ) (lines : List Text) (finish : Finish) (t u : Told)
-    → Tells longest w number lines finish t → Tells longest w number lines finish u → t ≡ u
-told_once longest w number [] finish t u p q = p ∙ sym q
-told_once longest w number (line ∷ lines) finish t u (inl p) (inl q) =
-    let asked : p.asked ≡ q.asked = line_once line p.asked q.asked p.is.0 q.is.0 in
-    let a = subst (λ (m : LineTerm). Answers w m p.text p.next) asked p.answers in
-    let once = answers_once w q.asked p.text q.text p.next q.next a q.answers in
-    let moved = subst (λ (z : WorldTerm). Tells longest z (number + 1) lines finish p.rest) once.1 p.tells in
-    let same = told_once longest q.next (number + 1) lines finish p.rest q.rest moved q.tells in
+pub told_once : (form : LineForm) (longest : ℕ) (w : WorldTerm) (number : ℕ) (lines : List Text) (finish : Finish) (t u : Told)
+    → Tells form longest w number lines finish t → Tells form longest w number lines finish u → t ≡ u
+told_once form longest w number [] finish t u p q = p ∙ sym q
+told_once form longest w number (line ∷ lines) finish t u (inl p) (inl q) =
+    let asked : p.asked ≡ q.asked = asked_once form longest line p.asked q.asked p.is q.is in
+    let a = subst (λ (m : LineTerm). Answers form w m p.text p.next) asked p.answers in
+    let once = answers_once form w q.asked p.text q.text p.next q.next a q.answers in
+    let moved = subst (λ (z : WorldTerm). Tells form longest z (number + 1) lines finish p.rest) once.1 p.tells in
+    let same = told_once form longest q.next (number + 1) lines finish p.rest q.rest moved q.tells in
     p.all ∙ ap (λ z. told_after z p.rest) once.0 ∙ ap (told_after q.text) same ∙ sym q.all
-told_once longest w number (line ∷ lines) finish t u (inl p) (inr q) = absurd (line_apart longest line p.asked q.place p.is q.bad)
-told_once longest w number (line ∷ lines) finish t u (inr p) (inl q) = absurd (line_apart longest line q.asked p.place q.is p.bad)
-told_once longest w number (line ∷ lines) finish t u (inr p) (inr q) =
-    p.all ∙ ap (λ (n : ℕ). record { output = []; finish = finishes.Bad number (n + 1) }) (bad_once longest line p.place q.place p.bad q.bad)
+told_once form longest w number (line ∷ lines) finish t u (inl p) (inr q) = absurd (form_apart form longest line p.asked q.place p.is q.bad)
+told_once form longest w number (line ∷ lines) finish t u (inr p) (inl q) = absurd (form_apart form longest line q.asked p.place q.is p.bad)
+told_once form longest w number (line ∷ lines) finish t u (inr p) (inr q) =
+    p.all ∙ ap (λ (n : ℕ). record { output = []; finish = finishes.Bad number (n + 1) }) (outside_once form longest line p.place q.place p.bad q.bad)
     ∙ sym q.all
 
-pub script_exists : (longest limit : ℕ) (w : WorldTerm) (script : Text) → (told : Told) × TellsScript (Tells longest w 1) limit script told
+pub script_exists : (form : LineForm) (longest limit : ℕ) (w : WorldTerm) (script : Text) → (told : Told) × TellsScript (Tells form longest w 1) limit script told
 unfolding TellsScript
-script_exists longest limit w script = told_exists longest w 1 (lines_in limit script) (end_of limit script)
+script_exists form longest limit w script = told_exists form longest w 1 (lines_in limit script) (end_of limit script)
 
-pub script_once : (longest limit : ℕ) (w : WorldTerm) (script : Text) (t u : Told)
-    → TellsScript (Tells longest w 1) limit script t → TellsScript (Tells longest w 1) limit script u → t ≡ u
+pub script_once : (form : LineForm) (longest limit : ℕ) (w : WorldTerm) (script : Text) (t u : Told)
+    → TellsScript (Tells form longest w 1) limit script t → TellsScript (Tells form longest w 1) limit script u → t ≡ u
 unfolding TellsScript
-script_once longest limit w script t u p q = told_once longest w 1 (lines_in limit script) (end_of limit script) t u p q
+script_once form longest limit w script t u p q = told_once form longest w 1 (lines_in limit script) (end_of limit script) t u p q
 
 -- ---- a line of which these are the first bytes
 -- one that has no more than the longest line
@@ -118,41 +135,41 @@ whole_line longest line whole cut le =
     let short : length whole ≤ longest + 1 = omega (arith, cut_length, length-take (longest + 1) whole) in
     cut ∙ take_all (longest + 1) whole short
 
-pub answered_first : (longest : ℕ) (old new : WorldTerm) (line whole text : Text) (asked : LineTerm) → IsLineWithin longest line asked
-    → line ≡ take (longest + 1) whole → Answers old asked text new → TellsFirst (Tells longest old) (Tells longest new) whole text
-answered_first longest old new line whole text asked is cut a = λ number lines finish told t. by number lines finish told t
+pub answered_first : (form : LineForm) (longest : ℕ) (old new : WorldTerm) (line whole text : Text) (asked : LineTerm) → IsAsking form longest line asked
+    → line ≡ take (longest + 1) whole → Answers form old asked text new → TellsFirst (Tells form longest old) (Tells form longest new) whole text
+answered_first form longest old new line whole text asked is cut a = λ number lines finish told t. by number lines finish told t
   where
     same : line ≡ whole
-    same = whole_line longest line whole cut is.1
+    same = whole_line longest line whole cut (asking_within form longest line asked is)
 
-    by : (number : ℕ) (lines : List Text) (finish : Finish) (told : Told) → Tells longest old number (whole ∷ lines) finish told
-        → (rest : Told) × Tells longest new (number + 1) lines finish rest × (told ≡ told_after text rest)
+    by : (number : ℕ) (lines : List Text) (finish : Finish) (told : Told) → Tells form longest old number (whole ∷ lines) finish told
+        → (rest : Told) × Tells form longest new (number + 1) lines finish rest × (told ≡ told_after text rest)
     by number lines finish told (inl t) =
-        let known = subst (λ (z : Text). IsLineWithin longest z asked) same is in
-        let one : t.asked ≡ asked = line_once whole t.asked asked t.is.0 known.0 in
-        let b = subst (λ (m : LineTerm). Answers old m t.text t.next) one t.answers in
-        let once = answers_once old asked t.text text t.next new b a in (
+        let known = subst (λ (z : Text). IsAsking form longest z asked) same is in
+        let one : t.asked ≡ asked = asked_once form longest whole t.asked asked t.is known in
+        let b = subst (λ (m : LineTerm). Answers form old m t.text t.next) one t.answers in
+        let once = answers_once form old asked t.text text t.next new b a in (
           t.rest,
-          subst (λ (z : WorldTerm). Tells longest z (number + 1) lines finish t.rest) once.1 t.tells,
+          subst (λ (z : WorldTerm). Tells form longest z (number + 1) lines finish t.rest) once.1 t.tells,
           t.all ∙ ap (λ z. told_after z t.rest) once.0,
         )
     by number lines finish told (inr t) =
-        let known = subst (λ (z : Text). IsLineWithin longest z asked) same is in
-        absurd (line_apart longest whole asked t.place known t.bad)
+        let known = subst (λ (z : Text). IsAsking form longest z asked) same is in
+        absurd (form_apart form longest whole asked t.place known t.bad)
 
--- a line outside the grammar, or want of memory
-pub outside_stop : (longest : ℕ) (w : WorldTerm) (line : Text) (stop : LineStop) → IsBadColumn longest line stop
-    → IfBad (Err stop) (λ column. (whole : Text) → line ≡ take (longest + 1) whole → TellsBad (Tells longest w) whole column)
-outside_stop longest w line (Bad column) (place, bad, is) = λ whole cut number lines finish told t. by whole cut number lines finish told t
+-- a line outside the form, or want of memory
+pub outside_stop : (form : LineForm) (longest : ℕ) (w : WorldTerm) (line : Text) (stop : LineStop) → IsOutsideColumn form longest line stop
+    → IfBad (Err stop) (λ column. (whole : Text) → line ≡ take (longest + 1) whole → TellsBad (Tells form longest w) whole column)
+outside_stop form longest w line (Bad column) (place, bad, is) = λ whole cut number lines finish told t. by whole cut number lines finish told t
   where
     by : (whole : Text) → line ≡ take (longest + 1) whole → (number : ℕ) (lines : List Text) (finish : Finish) (told : Told)
-        → Tells longest w number (whole ∷ lines) finish told → told ≡ record { output = []; finish = finishes.Bad number column }
+        → Tells form longest w number (whole ∷ lines) finish told → told ≡ record { output = []; finish = finishes.Bad number column }
     by whole cut number lines finish told (inl t) =
-        let known = cut_bad longest whole place (subst (λ (z : Text). IsBadLine longest z place) cut bad) in
-        absurd (line_apart longest whole t.asked place t.is known)
+        let known = cut_outside form longest whole place (subst (λ (z : Text). IsOutside form longest z place) cut bad) in
+        absurd (form_apart form longest whole t.asked place t.is known)
     by whole cut number lines finish told (inr t) =
-        let known = cut_bad longest whole place (subst (λ (z : Text). IsBadLine longest z place) cut bad) in
+        let known = cut_outside form longest whole place (subst (λ (z : Text). IsOutside form longest z place) cut bad) in
         t.all ∙ ap (λ (n : ℕ). record { output = []; finish = finishes.Bad number (n + 1) })
-        (bad_once longest whole t.place place t.bad known)
+        (outside_once form longest whole t.place place t.bad known)
         ∙ ap (λ (n : ℕ). record { output = []; finish = finishes.Bad number n }) (sym is)
-outside_stop longest w line Memory h = tt
+outside_stop form longest w line Memory h = tt

@@ -5,13 +5,14 @@ use Rattle.world_core.specs.World.{WorldTerm}
 use Rattle.line_frame.specs.Told.{Told}
 use Rattle.line_frame.specs.Script.{TellsScript}
 use Rattle.line_frame.specs.declared.finish.Finish.TheVariants as finishes
-use Rattle.command_words.specs.Commands.{CommandTerm, run, check, soak, drill, serve}
+use Rattle.command_words.specs.Commands.{CommandTerm, run, check, soak, drill, serve, json}
 use Rattle.tophat.specs.declared.ending.CommandEnding.{CommandEnding}
 use Rattle.tophat.specs.declared.ending.CommandEnding.TheVariants.{Usage, Absent, FileTooLong, Unopened, Ran, Wrote, WriteFault, GateFault}
 use Rattle.tophat.specs.declared.no_world.NoWorld.TheVariants.{Refused, OverBudget, Memory}
 use Rattle.tophat.specs.declared.refusal.Refusal.{Refusal}
 use Rattle.tophat.specs.Ending.{status_of}
 use Rattle.tophat.specs.Verdict.{Verdict, accepted, refused, IsVerdictOf}
+use Rattle.tophat.specs.declared.line_form.LineForm.TheVariants.{Script, Json}
 use Rattle.tophat.specs.Session.{Tells}
 use Rattle.tophat.specs.Top.{Limits, Report, ends, writes, reported, source_of, Opened, world, none, checks, ReportsFile, ReportsOpened, ReportsVerdict, ReportsTold, ReportsSoak, Reports}
 use Rattle.tophat.specs.Worked.{IfSilent}
@@ -121,15 +122,19 @@ at_opened : (ReportsAt : WorldTerm → Report → Type 0) (report : Report) → 
 at_opened ReportsAt report says (world w) r = says w r
 at_opened ReportsAt report says (none ending) r = at_end report ending r
 
+silent_lines : (l : Limits) (file : Option Text) (verdict : Verdict) (budget : ℕ) (TellsAt : WorldTerm → Told → Type 0) (report : Report)
+    → ReportsFile l.file file (ReportsVerdict budget verdict (ReportsTold TellsAt)) report → IsSilent report
+silent_lines l file verdict budget TellsAt report e =
+    at_file l.file file (ReportsVerdict budget verdict (ReportsTold TellsAt)) report
+    (λ d. at_opened (ReportsTold TellsAt) report (λ w t. at_told report t.0 t.2) d.0 d.2) e
+
 pub silent_ends : (l : Limits) (command : Option CommandTerm) (file : Option Text) (verdict : Verdict) (script : Text) (report : Report)
     → Reports l command file verdict script report → IsSilent report
 silent_ends l None file verdict script report e = at_end report Usage e
 silent_ends l (Some (run name budget)) file verdict script report e =
-    at_file l.file file (ReportsVerdict budget verdict (ReportsTold TellsAt)) report
-    (λ d. at_opened (ReportsTold TellsAt) report (λ w t. at_told report t.0 t.2) d.0 d.2) e
-  where
-    TellsAt : WorldTerm → Told → Type 0
-    TellsAt w told = TellsScript (Tells l.line w 1) l.script script told
+    silent_lines l file verdict budget (λ w told. TellsScript (Tells Script l.line w 1) l.script script told) report e
+silent_ends l (Some (json name budget)) file verdict script report e =
+    silent_lines l file verdict budget (λ w told. TellsScript (Tells Json l.line w 1) l.script script told) report e
 silent_ends l (Some (check name)) file verdict script report e =
     at_file l.file file (λ r. r ≡ checks verdict) report (at_checks verdict report) e
 silent_ends l (Some (soak count seed)) file verdict script report e =

@@ -1,5 +1,5 @@
 -- What a command did, from what its calls did.
-use Rattle.std.proofs.Common.{◌≡◌, ℕ, ◌+◌, ◌<◌, ◌≤◌, [], length, replicate, Option, None, Some, refl, sym, ◌∙◌, ap, subst, inl, inr, ◌⊎◌, arith, append-nil}
+use Rattle.std.proofs.Common.{◌≡◌, ℕ, ◌+◌, ◌<◌, ◌≤◌, List, [], length, replicate, Option, None, Some, refl, sym, ◌∙◌, ap, subst, inl, inr, ◌⊎◌, arith, append-nil}
 use Rattle.std.proofs.lemmas.List.{length-replicate}
 use Rattle.std.proofs.KnownBytes.{Appends-nil, Consumes-nil}
 use Rattle.std.specs.Io.KnownBytes.{Appends}
@@ -18,7 +18,7 @@ use Rattle.task_syntax.specs.declared.stop.ReadKind.TheVariants as reads
 use Rattle.world_core.specs.World.{WorldTerm, SeenWorld, world_term}
 use Rattle.line_frame.specs.Told.{Told, Comes}
 use Rattle.line_frame.specs.RanScript.{RanScript, IsTold}
-use Rattle.line_frame.specs.Script.{TellsScript}
+use Rattle.line_frame.specs.Script.{TellsScript, cut_of}
 use Rattle.line_frame.specs.declared.finish.Finish.{Finish}
 use Rattle.line_frame.specs.declared.finish.Finish.TheVariants as finishes
 use Rattle.tophat.specs.declared.ending.CommandEnding.{CommandEnding}
@@ -26,7 +26,7 @@ use Rattle.tophat.specs.declared.ending.CommandEnding.TheVariants.{Usage, Absent
 use Rattle.tophat.specs.declared.no_world.NoWorld.{NoWorld}
 use Rattle.tophat.specs.declared.no_world.NoWorld.TheVariants.{Refused, OverBudget, Memory}
 use Rattle.tophat.specs.declared.refusal.Refusal.TheVariants.{Read}
-use Rattle.command_words.specs.Commands.{CommandTerm, run, check, soak, IsAsked}
+use Rattle.command_words.specs.Commands.{CommandTerm, check, soak, IsAsked}
 use Rattle.command_words.specs.declared.stop.WordStop.{WordStop}
 use Rattle.command_words.specs.declared.stop.WordStop.TheVariants as words
 use Rattle.input_lines.specs.Soak.{soak_text}
@@ -34,14 +34,16 @@ use Rattle.tophat.specs.Ending.{status_of}
 use Rattle.task_model.specs.Running.Checked.{CheckedTerm}
 use Rattle.task_model.specs.Syntax.Printed.{program_text}
 use Rattle.tophat.specs.Verdict.{Verdict, accepted, refused, IsVerdict, IsOnlyVerdict, Judges, IsVerdictOf, HasVerdict}
+use Rattle.tophat.specs.declared.line_form.LineForm.{LineForm}
+use Rattle.tophat.specs.declared.line_form.LineForm.TheVariants.{Script, Json}
 use Rattle.tophat.specs.Session.{Tells}
-use Rattle.tophat.specs.Top.{Limits, limits, Report, ends, writes, reported, source_of, soak_budget, Opened, world, none, checks, ReportsFile, ReportsOpened, ReportsVerdict, ReportsTold, Reports}
+use Rattle.tophat.specs.Top.{Limits, limits, Report, ends, writes, reported, source_of, soak_budget, Opened, world, none, checks, ReportsFile, ReportsOpened, ReportsVerdict, ReportsTold, Reports, ReportsLines, runs}
 use Rattle.tophat.specs.Sources.{FindsFile, WritesText, TellsText, ReportsCheck, ReportsInputs}
 use Rattle.tophat.specs.Objects.{Counted, Around}
 use Rattle.tophat.specs.Ended.{Heard, NoneFailed, FailedBy, HasRisen, file_faults_after, input_faults_after, output_faults_after}
 use Rattle.tophat.specs.Worked.{IsFile, IfRan, Writes, HasVerdictAt, HasVerdictAfter, Worked, Opens, OpensBytes, word_ending}
 use Rattle.tophat.specs.SoakReport.{IsSummary}
-use Rattle.tophat.proofs.ReportLemmas.{opens_once, soak_verdict_once}
+use Rattle.tophat.proofs.ReportLemmas.{opens_once, soak_verdict_once, lines_reported_of, lines_read_of}
 
 -- ---- what was written of a report
 pub writes_nothing : (report : Report) (ending : CommandEnding) → report ≡ ends ending → Writes report [] ending
@@ -158,11 +160,16 @@ pub record AsksFile (l : Limits) (command : Option CommandTerm) : Type 1 where
   pub reports : (file : Option Text) (verdict : Verdict) (script : Text) (report : Report) → Reports l command file verdict script report
       → ReportsFile l.file file (Says verdict script) report
 
-pub run_asks : (l : Limits) (name : Text) (budget : ℕ) → AsksFile l (Some (run name budget))
-run_asks l name budget = record {
-  Says = λ verdict script. ReportsVerdict budget verdict (ReportsTold (λ w told. TellsScript (Tells l.line w 1) l.script script told));
-  source = λ file. refl;
-  reports = λ file verdict script report d. d;
+-- a command that runs lines has the file's program
+pub runs_source : (form : LineForm) (name : Text) (budget : ℕ) (file : Option Text) → source_of (Some (runs form name budget)) file ≡ file
+runs_source Script name budget file = refl
+runs_source Json name budget file = refl
+
+pub run_asks : (form : LineForm) (l : Limits) (name : Text) (budget : ℕ) → AsksFile l (Some (runs form name budget))
+run_asks form l name budget = record {
+  Says = λ verdict script. ReportsVerdict budget verdict (ReportsTold (λ w told. TellsScript (Tells form l.line w 1) l.script script told));
+  source = runs_source form name budget;
+  reports = λ file verdict script report d. lines_reported_of form l name budget file verdict script report d;
 }
 
 pub check_asks : (l : Limits) (name : Text) → AsksFile l (Some (check name))
@@ -258,10 +265,10 @@ module _ (l : Limits) (command : Option CommandTerm) (holds : Option (Option Tex
       (says verdict (subst (λ o. IsVerdictOf o verdict) source v) script report d))
 
 -- ---- a script that was run
-abbrev TellsWhole : Limits → Text → WorldTerm → Told → Type 0
-TellsWhole l script w told = TellsScript (Tells l.line w 1) l.script script told
+abbrev TellsWhole : LineForm → Limits → Text → WorldTerm → Told → Type 0
+TellsWhole form l script w told = TellsScript (Tells form l.line w 1) l.script script told
 
-module _ (l : Limits) (name : Text) (budget : ℕ) (holds : Option (Option Text)) (bytes : Rowed ℕ) (is : IsFile holds (Some bytes.list))
+module _ (form : LineForm) (l : Limits) (name : Text) (budget : ℕ) (holds : Option (Option Text)) (bytes : Rowed ℕ) (is : IsFile holds (Some bytes.list))
     (within : length bytes.list ≤ l.file) where
   -- at the world of the bytes
   at_world : (w : SeenWorld) (TellsAt : WorldTerm → Told → Type 0) (verdict : Verdict) (report : Report) → Opens budget verdict (Ok w)
@@ -272,32 +279,50 @@ module _ (l : Limits) (name : Text) (budget : ℕ) (holds : Option (Option Text)
       let same = opens_once budget verdict d.0 (world (world_term w)) d.1 o in
       subst (λ (z : Opened). ReportsOpened (ReportsTold TellsAt) z report) same d.2
 
+  -- the source is the file
+  is_source : source_of (Some (runs form name budget)) (Some bytes.list) ≡ Some bytes.list
+  is_source = runs_source form name budget (Some bytes.list)
+
+  verdict_known : (verdict : Verdict) → IsVerdictOf (source_of (Some (runs form name budget)) (Some bytes.list)) verdict
+      → IsVerdict bytes.list verdict
+  verdict_known verdict h = subst (λ (f : Option Text). IsVerdictOf f verdict) is_source h
+
   end_at : (why : NoWorld) (verdict : Verdict) (script : Text) (report : Report) → Opens budget verdict (Err why)
-      → Reports l (Some (run name budget)) (Some bytes.list) verdict script report → Writes report [] (Unopened why)
+      → Reports l (Some (runs form name budget)) (Some bytes.list) verdict script report → Writes report [] (Unopened why)
   end_at Memory verdict script report o d = (report.output, refl)
   end_at (Refused place refusal) verdict script report o r =
-      let d = bytes_reported l.file bytes.list (ReportsVerdict budget verdict (ReportsTold (TellsWhole l script))) report within r in
-      subst (λ (z : Opened). ReportsOpened (ReportsTold (TellsWhole l script)) z report)
+      let d = bytes_reported l.file bytes.list (ReportsVerdict budget verdict (ReportsTold (TellsWhole form l script))) report within
+      (lines_reported_of form l name budget (Some bytes.list) verdict script report r) in
+      subst (λ (z : Opened). ReportsOpened (ReportsTold (TellsWhole form l script)) z report)
       (opens_once budget verdict d.0 (none (Unopened (Refused place refusal))) d.1 o) d.2
   end_at OverBudget verdict script report o r =
-      let d = bytes_reported l.file bytes.list (ReportsVerdict budget verdict (ReportsTold (TellsWhole l script))) report within r in
-      subst (λ (z : Opened). ReportsOpened (ReportsTold (TellsWhole l script)) z report)
+      let d = bytes_reported l.file bytes.list (ReportsVerdict budget verdict (ReportsTold (TellsWhole form l script))) report within
+      (lines_reported_of form l name budget (Some bytes.list) verdict script report r) in
+      subst (λ (z : Opened). ReportsOpened (ReportsTold (TellsWhole form l script)) z report)
       (opens_once budget verdict d.0 (none (Unopened OverBudget)) d.1 o) d.2
+
+  -- what is told of these lines there
+  told_of : (w : SeenWorld) (verdict : Verdict) (lines : List Text) (finish : Finish) (report : Report) → Opens budget verdict (Ok w)
+      → ReportsLines l (Some (runs form name budget)) (Some bytes.list) verdict lines finish report
+      → (told : Told) × Tells form l.line (world_term w) 1 lines finish told × (report ≡ reported told)
+  told_of w verdict lines finish report o r =
+      at_world w (λ v told. Tells form l.line v 1 lines finish told) verdict report o
+      (lines_read_of form l name budget (Some bytes.list) verdict lines finish report r)
 
   -- the bytes have no world
   pub worked_unopened : (left out : Option Text) (why : NoWorld) → OpensBytes budget bytes.list (Err why)
       → HasVerdictAfter {A = Finish} (Err why) bytes.list
-      → Worked l (Some (run name budget)) holds left left out out (Unopened why)
+      → Worked l (Some (runs form name budget)) holds left left out out (Unopened why)
   worked_unopened left out why o h =
-      worked_still l (Some (run name budget)) holds left out out [] (Unopened why) (Some bytes.list) is (Appends-nil out)
-      (verdict_at Finish why bytes.list h) (λ fact. tt)
-      (λ verdict v script report d. end_at why verdict script report (o verdict v) d)
+      worked_still l (Some (runs form name budget)) holds left out out [] (Unopened why) (Some bytes.list) is (Appends-nil out)
+      (subst (HasVerdictAt (Unopened why)) (sym is_source) (verdict_at Finish why bytes.list h)) (λ fact. tt)
+      (λ verdict v script report d. end_at why verdict script report (o verdict (verdict_known verdict v)) d)
 
   -- a script was run on the world of the bytes
   pub worked_ran : (left_old left_new taken_old taken_new : Option Text) (finish : Finish) (w : SeenWorld)
       → OpensBytes budget bytes.list (Ok w)
-      → RanScript (Tells l.line (world_term w) 1) l.script left_old left_new taken_old taken_new finish → HasVerdict (Some bytes.list)
-      → Worked l (Some (run name budget)) holds left_old left_new taken_old taken_new (Ran finish)
+      → RanScript (Tells form l.line (world_term w) 1) l.script left_old left_new taken_old taken_new finish → HasVerdict (Some bytes.list)
+      → Worked l (Some (runs form name budget)) holds left_old left_new taken_old taken_new (Ran finish)
   worked_ran left_old left_new taken_old taken_new finish w o d verdict_is = record {
     file = Some bytes.list;
     script = d.script;
@@ -310,17 +335,18 @@ module _ (l : Limits) (name : Text) (budget : ℕ) (holds : Option (Option Text)
     begins = d.begins;
     consumed = d.consumed;
     took = d.took;
-    verdict_is = verdict_is;
+    verdict_is = subst HasVerdict (sym is_source) verdict_is;
     comes = λ verdict h report r.
-        let t = at_world w _ verdict report (o verdict h) r in
+        let t = at_world w (TellsWhole form l d.script) verdict report (o verdict (verdict_known verdict h))
+        (lines_reported_of form l name budget (Some bytes.list) verdict d.script report r) in
         writes_told t.0 d.written finish report t.2 (d.comes t.0 t.1);
     answered = λ e verdict h report r.
-        let t = at_world w _ verdict report (o verdict h) r in
+        let t = told_of w verdict (cut_of d.read).lines finishes.ReadFault report (o verdict (verdict_known verdict h)) r in
         let fault : finish ≡ finishes.ReadFault = cc in
         t.2 ∙ ap reported (d.answered fault t.0 t.1) ∙ ap (λ (z : Finish). record { output = d.written; ending = Ran z }) (sym fault);
     pieces = d.pieces;
     in_time = λ verdict h report r.
-        let t = at_world w _ verdict report (o verdict h) r in
+        let t = told_of w verdict (cut_of d.earlier).lines finishes.ReadFault report (o verdict (verdict_known verdict h)) r in
         let i = d.in_time t.0 t.1 in (
           ap (λ (z : Report). z.ending) t.2 ∙ ap Ran i.0,
           subst (λ (z : Text). IsStart z d.written) (sym (ap (λ (z : Report). z.output) t.2)) i.1,
@@ -338,7 +364,7 @@ module _ (l : Limits) (name : Text) (budget : ℕ) (holds : Option (Option Text)
           as_read = out.as_read;
           within = out.within;
           done = λ verdict h report r.
-              let t = at_world w _ verdict report (o verdict h) r in
+              let t = told_of w verdict out.lines finishes.Memory report (o verdict (verdict_known verdict h)) r in
               t.2 ∙ ap reported (out.done t.0 t.1);
         };
   }

@@ -1,4 +1,5 @@
 pub mod TypeFaultText
+pub mod LineForms
 pub mod Session
 pub mod Ending
 pub mod Verdict
@@ -13,3 +14,4 @@ pub mod Promise
 pub mod Complete
 pub mod Fulfils
 pub mod Replay
+pub mod SameHistory

@@ -11,12 +11,14 @@ use Rattle.line_frame.specs.Told.{Told}
 use Rattle.line_frame.specs.Script.{TellsScript, cut_of}
 use Rattle.line_frame.specs.declared.finish.Finish.{Finish}
 use Rattle.line_frame.specs.declared.finish.Finish.TheVariants.{ReadFault}
-use Rattle.command_words.specs.Commands.{CommandTerm, run, check, soak, drill, serve}
+use Rattle.command_words.specs.Commands.{CommandTerm, run, check, soak, drill, serve, json}
 use Rattle.input_lines.specs.Soak.{soak_text}
 use Rattle.tophat.specs.declared.ending.CommandEnding.{CommandEnding}
 use Rattle.tophat.specs.declared.ending.CommandEnding.TheVariants.{Usage, Absent, FileTooLong, Unopened, Ran, Wrote}
 use Rattle.tophat.specs.declared.no_world.NoWorld.TheVariants.{Refused, OverBudget}
 use Rattle.tophat.specs.Verdict.{Verdict, accepted, refused}
+use Rattle.tophat.specs.declared.line_form.LineForm.{LineForm}
+use Rattle.tophat.specs.declared.line_form.LineForm.TheVariants.{Script, Json}
 use Rattle.tophat.specs.Session.{Tells}
 use Rattle.tophat.specs.SoakReport.{IsSummary}
 
@@ -56,6 +58,7 @@ named (Some (check name)) = name
 named (Some (soak count seed)) = []
 named (Some (drill seats each)) = []
 named (Some (serve name serving)) = name
+named (Some (json name budget)) = name
 
 -- the words ask for a command that starts threads: it isn't a plain one
 abbrev pub NeedsMore : Option CommandTerm → Type 0
@@ -65,6 +68,17 @@ NeedsMore (Some (check name)) = ⊥
 NeedsMore (Some (soak count seed)) = ⊥
 NeedsMore (Some (drill seats each)) = ⊤
 NeedsMore (Some (serve name serving)) = ⊤
+NeedsMore (Some (json name budget)) = ⊥
+
+-- the form of the lines that a command runs
+abbrev pub form_of : Option CommandTerm → LineForm
+form_of (Some (json name budget)) = Json
+form_of command = Script
+
+-- the command that runs lines of a form
+abbrev pub runs : LineForm → Text → ℕ → CommandTerm
+runs Script name budget = run name budget
+runs Json name budget = json name budget
 
 -- the source of a command's program, where it asks for this file: the file, and of `soak` the text of its own
 abbrev pub source_of : Option CommandTerm → Option Text → Option Text
@@ -130,16 +144,18 @@ ReportsCommand l (Some (check name)) file verdict TellsAt report = ReportsFile l
 ReportsCommand l (Some (soak count seed)) file verdict TellsAt report = ReportsVerdict soak_budget verdict (ReportsSoak count seed) report
 ReportsCommand l (Some (drill seats each)) file verdict TellsAt report = ⊥
 ReportsCommand l (Some (serve name serving)) file verdict TellsAt report = ⊥
+ReportsCommand l (Some (json name budget)) file verdict TellsAt report =
+    ReportsFile l.file file (ReportsVerdict budget verdict (ReportsTold TellsAt)) report
 
 -- this is reported of the whole script
 abbrev pub Reports : Limits → Option CommandTerm → Option Text → Verdict → Text → Report → Type 0
 Reports l command file verdict script report =
-    ReportsCommand l command file verdict (λ w told. TellsScript (Tells l.line w 1) l.script script told) report
+    ReportsCommand l command file verdict (λ w told. TellsScript (Tells (form_of command) l.line w 1) l.script script told) report
 
 -- this is reported of these lines, where they end so if none of them ends the run before
 abbrev pub ReportsLines : Limits → Option CommandTerm → Option Text → Verdict → List Text → Finish → Report → Type 0
 ReportsLines l command file verdict lines finish report =
-    ReportsCommand l command file verdict (λ w told. Tells l.line w 1 lines finish told) report
+    ReportsCommand l command file verdict (λ w told. Tells (form_of command) l.line w 1 lines finish told) report
 
 -- this is reported of the lines that end within the bytes that were read, where nothing but a fault of reading ends the run
 abbrev pub ReportsRead : Limits → Option CommandTerm → Option Text → Verdict → Text → Report → Type 0

@@ -16,6 +16,7 @@ use Rattle.command_words.specs.Commands.{CommandTerm}
 use Rattle.command_words.specs.declared.stop.WordStop.{WordStop}
 use Rattle.command_words.specs.declared.stop.WordStop.TheVariants as words
 use Rattle.tophat.specs.Verdict.{Verdict, IsVerdict, IsVerdictOf, HasVerdict}
+use Rattle.tophat.specs.declared.line_form.LineForm.{LineForm}
 use Rattle.tophat.specs.Session.{Tells}
 use Rattle.tophat.specs.Top.{Limits, Report, source_of, world, none, OpensVerdict, Reports, ReportsLines, ReportsRead}
 
@@ -133,8 +134,8 @@ HasVerdictAfter (Err Memory) bytes = ⊤
 HasVerdictAfter (Err why) bytes = HasVerdict (Some bytes)
 
 -- a script was run on the world that these bytes were opened to, or there is none
-abbrev pub RunsBytes : Limits → ℕ → Text → (left_old left_new taken_old taken_new : Option Text) → Result Finish NoWorld → Type 0
-RunsBytes l budget bytes left_old left_new taken_old taken_new (Ok finish) =
-    (w : SeenWorld) × OpensBytes budget bytes (Ok w) × RanScript (Tells l.line (world_term w) 1) l.script left_old left_new taken_old taken_new
+abbrev pub RunsBytes : LineForm → Limits → ℕ → Text → (left_old left_new taken_old taken_new : Option Text) → Result Finish NoWorld → Type 0
+RunsBytes form l budget bytes left_old left_new taken_old taken_new (Ok finish) =
+    (w : SeenWorld) × OpensBytes budget bytes (Ok w) × RanScript (Tells form l.line (world_term w) 1) l.script left_old left_new taken_old taken_new
     finish
-RunsBytes l budget bytes left_old left_new taken_old taken_new (Err why) = OpensBytes budget bytes (Err why)
+RunsBytes form l budget bytes left_old left_new taken_old taken_new (Err why) = OpensBytes budget bytes (Err why)

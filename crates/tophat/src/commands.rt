@@ -17,7 +17,8 @@ use task_model::TaskText;
 /// Does what the words of a command line ask for, without the program's own name, where that needs no threads and no sockets, and answers
 /// the status. It always returns.
 ///
-/// `run FILE` reads the program in FILE, opens it, and runs the script on the input; `check FILE` writes the program's text again;
+/// `run FILE` reads the program in FILE, opens it, and runs the script on the input; `json FILE` does so with JSON lines (docs/FORMATS.md,
+/// "JSON"); `check FILE` writes the program's text again;
 /// `soak N SEED` runs inputs of its own (docs/FORMATS.md, "Words" and "Statuses"). A fault of `err` changes no status.
 /// Where the words ask for a `drill` or to `serve`, nothing is answered: whoever has threads and sockets does that.
 pub fn plain<F: Files, I: Source, O: Sink, E: Sink>(
@@ -61,6 +62,7 @@ fn is_plain(asked: &Result<Command, WordStop>) -> bool
         Ok(Command::Soak { .. }) => true,
         Ok(Command::Drill { .. }) => false,
         Ok(Command::Serve { .. }) => false,
+        Ok(Command::Json { .. }) => true,
         Err(_) => true,
     }
 }

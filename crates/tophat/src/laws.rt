@@ -11,11 +11,15 @@ ghost use Rattle.task_model.specs.declared.widget.Face.TheVariants as faces;
 ghost use Rattle.command_words.specs.Commands.{CommandTerm, run};
 ghost use Rattle.tophat.specs.Ending.{status_of};
 ghost use Rattle.tophat.specs.Verdict.{Verdict, IsVerdict, IsVerdictOf, accepted};
-ghost use Rattle.tophat.specs.Top.{Limits, NeedsMore, Report, Reports, ReportsLines, limits, source_of, world_at};
+ghost use Rattle.tophat.specs.Top.{Limits, NeedsMore, Report, Reports, ReportsLines, limits, runs, source_of, world_at};
 ghost use Rattle.tophat.specs.Worked.{IfSilent};
 ghost use Rattle.tophat.specs.Promise.{IsCutShort, Promised};
-ghost use Rattle.tophat.specs.Complete.{IsRunnable, ReportsAll, lines_of};
+ghost use Rattle.tophat.specs.Complete.{AnswersAll, IsRunnable, ReportsAll, lines_of};
 ghost use Rattle.tophat.specs.Replay.{AskAgain, IsReplayable, replay_script, replayed};
+ghost use Rattle.tophat.specs.declared.line_form.LineForm.{LineForm};
+ghost use Rattle.tophat.specs.SameHistory.{AskFor, LeadsTo};
+ghost use Rattle.world_core.specs.World.{WorldTerm};
+ghost use Rattle.input_lines.specs.ScriptLines.{LineTerm};
 ghost use Rattle.line_frame.specs.declared.finish.Finish.{Finish};
 ghost use Rattle.line_frame.specs.declared.finish.Finish.TheVariants as finishes;
 ghost use Rattle.tophat.specs.declared.ending.CommandEnding.{CommandEnding};
@@ -38,11 +42,21 @@ pub fn one_report()
 {}
 
 /// Where a file has an accepted program whose opening has a state, and the script and each of its lines are within their limits and in the
-/// grammar, a run is reported to answer every line and to end with the script.
+/// form, a run of lines of that form is reported to answer every line and to end with the script.
 pub fn all_lines_are_answered()
-    ensures { (name : Text) (budget : ℕ) (bytes script : Text) (c : CheckedTerm) (s : State) (report : Report) →
-        IsRunnable limits budget bytes script c s → Reports limits (Some (run name budget)) (Some bytes) (accepted c) script report →
-        ReportsAll (world_at c budget s) (lines_of script) report }
+    ensures { (form : LineForm) (name : Text) (budget : ℕ) (bytes script : Text) (c : CheckedTerm) (s : State) (report : Report) →
+        IsRunnable form limits budget bytes script c s → Reports limits (Some (runs form name budget)) (Some bytes) (accepted c) script report →
+        ReportsAll form (world_at c budget s) (lines_of script) report }
+{}
+
+/// Lines that are answered lead to a world. What they ask for leads to one world alone, with one history, in each form: script lines and
+/// JSON that ask for the same inputs give the same history.
+pub fn forms_lead_alike()
+    ensures lead { (form : LineForm) (w : WorldTerm) (lines : List Text) (text : Text) → AnswersAll form w lines text
+        → (asked : List LineTerm) × (v : WorldTerm) × AskFor form lines asked × LeadsTo form w asked v }
+    ensures alike { (one other : LineForm) (w v : WorldTerm) (asked : List LineTerm) → LeadsTo one w asked v → LeadsTo other w asked v }
+    ensures same { (one other : LineForm) (w v u : WorldTerm) (asked : List LineTerm) → LeadsTo one w asked v → LeadsTo other w asked u
+        → v ≡ u }
 {}
 
 /// The printed lines of a legal history ask for its entries, and its printed program is accepted again. The run of that program within the

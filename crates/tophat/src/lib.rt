@@ -6,6 +6,8 @@
 mod commands;
 mod ending;
 mod laws;
+mod line_form;
+mod line_texts;
 mod no_world;
 mod opening;
 mod program_file;
@@ -21,7 +23,8 @@ mod work;
 pub use commands::{perform, plain};
 pub use ending::CommandEnding;
 pub use laws::{
-    all_lines_are_answered, all_was_written, histories_are_replayed, one_report, statuses_tell_ends,
+    all_lines_are_answered, all_was_written, forms_lead_alike, histories_are_replayed, one_report,
+    statuses_tell_ends,
 };
 pub use no_world::NoWorld;
 pub use opening::open_bytes;

@@ -1,21 +1,24 @@
-ghost use Rattle.std.specs.Prelude.{◌≡◌, ◌++◌, IfOk, IsNone, codes, decimal};
-ghost use Rattle.task_model.specs.Terms.Input.{entry_term};
-ghost use Rattle.task_model.specs.Running.State.{IsSeat};
-ghost use Rattle.world_core.specs.World.{world_term, Replies};
+ghost use Rattle.std.specs.Prelude.{◌≡◌, Err, IfOk, IsNone};
+ghost use Rattle.task_model.specs.Terms.Input.{EntryTerm, entry_term};
+ghost use Rattle.task_model.specs.Running.State.{IsSeat, version_of};
+ghost use Rattle.world_core.specs.World.{WorldTerm, world_term, Replies};
 ghost use Rattle.input_lines.specs.ScriptLines.{HasSeat, gives, shows, line_term};
 ghost use Rattle.tophat.specs.Session.{Answers};
+ghost use Rattle.tophat.specs.declared.line_form.LineForm.TheVariants as forms;
 
-use input_lines::{Line, parse_line};
-use itoa::Buffer;
+use crate::line_form::LineForm;
+use crate::line_texts::{not_offered_line, over_budget_line, page_line, read_asked, taken_line};
+use input_lines::Line;
 use line_frame::{LineStop, Machine};
 use std::alloc::Global;
 use std::sync::ledger::Ledger;
 use task_model::{ActStop, Entry, Face, LINE_BYTE_LIMIT, OutOfMemory, Row, Steps};
 use world_core::{Taken, World};
 
-/// Runs the lines of a script on a world.
+/// Runs the lines of a script, of one form, on a world.
 #[derive(Drop)]
 pub(crate) struct Runner<L: Ledger> {
+    form: LineForm,
     world: World,
     steps: Steps<L>,
     // Whether the present state was shown.
@@ -24,11 +27,13 @@ pub(crate) struct Runner<L: Ledger> {
 }
 
 impl<L: Ledger> Runner<L> {
-    pub(crate) fn new(world: World, steps: Steps<L>) -> Runner<L>
+    pub(crate) fn new(form: LineForm, world: World, steps: Steps<L>) -> Runner<L>
         requires { IsNone world.next }
-        ensures { result.world ≡ world }
+        ensures form { result.form ≡ form }
+        ensures world { result.world ≡ world }
     {
         Runner {
+            form,
             world,
             steps,
             is_shown: false,
@@ -38,7 +43,9 @@ impl<L: Ledger> Runner<L> {
     // Does what a line asks for: its answer.
     fn answer(&mut self, alloc: Global, line: Line) -> Result<Row<u8>, OutOfMemory>
         requires { HasSeat (line_term line) }
-        ensures { IfOk result (λ text. Answers (world_term self.old.world) (line_term line) text.list (world_term self.new.world)) }
+        ensures form { self.new.form ≡ self.old.form }
+        ensures answers { IfOk result (λ text. Answers self.old.form (world_term self.old.world) (line_term line) text.list
+            (world_term self.new.world)) }
     {
         match line {
             Line::Blank => Ok(Row::new(alloc)),
@@ -47,34 +54,58 @@ impl<L: Ledger> Runner<L> {
         }
     }
 
-    // The terminal page for a seat.
+    // The page for a seat.
     fn show(&mut self, alloc: Global, seat: u8) -> Result<Row<u8>, OutOfMemory>
         requires { IsSeat seat }
-        ensures { IfOk result (λ text. Answers (world_term self.old.world) (shows seat) text.list (world_term self.new.world)) }
+        ensures form { self.new.form ≡ self.old.form }
+        ensures answers { IfOk result (λ text. Answers self.old.form (world_term self.old.world) (shows seat) text.list
+            (world_term self.new.world)) }
+    {
+        match self.form {
+            LineForm::Script => self.show_text(alloc, seat),
+            LineForm::Json => self.show_json(alloc, seat),
+        }
+    }
+
+    fn show_text(&mut self, alloc: Global, seat: u8) -> Result<Row<u8>, OutOfMemory>
+        requires { IsSeat seat }
+        ensures form { self.new.form ≡ self.old.form }
+        ensures answers { IfOk result (λ text. Answers forms.Script (world_term self.old.world) (shows seat) text.list
+            (world_term self.new.world)) }
     {
         let page = self.world.page(alloc, Face::Text, seat, &mut self.steps)?;
         self.is_shown = true;
         Ok(page.into_bytes())
     }
 
+    fn show_json(&mut self, alloc: Global, seat: u8) -> Result<Row<u8>, OutOfMemory>
+        requires { IsSeat seat }
+        ensures form { self.new.form ≡ self.old.form }
+        ensures answers { IfOk result (λ text. Answers forms.Json (world_term self.old.world) (shows seat) text.list
+            (world_term self.new.world)) }
+    {
+        let version = self.world.version();
+        let widgets = self.world.widgets(alloc, &mut self.steps)?;
+        self.is_shown = true;
+        page_line(alloc, version, seat, widgets)
+    }
+
     // Gives an input to the world, and answers what became of it.
     fn give(&mut self, alloc: Global, entry: Entry) -> Result<Row<u8>, OutOfMemory>
         requires { IsSeat entry.seat }
-        ensures { IfOk result (λ text. Answers (world_term self.old.world) (gives (entry_term entry)) text.list
+        ensures form { self.new.form ≡ self.old.form }
+        ensures answers { IfOk result (λ text. Answers self.old.form (world_term self.old.world) (gives (entry_term entry)) text.list
             (world_term self.new.world)) }
     {
-        match self.handle(alloc, entry) {
-            Ok(taken) => taken_text(alloc, taken),
-            Err(ActStop::NotOffered) => row_of(alloc, b"not offered\n"),
-            Err(ActStop::Over) => row_of(alloc, b"over budget\n"),
-            Err(ActStop::Memory) => Err(OutOfMemory),
-        }
+        let reply = self.handle(alloc, entry);
+        reply_text(alloc, self.form, reply, self.world.version())
     }
 
     // Gives an input to the world. Where the present state was shown the next one likely is, too.
     fn handle(&mut self, alloc: Global, entry: Entry) -> Result<Taken, ActStop>
         requires { IsSeat entry.seat }
-        ensures { Replies (world_term self.old.world) (entry_term entry) (world_term self.new.world) result }
+        ensures form { self.new.form ≡ self.old.form }
+        ensures replies { Replies (world_term self.old.world) (entry_term entry) (world_term self.new.world) result }
     {
         if !self.is_shown {
             return self.world.handle(entry.seat, entry.input);
@@ -96,12 +127,12 @@ impl<L: Ledger> Machine for Runner<L> {
 
     const LONGEST: usize = LINE_BYTE_LIMIT;
 
-    ghost tells = { λ r. Tells limits.line (world_term r.world) };
+    ghost tells = { λ r. Tells r.form limits.line (world_term r.world) };
 
     ghost no_lines = { λ _ _ _ _ told. told };
 
     fn run_line(&mut self, alloc: Global, line: &[u8]) -> Result<Row<u8>, LineStop> {
-        match parse_line(alloc, line) {
+        match read_asked(alloc, self.form, line) {
             Ok(line) => match self.answer(alloc, line) {
                 Ok(text) => Ok(text),
                 Err(OutOfMemory) => Err(LineStop::Memory),
@@ -111,20 +142,35 @@ impl<L: Ledger> Machine for Runner<L> {
     }
 }
 
-fn row_of(alloc: Global, bytes: &[u8]) -> Result<Row<u8>, OutOfMemory>
-    ensures { IfOk result (λ row. row.list ≡ bytes.now) }
+// The answer to an input that the world replied to, and that left it at this version.
+fn reply_text(
+    alloc: Global,
+    form: LineForm,
+    reply: Result<Taken, ActStop>,
+    version: u64,
+) -> Result<Row<u8>, OutOfMemory>
+    ensures { (w : WorldTerm) (e : EntryTerm) (new : WorldTerm) → Replies w e new reply → version ≡ version_of new.history
+        → IfOk result (λ text. Answers form w (gives e) text.list new) }
 {
-    let mut row = Row::new(alloc);
-    row.extend(bytes)?;
-    Ok(row)
+    match reply {
+        Ok(taken) => taken_line(alloc, form, taken.version),
+        Err(stop) => refused_text(alloc, form, stop, version),
+    }
 }
 
-fn taken_text(alloc: Global, taken: Taken) -> Result<Row<u8>, OutOfMemory>
-    ensures { IfOk result (λ row. row.list ≡ codes "taken " ++ decimal taken.version ++ codes "\n") }
+// The answer to an input that the world refused at this version.
+fn refused_text(
+    alloc: Global,
+    form: LineForm,
+    stop: ActStop,
+    version: u64,
+) -> Result<Row<u8>, OutOfMemory>
+    ensures { (w : WorldTerm) (e : EntryTerm) (new : WorldTerm) → Replies w e new (Err stop) → version ≡ version_of new.history
+        → IfOk result (λ text. Answers form w (gives e) text.list new) }
 {
-    let mut number = Buffer::new();
-    let mut row = row_of(alloc, b"taken ")?;
-    row.extend(number.format(taken.version).as_bytes())?;
-    row.extend(b"\n")?;
-    Ok(row)
+    match stop {
+        ActStop::NotOffered => not_offered_line(alloc, form, version),
+        ActStop::Over => over_budget_line(alloc, form, version),
+        ActStop::Memory => Err(OutOfMemory),
+    }
 }

@@ -1,7 +1,7 @@
 ghost use Rattle.std.specs.Prelude.{◌≡◌, ◌<◌, Some, Option, IfErr, IfOk};
 ghost use Rattle.task_model.specs.Running.State.{IsBudget};
-ghost use Rattle.command_words.specs.Commands.{CommandTerm, command_term, run, check, soak, IsAsked, IsInRange};
-ghost use Rattle.tophat.specs.Top.{limits, named, NeedsMore};
+ghost use Rattle.command_words.specs.Commands.{CommandTerm, command_term, check, soak, IsAsked, IsInRange};
+ghost use Rattle.tophat.specs.Top.{limits, named, runs, NeedsMore};
 ghost use Rattle.tophat.specs.Worked.{Worked, IfNotRun, IfSilent, RunsBytes, HasVerdictAfter, IsTextEnd, IsRunEnd, word_ending};
 ghost use Rattle.tophat.specs.Sources.{TellsText, ReportsCheck};
 ghost use Rattle.task_model.specs.Terms.Text.{Text};
@@ -12,6 +12,7 @@ ghost use Rattle.line_frame.specs.RunFaults.{read_faults_after_run, write_faults
 ghost use Rattle.tophat.specs.declared.ending.CommandEnding.TheVariants as endings;
 
 use crate::ending::CommandEnding;
+use crate::line_form::LineForm;
 use crate::no_world::NoWorld;
 use crate::opening::open_bytes;
 use crate::program_file::read_file;
@@ -58,6 +59,7 @@ pub(crate) fn work<F: Files, I: Source, O: Sink, L: Ledger>(
         Ok(Command::Run { file, budget }) => {
             run_file(
                 alloc,
+                LineForm::Script,
                 file,
                 *budget,
                 files,
@@ -70,6 +72,18 @@ pub(crate) fn work<F: Files, I: Source, O: Sink, L: Ledger>(
         Ok(Command::Soak { count, seed }) => soak(alloc, *count, *seed, out),
         Ok(Command::Drill { .. }) => unreachable!(),
         Ok(Command::Serve { .. }) => unreachable!(),
+        Ok(Command::Json { file, budget }) => {
+            run_file(
+                alloc,
+                LineForm::Json,
+                file,
+                *budget,
+                files,
+                input,
+                out,
+                Steps::<L>::new(blank),
+            )
+        }
         Err(stop) => unasked(*stop),
     }
 }
@@ -94,13 +108,15 @@ pub(crate) fn named_file(asked: &Result<Command, WordStop>) -> &[u8]
         Ok(Command::Soak { .. }) => b"",
         Ok(Command::Drill { .. }) => b"",
         Ok(Command::Serve { file, .. }) => file.as_str().as_bytes(),
+        Ok(Command::Json { file, .. }) => file.as_str().as_bytes(),
         Err(_) => b"",
     }
 }
 
-// Reads a program, opens it, and runs the script on it.
+// Reads a program, opens it, and runs the script on it, whose lines are of this form.
 fn run_file<F: Files, I: Source, O: Sink, L: Ledger>(
     alloc: Global,
+    form: LineForm,
     name: &TaskText,
     budget: u32,
     files: &mut F,
@@ -109,7 +125,7 @@ fn run_file<F: Files, I: Source, O: Sink, L: Ledger>(
     steps: Steps<L>,
 ) -> CommandEnding
     requires { IsBudget budget }
-    ensures worked { Worked limits (Some (run name.now budget)) (F.holds files.old name.now)
+    ensures worked { Worked limits (Some (runs form name.now budget)) (F.holds files.old name.now)
         (I.left input.old) (I.left input.new) (O.taken out.old) (O.taken out.new) result }
     ensures usage { result ≡ endings.Usage → ⊥ }
     ensures not_run { IfNotRun result ((input.new ≡ input.old) × (out.new ≡ out.old)) }
@@ -120,7 +136,7 @@ fn run_file<F: Files, I: Source, O: Sink, L: Ledger>(
     ensures output_count { O.faults out.new ≡ output_faults_after (O.faults out.old) result }
 {
     match read_file(alloc, name, files) {
-        Ok(bytes) => match run_bytes(alloc, bytes.as_slice(), budget, input, out, steps) {
+        Ok(bytes) => match run_bytes(alloc, form, bytes.as_slice(), budget, input, out, steps) {
             Ok(finish) => CommandEnding::Ran(finish),
             Err(why) => CommandEnding::Unopened(why),
         },
@@ -131,6 +147,7 @@ fn run_file<F: Files, I: Source, O: Sink, L: Ledger>(
 // Opens the program of these bytes, and runs the script on it.
 fn run_bytes<I: Source, O: Sink, L: Ledger>(
     alloc: Global,
+    form: LineForm,
     bytes: &[u8],
     budget: u32,
     input: &mut I,
@@ -138,7 +155,7 @@ fn run_bytes<I: Source, O: Sink, L: Ledger>(
     steps: Steps<L>,
 ) -> Result<Finish, NoWorld>
     requires { IsBudget budget }
-    ensures ran { RunsBytes limits budget bytes.now (I.left input.old) (I.left input.new) (O.taken out.old) (O.taken out.new) result }
+    ensures ran { RunsBytes form limits budget bytes.now (I.left input.old) (I.left input.new) (O.taken out.old) (O.taken out.new) result }
     ensures verdict_is { HasVerdictAfter result bytes.now }
     ensures not_run { IfErr result (λ _. (input.new ≡ input.old) × (out.new ≡ out.old)) }
     ensures read_count { IfOk result (λ finish. I.faults input.new ≡ read_faults_after_run (I.faults input.old) finish) }
@@ -146,7 +163,7 @@ fn run_bytes<I: Source, O: Sink, L: Ledger>(
 {
     match open_bytes(alloc, bytes, budget) {
         Ok(world) => {
-            let mut runner = Runner::new(world, steps);
+            let mut runner = Runner::new(form, world, steps);
             Ok(run_script(alloc, &mut runner, input, out, SCRIPT_BYTE_LIMIT))
         }
         Err(why) => Err(why),

@@ -15,6 +15,7 @@ use Rattle.command_words.specs.Commands.{run}
 use Rattle.world_core.specs.World.{WorldTerm}
 use Rattle.world_core.proofs.WorldLemmas.{typed_alone}
 use Rattle.tophat.specs.Replay.{replay_script, replayed, taken_lines}
+use Rattle.tophat.specs.declared.line_form.LineForm.TheVariants.{Script}
 use Rattle.tophat.specs.Session.{Tells}
 use Rattle.tophat.specs.Top.{Reports, limits, world, world_at}
 use Rattle.tophat.specs.Verdict.{IsVerdict, accepted}
@@ -31,7 +32,7 @@ run_again name bytes budget c items seat page v legal within (ws, (t, program, (
     let d : CheckedTerm = typed_program c.program in
     let w : WorldTerm = world_at d budget s in
     let told : Told = record { output = taken_lines (version_of items) ++ page_text (version_of items) seat ws; finish = Done } in
-    let tells : TellsScript (Tells limits.line w 1) limits.script (replay_script items seat) told =
+    let tells : TellsScript (Tells Script limits.line w 1) limits.script (replay_script items seat) told =
     script_taken limits.line limits.script w items seat t ws (omega arith) within.seat_is legal.1
     (legal_again c.program budget items legal) within.lines lead widgets refl within.script in
     subst (λ (z : CheckedTerm). Reports limits (Some (run name budget)) (Some bytes) (accepted z) (replay_script items seat)

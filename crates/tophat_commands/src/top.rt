@@ -107,6 +107,7 @@ fn is_plain(asked: &Result<Command, WordStop>) -> bool
         Ok(Command::Soak { .. }) => true,
         Ok(Command::Drill { .. }) => false,
         Ok(Command::Serve { .. }) => false,
+        Ok(Command::Json { .. }) => true,
         Err(_) => true,
     }
 }

@@ -1,6 +1,7 @@
 mod block;
 mod budgets;
 mod case;
+mod json;
 mod programs;
 mod refusals;
 mod scripts;
@@ -91,6 +92,15 @@ fn put_others(found: &mut String, alloc: Global) -> Result<(), OutOfMemory> {
 fn words_lines_and_long_scripts(rt: HostRuntime) -> Result<(), Fail> {
     let mut found = String::new(rt.alloc());
     put_others(&mut found, rt.alloc())?;
+    assert!(rt; found.is_empty(), "{}", found.as_str());
+    Ok(())
+}
+
+#[test]
+fn lines_of_json(rt: HostRuntime) -> Result<(), Fail> {
+    let mut found = String::new(rt.alloc());
+    json::put_json(&mut found, rt.alloc())?;
+    json::put_pages(&mut found, rt.alloc())?;
     assert!(rt; found.is_empty(), "{}", found.as_str());
     Ok(())
 }

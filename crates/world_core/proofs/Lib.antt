@@ -1,3 +1,4 @@
 pub mod WorldLemmas
 pub mod KeptLemmas
 pub mod RunLemmas
+pub mod ShownWidgets

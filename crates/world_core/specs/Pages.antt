@@ -20,6 +20,10 @@ IsStatePage c budget s face version seat text =
 abbrev pub IsWorldPage : Face → WorldTerm → ℕ → Text → Type 0
 IsWorldPage face w seat text = IsStatePage w.checked w.budget w.state face (version_of w.history) seat text
 
+-- the widgets of a world
+abbrev pub AreWorldWidgets : WorldTerm → List WidgetTerm → Type 0
+AreWorldWidgets w ws = AreWidgets w.checked w.budget w.state.tree w.state.store ws
+
 -- what is drawn of a state's widgets
 abbrev pub AreStateFragments : CheckedTerm → ℕ → State → List FragmentTerm → Type 0
 AreStateFragments c budget s fs = (ws : List WidgetTerm) × AreWidgets c budget s.tree s.store ws × (fs ≡ map fragment_of ws)

@@ -6,6 +6,7 @@ ghost use Rattle.task_model.specs.Running.Checked.{checked_term};
 ghost use Rattle.task_model.specs.Checking.Fits.{Fits};
 ghost use Rattle.task_model.specs.declared.value.Value.{Value};
 ghost use Rattle.kept_nodes.specs.Kept.{IsRedrawn};
+ghost use Rattle.task_model.specs.Showing.Widget.{AreWidgets, widget_term};
 ghost use Rattle.live_tree.specs.Live.{DiffersAsTold, IsLive, most_steps};
 ghost use Rattle.world_core.specs.Pages.{AreStateFragments, IsStatePage};
 
@@ -15,7 +16,7 @@ use shared_store::Store;
 use std::alloc::Global;
 use std::sync::ledger::Ledger;
 use task_evaluation::Engine;
-use task_model::{Face, OutOfMemory, Steps, Value};
+use task_model::{Face, OutOfMemory, Row, Steps, Value, Widget};
 
 /// How fragments are framed: in a face, with a version, for a seat.
 #[derive(Clone, Copy)]
@@ -116,4 +117,28 @@ pub(crate) fn drawn_page<L: Ledger>(
         seat,
     } = framing;
     frame_behind_room(alloc, face, version, seat, live.fragments())
+}
+
+/// The widgets of a tree over a store, in pre-order: its table is made, unless it was. The store and the tree stay.
+pub(crate) fn drawn_widgets<L: Ledger>(
+    alloc: Global,
+    engine: &Engine,
+    live: &mut LiveTree,
+    store: &mut Store<Value>,
+    budget: u32,
+    steps: &mut Steps<L>,
+) -> Result<Row<Widget>, OutOfMemory>
+    requires fits { Fits (checked_term engine.now) (at (tree_term live.old.tree) (map value_term store.old.list)) }
+    requires live { IsLive (checked_term engine.now) budget (map value_term store.old.list) live.old }
+    ensures store { store.new ≡ store.old }
+    ensures tree { live.new.tree ≡ live.old.tree }
+    ensures quiet { live.new.quiet ≡ live.old.quiet }
+    ensures live { IsLive (checked_term engine.now) budget (map value_term store.old.list) live.new }
+    ensures widgets { IfOk result (λ ws. AreWidgets (checked_term engine.now) budget (tree_term live.old.tree) (map value_term store.old.list)
+        (map widget_term ws.list)) }
+    ensures drawn { OnOk result (IsSome live.new.rows) }
+    ensures steps { OnOk result (steps.new ≤ steps.old + most_steps (is_some live.old.rows) (tree_term live.old.tree)) }
+{
+    live.draw(engine, store, budget, steps)?;
+    live.widgets(alloc, store)
 }

@@ -1,18 +1,19 @@
-ghost use Rattle.std.specs.Prelude.{◌≡◌, ◌+◌, ◌*◌, ◌≤◌, ℕ, [], ◌∷◌, IfErr, IfOk, IsSome, None, OnOk, Some, slice_get, true};
+ghost use Rattle.std.specs.Prelude.{◌≡◌, ◌+◌, ◌*◌, ◌≤◌, ℕ, [], ◌∷◌, IfErr, IfOk, IsSome, None, OnOk, Some, map, slice_get, true};
 ghost use Rattle.std.specs.Option.{option_map};
 ghost use Rattle.task_model.specs.Terms.Tree.{tree_term, State};
 ghost use Rattle.task_model.specs.Terms.Input.{input_term};
 ghost use Rattle.task_model.specs.Terms.Item.{opened, history_term};
 ghost use Rattle.task_model.specs.Running.Checked.{checked_term};
-ghost use Rattle.task_model.specs.Running.State.{IsOpening, IsState, IsLegal, IsPage, IsSeat, IsBudget, version_of};
+ghost use Rattle.task_model.specs.Showing.Widget.{widget_term};
+ghost use Rattle.task_model.specs.Running.State.{HasWidgets, IsOpening, IsState, IsLegal, IsPage, IsSeat, IsBudget, version_of};
 ghost use Rattle.kept_nodes.specs.Kept.{IsRedrawn};
 ghost use Rattle.node_rows.specs.TreeNodes.{tree_nodes};
 ghost use Rattle.live_tree.specs.Live.{most_steps};
-ghost use Rattle.world_core.specs.Pages.{AreFragments, AreNextFragments, IsNextVersion, IsWorldPage, next_most_steps};
+ghost use Rattle.world_core.specs.Pages.{AreFragments, AreNextFragments, AreWorldWidgets, IsNextVersion, IsWorldPage, next_most_steps};
 ghost use Rattle.world_core.specs.World.{NextTerm, world_term, drawn_as, IsStanding, LeadsOn, Prepares, Commits, at_rest};
 
 use crate::answers::{OpenStop, Taken};
-use crate::drawing::{Framing, drawn_fragments, drawn_page, next_drawn_fragments};
+use crate::drawing::{Framing, drawn_fragments, drawn_page, drawn_widgets, next_drawn_fragments};
 use crate::opening::{opened_history, opened_tree};
 use crate::prepared::Prepared;
 use html_pages::{Fragments, Page};
@@ -23,7 +24,7 @@ use std::marker::Model;
 use std::sync::ledger::Ledger;
 use task_evaluation::Engine;
 use task_model::{
-    ActStop, Checked, Entry, Face, Input, Item, OutOfMemory, Row, Steps, Tree, Value,
+    ActStop, Checked, Entry, Face, Input, Item, OutOfMemory, Row, Steps, Tree, Value, Widget,
 };
 
 /// The parts of a world.
@@ -221,6 +222,32 @@ impl WorldParts {
         ensures steps { OnOk result (steps.new ≤ steps.old + most_steps self.old.drawn (tree_term self.old.tree)) }
     {
         drawn_fragments(
+            alloc,
+            &self.engine,
+            &mut self.live,
+            &mut self.store,
+            self.budget,
+            steps,
+        )
+    }
+
+    /// The widgets of the present state, in pre-order, where nothing is prepared, as `fragments` makes and keeps its table. The world stays, but
+    /// that its state was drawn.
+    pub(crate) fn widgets<L: Ledger>(
+        &mut self,
+        alloc: Global,
+        steps: &mut Steps<L>,
+    ) -> Result<Row<Widget>, OutOfMemory>
+        requires rest { self.old.next ≡ None }
+        ensures world { self.new ≡ drawn_as self.new.drawn self.old.next_drawn self.old }
+        ensures made { OnOk result (self.new.drawn ≡ true) }
+        ensures widgets { IfOk result (λ ws. AreWorldWidgets (world_term self.old) (map widget_term ws.list)) }
+        ensures legal { IfOk result (λ ws. HasWidgets (history_term self.old.history) (map widget_term ws.list)) }
+        ensures steps { OnOk result (steps.new ≤ steps.old + most_steps self.old.drawn (tree_term self.old.tree)) }
+    {
+        // The history is legal.
+        let _legal = self.history();
+        drawn_widgets(
             alloc,
             &self.engine,
             &mut self.live,

@@ -1,14 +1,15 @@
-ghost use Rattle.std.specs.Prelude.{◌≡◌, ◌+◌, ◌*◌, ◌≤◌, ℕ, [], ◌∷◌, IfErr, IfOk, IsSome, None, OnOk, Some, slice_get, false, true};
+ghost use Rattle.std.specs.Prelude.{◌≡◌, ◌+◌, ◌*◌, ◌≤◌, ℕ, [], ◌∷◌, IfErr, IfOk, IsSome, None, OnOk, Some, map, slice_get, false, true};
 ghost use Rattle.std.specs.Option.{option_map};
 ghost use Rattle.task_model.specs.Terms.Tree.{tree_term, State};
 ghost use Rattle.task_model.specs.Terms.Input.{input_term};
 ghost use Rattle.task_model.specs.Terms.Item.{opened, history_term};
 ghost use Rattle.task_model.specs.Running.Checked.{checked_term};
-ghost use Rattle.task_model.specs.Running.State.{IsOpening, IsState, IsLegal, IsPage, IsSeat, IsBudget, version_of};
+ghost use Rattle.task_model.specs.Showing.Widget.{widget_term};
+ghost use Rattle.task_model.specs.Running.State.{HasWidgets, IsOpening, IsState, IsLegal, IsPage, IsSeat, IsBudget, version_of};
 ghost use Rattle.kept_nodes.specs.Kept.{IsRedrawn};
 ghost use Rattle.node_rows.specs.TreeNodes.{tree_nodes};
 ghost use Rattle.live_tree.specs.Live.{most_steps};
-ghost use Rattle.world_core.specs.Pages.{AreFragments, AreNextFragments, IsNextVersion, IsWorldPage, next_most_steps};
+ghost use Rattle.world_core.specs.Pages.{AreFragments, AreNextFragments, AreWorldWidgets, IsNextVersion, IsWorldPage, next_most_steps};
 ghost use Rattle.world_core.specs.World.{NextTerm, world_term, drawn_as, IsStanding, LeadsOn, Prepares, Commits, Replies, at_rest};
 
 use crate::answers::{OpenStop, Taken};
@@ -17,7 +18,9 @@ use html_pages::{Fragments, Page};
 use std::alloc::Global;
 use std::marker::Model;
 use std::sync::ledger::Ledger;
-use task_model::{ActStop, Checked, Face, Input, Item, OutOfMemory, Steps, Tree, Value, boxed};
+use task_model::{
+    ActStop, Checked, Face, Input, Item, OutOfMemory, Row, Steps, Tree, Value, Widget, boxed,
+};
 
 /// A program that was opened: the history of what was taken, the state that it leads to, and what is prepared to follow
 /// (docs/RULES.md, "Histories"). Its parts are in a box, so that it is cheap to move and to let go.
@@ -208,6 +211,23 @@ impl World {
         ensures steps { OnOk result (steps.new ≤ steps.old + most_steps self.old.drawn (tree_term self.old.tree)) }
     {
         self.parts.fragments(alloc, steps)
+    }
+
+    /// The widgets of the present state, in pre-order, where nothing is prepared (docs/RULES.md, "Interfaces"). Their table is made where
+    /// it is first asked for, as for `fragments`, and kept. The world stays, but that its state was drawn.
+    pub fn widgets<L: Ledger>(
+        &mut self,
+        alloc: Global,
+        steps: &mut Steps<L>,
+    ) -> Result<Row<Widget>, OutOfMemory>
+        requires rest { self.old.next ≡ None }
+        ensures world { self.new ≡ drawn_as self.new.drawn self.old.next_drawn self.old }
+        ensures made { OnOk result (self.new.drawn ≡ true) }
+        ensures widgets { IfOk result (λ ws. AreWorldWidgets (world_term self.old) (map widget_term ws.list)) }
+        ensures legal { IfOk result (λ ws. HasWidgets (history_term self.old.history) (map widget_term ws.list)) }
+        ensures steps { OnOk result (steps.new ≤ steps.old + most_steps self.old.drawn (tree_term self.old.tree)) }
+    {
+        self.parts.widgets(alloc, steps)
     }
 
     /// What is drawn of the prepared state, as for the present one. Where that was drawn the rows of kept nodes are taken over, and no more

@@ -1,39 +1,16 @@
-use Rattle.std.proofs.Common.{Err, sym, subst}
-use Rattle.std.proofs.lemmas.Result.{IfOk-weaker}
-use Rattle.task_model.specs.Terms.Text.{Text}
+use Rattle.std.proofs.Common.{subst}
+use Rattle.std.specs.Prelude.{IfOk}
 use Rattle.task_model.specs.Terms.Input.{entry_term}
-use Rattle.world_core.specs.World.{world_term, Replies}
 use Rattle.input_lines.specs.ScriptLines.{gives}
+use Rattle.world_core.specs.World.{world_term}
 use Rattle.tophat.specs.Session.{Answers}
-use Rattle.tophat.proofs.SessionLemmas.{taken_answers, refused_answers, over_answers}
+use Rattle.tophat.specs.declared.line_form.LineForm.{LineForm}
 use Rattle.tophat.proofs.runner.Runner.give.Goals as goal
 
-pub returns-in-Ok : goal.returns-in-Ok
-returns-in-Ok g c =
+pub returns-clause-answers : goal.returns-clause-answers
+returns-clause-answers g c =
     let w = world_term c.args.self.now.world in
     let e = entry_term c.args.entry in
-    let new = world_term c.handle.new.self.world in
-    IfOk-weaker c.taken_text.result _ (λ text. Answers w (gives e) text.list new)
-    (λ text is. subst (λ (z : Text). Answers w (gives e) z new) (sym is) (taken_answers w e new c.in-Ok.taken c.in-Ok.ensures))
-    c.taken_text.ensures
-
-pub returns-in-Err-NotOffered : goal.returns-in-Err-NotOffered
-returns-in-Err-NotOffered g c =
-    let w = world_term c.args.self.now.world in
-    let e = entry_term c.args.entry in
-    let new = world_term c.handle.new.self.world in
-    IfOk-weaker c.row_of.result _ (λ text. Answers w (gives e) text.list new)
-    (λ text is. subst (λ (z : Text). Answers w (gives e) z new) (sym is)
-    (refused_answers w e new (subst (λ stop. Replies w e new (Err stop)) c.in-Err-NotOffered.field-0-is
-    c.in-Err-NotOffered.ensures)))
-    c.row_of.ensures
-
-pub returns-in-Err-Over : goal.returns-in-Err-Over
-returns-in-Err-Over g c =
-    let w = world_term c.args.self.now.world in
-    let e = entry_term c.args.entry in
-    let new = world_term c.handle.new.self.world in
-    IfOk-weaker c.row_of-in-Err-Over.result _ (λ text. Answers w (gives e) text.list new)
-    (λ text is. subst (λ (z : Text). Answers w (gives e) z new) (sym is)
-    (over_answers w e new (subst (λ stop. Replies w e new (Err stop)) c.in-Err-Over.field-0-is c.in-Err-Over.ensures)))
-    c.row_of-in-Err-Over.ensures
+    let new = world_term c.handle-reply.new.self.world in
+    subst (λ (f : LineForm). IfOk c.reply_text.result (λ text. Answers f w (gives e) text.list new)) c.handle-reply.ensures.form
+    (c.reply_text.ensures w e new c.handle-reply.ensures.replies c.version.ensures)

@@ -1,0 +1,12 @@
+pub mod DataParts
+pub mod ValueLemmas
+pub mod PartLemmas
+pub mod LineLemmas
+pub mod PageLemmas
+pub mod KindLemmas
+pub mod ReturnLemmas
+pub mod AskedLemmas
+pub mod WidgetLemmas
+pub mod ValueDecisions
+pub mod LineDecisions
+pub mod OnePage

@@ -1,0 +1,20 @@
+-- What lines ask for leads to the same world in each form.
+use Rattle.std.specs.Prelude.{◌≡◌, List, [], ◌∷◌}
+use Rattle.task_model.specs.Terms.Text.{Text}
+use Rattle.world_core.specs.World.{WorldTerm}
+use Rattle.input_lines.specs.ScriptLines.{LineTerm}
+use Rattle.tophat.specs.declared.line_form.LineForm.{LineForm}
+use Rattle.tophat.specs.LineForms.{Asking}
+use Rattle.tophat.specs.Session.{Answers}
+
+-- these lines ask for this, one by one
+abbrev pub AskFor : LineForm → List Text → List LineTerm → Type 0
+AskFor form [] [] = Unit {0}
+AskFor form [] (asked ∷ more) = ⊥
+AskFor form (line ∷ lines) [] = ⊥
+AskFor form (line ∷ lines) (asked ∷ more) = Asking form line asked × AskFor form lines more
+
+-- what is asked for leads from a world to this one, where each is answered in this form
+abbrev pub LeadsTo : LineForm → WorldTerm → List LineTerm → WorldTerm → Type 0
+LeadsTo form w [] v = v ≡ w
+LeadsTo form w (asked ∷ more) v = (text : Text) × (next : WorldTerm) × Answers form w asked text next × LeadsTo form next more v
