@@ -1,0 +1,6 @@
+pub mod SumLemmas
+pub mod ListLemmas
+pub mod MarkLemmas
+pub mod RiseLemmas
+pub mod LeastLemmas
+pub mod RankLemmas
