@@ -151,7 +151,7 @@ pub climbs_more : (p : ProgramTerm) (count : ℕ) (old new : List Figures) → C
 climbs_more p count old new so_far long below = record { long = long ∙ so_far.long; below = below so_far.below }
 
 pub climbs_least : (p : ProgramTerm) (count : ℕ) (fs : List Figures) → Climbs p count fs → Holds p (figures_at fs) → IsLeast p (figures_at fs)
-climbs_least p count fs so_far holds = record { holds = holds; least = λ other h n within. so_far.below other h n }
+climbs_least p count fs so_far holds = record { holds = holds; least = λ other h n. so_far.below other h n }
 
 -- each text comes to what the figures have
 pub comes_all : (p : ProgramTerm) (fs : List Figures) → ((n : ℕ) → n < length (texts_of p) → ComesTo p fs n) → Holds p (figures_at fs)

@@ -4,3 +4,5 @@ pub mod MarkLemmas
 pub mod RiseLemmas
 pub mod LeastLemmas
 pub mod RankLemmas
+pub mod CapLemmas
+pub mod ExistLemmas

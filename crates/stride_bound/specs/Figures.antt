@@ -124,7 +124,7 @@ module _ (p : ProgramTerm) where
   -- it is the least one that has
   pub record IsLeast (table : ℕ → Figures) : Type 0 where
     pub holds : Holds table
-    pub least : (other : ℕ → Figures) → Holds other → (n : ℕ) → n < length (texts_of p) → AtMost (table n) (other n)
+    pub least : (other : ℕ → Figures) → Holds other → (n : ℕ) → AtMost (table n) (other n)
 
 -- the call of `main`: evaluating it costs a unit and a rule more than its body
 abbrev pub main_call : Figures → Figures

@@ -5,6 +5,7 @@ mod bounding;
 mod bounds;
 mod expressions;
 mod figures;
+mod laws;
 mod links;
 mod orders;
 mod pieces;
@@ -15,4 +16,5 @@ mod table;
 mod tasks;
 
 pub use bounding::bound;
+pub use laws::one_bound;
 pub use bounds::Bound;
