@@ -14,4 +14,6 @@ pub enum Command {
     Drill { seats: u8, each: u32 },
     /// The program in this file is served with these numbers.
     Serve { file: TaskText, serving: ServeWords },
+    /// The bound of the program in this file is told.
+    Bound { file: TaskText },
 }

@@ -5,7 +5,7 @@ ghost use Rattle.clap.specs.Walk.{texts};
 ghost use Rattle.command_words.specs.Commands.{IsAsked, IsInRange, command_of, command_term};
 
 use crate::command::Command;
-use crate::reading::{check, drill, run, serve, soak};
+use crate::reading::{bound, check, drill, run, serve, soak};
 use crate::stop::WordStop;
 use std::alloc::Global;
 use task_model::TaskText;
@@ -42,6 +42,7 @@ fn by_name(alloc: Global, name: &str, words: &[&str]) -> Result<Command, WordSto
         "soak" => soak(alloc, words),
         "drill" => drill(alloc, words),
         "serve" => serve(alloc, words),
+        "bound" => bound(alloc, words),
         _ => Err(WordStop::Outside),
     }
 }
