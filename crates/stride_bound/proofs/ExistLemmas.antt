@@ -28,7 +28,7 @@ pub until_done : {S : Type 0} (P Q : S → Type 0) (left : S → ℕ)
     → ((s : S) → P s → Q s ⊎ ((t : S) × P t × (left t < left s))) → (k : ℕ) (s : S) → left s < k → P s → (t : S) × P t × Q t
 until_done P Q left go zero s lt p = absurd (omega (arith, lt))
 until_done P Q left go (suc k) s lt p = elim (go s p) [
-  inl done ↦ (s, p, done)
+  | inl done ↦ (s, p, done)
   | inr (t, more, less) ↦ until_done P Q left go k t (omega (arith, lt, less)) more
 ]
 
@@ -46,7 +46,7 @@ all_or_one P N each (suc n) = go (all_or_one P N each n) (each n)
     go (inr (k, lt, bad)) last = inr (k, omega (arith, lt), bad)
     go (inl before) (inr bad) = inr (n, omega arith, bad)
     go (inl before) (inl good) = inl (λ k lt. elim (same_or_not k n) [
-      inl this ↦ subst P (sym this) good
+      | inl this ↦ subst P (sym this) good
       | inr other ↦ before k (omega (arith, lt, other))
     ])
 
@@ -102,7 +102,7 @@ leads_or_not links s t =
     let count = suc (s + c.0) in
     let first = set (replicate count false) s true in
     let done = until_done (Reaches links count s) (IsClosed links) unmarked (step count (wider c.0 c.1)) (suc (unmarked first)) first
-      (omega arith) (reaches_first links count s (replicate count false) (omega arith) refl) in
+    (omega arith) (reaches_first links count s (replicate count false) (omega arith) refl) in
     by_mark done.0 done.1 done.2 (mark_at done.0 t) refl
   where
     wider : (c : ℕ) → AreWithin c links → AreWithin (suc (s + c)) links
@@ -111,12 +111,14 @@ leads_or_not links s t =
     step : (count : ℕ) → AreWithin count links → (ms : List Bool) → Reaches links count s ms
         → IsClosed links ms ⊎ ((ns : List Bool) × Reaches links count s ns × (unmarked ns < unmarked ms))
     step count inside ms r = elim (all_or_one (IsShut links ms) (IsOpen links ms) (shut_or_open links ms) (length links)) [
-      inl shut ↦ inl (λ i l is. shut i (slice_get_within links i l is) l is)
+      | inl shut ↦ inl (λ i l is. shut i (slice_get_within links i l is) l is)
       | inr (k, lt, found) ↦
-        let within = subst (λ n. found.link.to < n) (sym r.long) (inside k found.link found.is).1 in
-        inr (set ms found.link.to true,
-          reaches_along links count s k found.link ms (set ms found.link.to true) r found.is within found.from refl,
-          mark_one_less ms found.link.to within found.to)
+          let within = subst (λ n. found.link.to < n) (sym r.long) (inside k found.link found.is).1 in
+          inr (
+            set ms found.link.to true,
+            reaches_along links count s k found.link ms (set ms found.link.to true) r found.is within found.from refl,
+            mark_one_less ms found.link.to within found.to,
+          )
     ]
 
     by_mark : {count : ℕ} (ms : List Bool) → Reaches links count s ms → IsClosed links ms → (b : Bool) → mark_at ms t ≡ b
@@ -127,7 +129,7 @@ leads_or_not links s t =
 -- some tight link leads back or none does
 pub leads_back_or_not : (links : List Link) → LeadsBack links ⊎ (LeadsBack links → ⊥)
 leads_back_or_not links = elim (all_or_one Stays Returns each (length links)) [
-  inl stays ↦ inr (λ h. stays h.number (slice_get_within links h.number h.link h.is) h.link h.is h.tight h.back)
+  | inl stays ↦ inr (λ h. stays h.number (slice_get_within links h.number h.link h.is) h.link h.is h.tight h.back)
   | inr (k, lt, back) ↦ inl (record { number = k; link = back.0; is = back.1; tight = back.2; back = back.3 })
 ]
   where
@@ -300,16 +302,20 @@ module _ (p : ProgramTerm) where
   table_step : (fs : List Figures) → Climbs p (length (texts_of p)) fs
       → Holds p (figures_at fs) ⊎ ((gs : List Figures) × Climbs p (length (texts_of p)) gs × (room gs < room fs))
   table_step fs r = elim (all_or_one (ComesTo p fs) (Rises fs) (comes_or_rises fs) (length (texts_of p))) [
-    inl comes ↦ inl (λ n w is. comes n (slice_get_within (texts_of p) n w is) w is)
+    | inl comes ↦ inl (λ n w is. comes n (slice_get_within (texts_of p) n w is) w is)
     | inr (n, lt, rise) ↦
-      let known = figures_at fs n in
-      let found = text_figures (tables_of p (figures_at fs)) rise.0 in
-      let within = subst (λ k. n < k) (sym r.long) lt in
-      inr (set fs n (greater known found), record {
-        long = length-set fs n (greater known found) ∙ r.long;
-        below = raised_below p fs n rise.0 known found rise.1 within refl refl r.below;
-      }, set_less fs n known (greater known found) within refl
-        (room_less known found (text_cap _ (below_capped fs r.below) rise.0) rise.2))
+        let known = figures_at fs n in
+        let found = text_figures (tables_of p (figures_at fs)) rise.0 in
+        let within = subst (λ k. n < k) (sym r.long) lt in
+        inr (
+          set fs n (greater known found),
+          record {
+            long = length-set fs n (greater known found) ∙ r.long;
+            below = raised_below p fs n rise.0 known found rise.1 within refl refl r.below;
+          },
+          set_less fs n known (greater known found) within refl
+              (room_less known found (text_cap _ (below_capped fs r.below) rise.0) rise.2),
+        )
   ]
     where
       set_less : (fs : List Figures) (n : ℕ) (old new : Figures) → n < length fs → old ≡ figures_at fs n → room_of new < room_of old
@@ -324,18 +330,21 @@ module _ (p : ProgramTerm) where
   least_table =
       let first = replicate (length (texts_of p)) nothing in
       let done = until_done (Climbs p (length (texts_of p))) (λ fs. Holds p (figures_at fs)) room table_step (suc (room first)) first (omega arith)
-        (climbs_first p (length (texts_of p)) first refl) in
+      (climbs_first p (length (texts_of p)) first refl) in
       (done.0, climbs_least p (length (texts_of p)) done.0 done.1 done.2)
 
   pub bound_exists : (found : Option Bound) × IsBound p found
   bound_exists = elim (leads_back_or_not (links_of p)) [
-    inl back ↦ (None, back)
-    | inr loose ↦ (Some (program_bound p (figures_at least_table.0)), record {
-      loose = loose;
-      table = figures_at least_table.0;
-      least = least_table.1;
-      is = refl;
-    })
+    | inl back ↦ (None, back)
+    | inr loose ↦ (
+      Some (program_bound p (figures_at least_table.0)),
+      record {
+        loose = loose;
+        table = figures_at least_table.0;
+        least = least_table.1;
+        is = refl;
+      },
+    )
   ]
 
 -- ---- one bound

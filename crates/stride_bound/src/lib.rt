@@ -16,5 +16,5 @@ mod table;
 mod tasks;
 
 pub use bounding::bound;
-pub use laws::one_bound;
 pub use bounds::Bound;
+pub use laws::one_bound;

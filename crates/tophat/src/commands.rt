@@ -18,7 +18,8 @@ use task_model::TaskText;
 /// the status. It always returns.
 ///
 /// `run FILE` reads the program in FILE, opens it, and runs the script on the input; `check FILE` writes the program's text again;
-/// `soak N SEED` runs inputs of its own (docs/FORMATS.md, "Words" and "Statuses"). A fault of `err` changes no status.
+/// `soak N SEED` runs inputs of its own; `bound FILE` writes what the program costs at most (docs/FORMATS.md, "Words" and "Statuses"). A
+/// fault of `err` changes no status.
 /// Where the words ask for a `drill` or to `serve`, nothing is answered: whoever has threads and sockets does that.
 pub fn plain<F: Files, I: Source, O: Sink, E: Sink>(
     alloc: Global,
@@ -61,6 +62,7 @@ fn is_plain(asked: &Result<Command, WordStop>) -> bool
         Ok(Command::Soak { .. }) => true,
         Ok(Command::Drill { .. }) => false,
         Ok(Command::Serve { .. }) => false,
+        Ok(Command::Bound { .. }) => true,
         Err(_) => true,
     }
 }
