@@ -7,7 +7,7 @@ use Rattle.std.proofs.lemmas.Bool.Decides.{nat_tests}
 use Rattle.task_model.specs.Terms.Text.{Text}
 use Rattle.command_words.specs.WordReading.{Use, read}
 use Rattle.command_words.specs.WordNumbers.{is_number, number_at, number_in, number_or}
-use Rattle.command_words.specs.Commands.{CommandTerm, IsAsked, IsInRange, Values, budget_in, check_in, check_with, command_of, command_term, connections_in, drill_in, drill_arguments, drill_with, file_argument, json_in, json_with, looked_up, port_in, run_in, run_options, run_with, seats_in, serve_in, serve_options, serve_with, serving_with, soak_in, soak_arguments, soak_with, usual_budget, workers_in}
+use Rattle.command_words.specs.Commands.{CommandTerm, IsAsked, IsInRange, Values, budget_in, check_in, check_with, command_of, command_term, connections_in, drill_in, drill_arguments, drill_with, file_argument, json_in, json_with, looked_up, port_in, run_in, run_options, run_with, seats_in, serve_in, serve_options, serve_with, serving_with, soak_in, soak_arguments, soak_with, usual_budget, workers_in, bound_in, bound_with}
 use Rattle.command_words.specs.declared.command.Command.{Command}
 use Rattle.command_words.specs.declared.stop.WordStop.{WordStop}
 
@@ -96,6 +96,12 @@ run_found o = looked run_in o (λ v. run_range (v (codes "FILE")) (budget_in v)
 json_found : (o : Option (List Use)) → AreInRange (looked_up json_in o)
 json_found o = looked json_in o (λ v. json_range (v (codes "FILE")) (budget_in v)
     (or_between usual_budget 1 1000000 (v (codes "budget")) (omega arith) (omega arith)))
+bound_range : (file : Option Text) → AreInRange (bound_with file)
+bound_range None = tt
+bound_range (Some file) = tt
+
+bound_found : (o : Option (List Use)) → AreInRange (looked_up bound_in o)
+bound_found o = looked bound_in o (λ v. bound_range (v (codes "FILE")))
 
 check_found : (o : Option (List Use)) → AreInRange (looked_up check_in o)
 check_found o = looked check_in o (λ v. check_range (v (codes "FILE")))
@@ -120,7 +126,7 @@ serve_found o = looked serve_in o (λ v. serve_range (v (codes "FILE"))
 in_range : (words : List Text) → AreInRange (command_of words)
 in_range [] = tt
 in_range (name ∷ words) = go (bytes_eq name (codes "run")) (bytes_eq name (codes "check")) (bytes_eq name (codes "soak"))
-    (bytes_eq name (codes "drill")) (bytes_eq name (codes "serve")) (bytes_eq name (codes "json"))
+    (bytes_eq name (codes "drill")) (bytes_eq name (codes "serve")) (bytes_eq name (codes "json")) (bytes_eq name (codes "bound"))
   where
     ran : Option CommandTerm
     ran = looked_up run_in (read words file_argument run_options None)
@@ -140,15 +146,19 @@ in_range (name ∷ words) = go (bytes_eq name (codes "run")) (bytes_eq name (cod
     in_json : Option CommandTerm
     in_json = looked_up json_in (read words file_argument run_options None)
 
-    go : (a b c d e f : Bool)
-        → AreInRange (cond a ran (cond b checked (cond c soaked (cond d drilled (cond e served (cond f in_json None))))))
-    go true b c d e f = run_found (read words file_argument run_options None)
-    go false true c d e f = check_found (read words file_argument [] None)
-    go false false true d e f = soak_found (read words soak_arguments [] None)
-    go false false false true e f = drill_found (read words drill_arguments [] None)
-    go false false false false true f = serve_found (read words file_argument serve_options None)
-    go false false false false false true = json_found (read words file_argument run_options None)
-    go false false false false false false = tt
+    bounded : Option CommandTerm
+    bounded = looked_up bound_in (read words file_argument [] None)
+
+    go : (a b c d e f g : Bool)
+        → AreInRange (cond a ran (cond b checked (cond c soaked (cond d drilled (cond e served (cond f in_json (cond g bounded None)))))))
+    go true b c d e f g = run_found (read words file_argument run_options None)
+    go false true c d e f g = check_found (read words file_argument [] None)
+    go false false true d e f g = soak_found (read words soak_arguments [] None)
+    go false false false true e f g = drill_found (read words drill_arguments [] None)
+    go false false false false true f g = serve_found (read words file_argument serve_options None)
+    go false false false false false true g = json_found (read words file_argument run_options None)
+    go false false false false false false true = bound_found (read words file_argument [] None)
+    go false false false false false false false = tt
 
 pub asked_in_range : (words : List Text) (r : Result Command WordStop) → IsAsked (command_of words) r
     → IfOk r (λ command. IsInRange (command_term command))

@@ -43,6 +43,8 @@ pub data CommandTerm : Type 0 where
   serve : Text → ServeTerm → CommandTerm
   -- as `run`, with the lines of the script and the answers as JSON
   json : Text → ℕ → CommandTerm
+  -- the bound of the program in the file of this name is told
+  bound : Text → CommandTerm
 
 -- a command of the code as such a term
 abbrev pub command_term : Command → CommandTerm
@@ -52,6 +54,7 @@ command_term (commands.Soak count seed) = soak count seed
 command_term (commands.Drill seats each) = drill seats each
 command_term (commands.Serve file serving) = serve file (serve_term serving)
 command_term (commands.Json file budget) = json file budget
+command_term (commands.Bound file) = bound file
 
 -- the value of each argument and option, by its name
 abbrev pub Values : Type 0
@@ -172,9 +175,20 @@ json_with (Some file) (Some budget) = Some (json file budget)
 abbrev pub json_in : Values → Option CommandTerm
 json_in value = json_with (value (codes "FILE")) (budget_in value)
 
+-- ---- bound FILE
+
+-- a bound needs a file
+abbrev pub bound_with : Option Text → Option CommandTerm
+bound_with None = None
+bound_with (Some file) = Some (bound file)
+
+-- the bound of the file that is named
+abbrev pub bound_in : Values → Option CommandTerm
+bound_in value = bound_with (value (codes "FILE"))
+
 -- ---- all
 
--- the argument of `run`, `check`, `serve` and `json`
+-- the argument of `run`, `check`, `serve`, `json` and `bound`
 abbrev pub file_argument : List Text
 file_argument = codes "FILE" ∷ []
 
@@ -204,7 +218,8 @@ command_of (name ∷ words) =
     else (if bytes_eq name (codes "drill") then looked_up drill_in (read words drill_arguments [] None)
     else (if bytes_eq name (codes "serve") then looked_up serve_in (read words file_argument serve_options None)
     else (if bytes_eq name (codes "json") then looked_up json_in (read words file_argument run_options None)
-    else None)))))
+    else (if bytes_eq name (codes "bound") then looked_up bound_in (read words file_argument [] None)
+    else None))))))
 
 -- the numbers of `serve` are within their ranges
 pub record AreServeNumbers (serving : ServeTerm) : Type 0 where
@@ -222,6 +237,7 @@ IsInRange (soak count seed) = (1 ≤ count) × (count ≤ 100000)
 IsInRange (drill seats each) = IsSeat seats × ((1 ≤ each) × (each ≤ 10000))
 IsInRange (serve file serving) = AreServeNumbers serving
 IsInRange (json file budget) = IsBudget budget
+IsInRange (bound file) = Unit {0}
 
 -- what is asked for is answered, nothing is asked for and the words are outside, or memory ran out
 abbrev pub IsAsked : Option CommandTerm → Result Command WordStop → Type 0

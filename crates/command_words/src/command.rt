@@ -16,4 +16,6 @@ pub enum Command {
     Serve { file: TaskText, serving: ServeWords },
     /// As `Run`, with the lines of the script and the answers as JSON.
     Json { file: TaskText, budget: u32 },
+    /// The bound of the program in this file is told.
+    Bound { file: TaskText },
 }

@@ -3,7 +3,7 @@ ghost use Rattle.std.specs.List.{All};
 ghost use Rattle.std.specs.Str.{IsUtf8};
 ghost use Rattle.clap.specs.Matches.{first_value, found_of};
 ghost use Rattle.clap.specs.Walk.{texts};
-ghost use Rattle.command_words.specs.Commands.{AreAsked, IsAsked, budget_in, check_in, drill_in, drill_arguments, file_argument, json_in, looked_up, run_in, run_options, serve_in, serve_options, serving_in, soak_in, soak_arguments};
+ghost use Rattle.command_words.specs.Commands.{AreAsked, IsAsked, budget_in, check_in, drill_in, drill_arguments, file_argument, json_in, looked_up, run_in, run_options, serve_in, serve_options, serving_in, soak_in, soak_arguments, bound_in};
 ghost use Rattle.command_words.specs.WordNumbers.{number_at, number_or};
 ghost use Rattle.command_words.specs.WordReading.{read};
 ghost use Rattle.command_words.specs.CommandTables.{IsReadAs};
@@ -84,6 +84,17 @@ pub(crate) fn serve(alloc: Global, words: &[&str]) -> Result<Command, WordStop>
     }
 }
 
+/// `bound FILE`.
+pub(crate) fn bound(alloc: Global, words: &[&str]) -> Result<Command, WordStop>
+    requires { All (λ w. IsUtf8 w.now) words.now }
+    ensures { IsAsked (looked_up bound_in (read (texts words.now) file_argument [] None)) result }
+{
+    match matches(alloc, &["FILE"], &[], words) {
+        Ok(found) => bound_found(alloc, &found),
+        Err(stop) => Err(stop),
+    }
+}
+
 // The most inputs of a soak.
 const INPUT_LIMIT: u64 = 100_000;
 
@@ -154,6 +165,13 @@ fn serve_found(alloc: Global, found: &ArgMatches<'_>) -> Result<Command, WordSto
     let file = text_found(alloc, found, "FILE")?;
     let serving = serving_found(found)?;
     Ok(Command::Serve { file, serving })
+}
+
+fn bound_found(alloc: Global, found: &ArgMatches<'_>) -> Result<Command, WordStop>
+    ensures { IsAsked (bound_in (first_value (found_of found.now))) result }
+{
+    let file = text_found(alloc, found, "FILE")?;
+    Ok(Command::Bound { file })
 }
 
 // The numbers of `serve`.

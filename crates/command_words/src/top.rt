@@ -5,7 +5,7 @@ ghost use Rattle.clap.specs.Walk.{texts};
 ghost use Rattle.command_words.specs.Commands.{IsAsked, IsInRange, command_of, command_term};
 
 use crate::command::Command;
-use crate::reading::{check, drill, json, run, serve, soak};
+use crate::reading::{check, drill, json, run, serve, soak, bound};
 use crate::stop::WordStop;
 use std::alloc::Global;
 use task_model::TaskText;
@@ -43,6 +43,7 @@ fn by_name(alloc: Global, name: &str, words: &[&str]) -> Result<Command, WordSto
         "drill" => drill(alloc, words),
         "serve" => serve(alloc, words),
         "json" => json(alloc, words),
+        "bound" => bound(alloc, words),
         _ => Err(WordStop::Outside),
     }
 }

@@ -10,7 +10,7 @@ use Rattle.line_frame.specs.Script.{TellsScript, cut_of, all_lines, lines_in, en
 use Rattle.line_frame.proofs.ScriptLemmas.{is_within, end_all}
 use Rattle.line_frame.specs.declared.finish.Finish.{Finish}
 use Rattle.line_frame.specs.declared.finish.Finish.TheVariants.{Done}
-use Rattle.command_words.specs.Commands.{CommandTerm, run, check, soak, drill, serve, json}
+use Rattle.command_words.specs.Commands.{CommandTerm, run, check, soak, drill, serve, json, bound}
 use Rattle.tophat.specs.declared.ending.CommandEnding.TheVariants.{Ran}
 use Rattle.tophat.specs.Ending.{status_of}
 use Rattle.tophat.specs.Verdict.{accepted}
@@ -98,6 +98,7 @@ completes (Some (check name)) holds left taken now failed status p five six = tt
 completes (Some (soak count seed)) holds left taken now failed status p five six = tt
 completes (Some (drill seats each)) holds left taken now failed status p five six = tt
 completes (Some (serve name serving)) holds left taken now failed status p five six = tt
+completes (Some (bound name)) holds left taken now failed status p five six = tt
 completes (Some (run name budget)) None left taken now failed status p five six = tt
 completes (Some (run name budget)) (Some None) left taken now failed status p five six = tt
 completes (Some (run name budget)) (Some (Some bytes)) None taken now failed status p five six = tt

@@ -164,4 +164,5 @@ needs_more (Ok (commands.Soak count seed)) command g h = absurd (h (λ more. mor
 needs_more (Ok (commands.Drill seats each)) command g h = subst NeedsMore (sym g) tt
 needs_more (Ok (commands.Serve file serving)) command g h = subst NeedsMore (sym g) tt
 needs_more (Ok (commands.Json file budget)) command g h = absurd (h (λ more. more))
+needs_more (Ok (commands.Bound file)) command g h = absurd (h (λ more. more))
 needs_more (Err stop) command g h = absurd (h tt)

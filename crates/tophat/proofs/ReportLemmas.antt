@@ -7,7 +7,7 @@ use Rattle.world_core.specs.World.{WorldTerm}
 use Rattle.line_frame.specs.Told.{Told}
 use Rattle.line_frame.specs.Script.{TellsScript}
 use Rattle.line_frame.specs.declared.finish.Finish.{Finish}
-use Rattle.command_words.specs.Commands.{CommandTerm, run, check, soak, drill, serve, json}
+use Rattle.command_words.specs.Commands.{CommandTerm, run, check, soak, drill, serve, json, bound}
 use Rattle.tophat.specs.declared.ending.CommandEnding.TheVariants.{Usage, Absent, FileTooLong, Unopened}
 use Rattle.tophat.specs.declared.no_world.NoWorld.TheVariants.{Refused, OverBudget}
 use Rattle.tophat.specs.Verdict.{Verdict, accepted, refused}
@@ -15,7 +15,8 @@ use Rattle.tophat.specs.declared.line_form.LineForm.{LineForm}
 use Rattle.tophat.specs.declared.line_form.LineForm.TheVariants.{Script, Json}
 use Rattle.tophat.specs.Session.{Tells}
 use Rattle.tophat.specs.SoakReport.{TallyTerm, no_inputs, summary_text, IsSummary}
-use Rattle.tophat.specs.Top.{Limits, NeedsMore, form_of, Report, ends, writes, reported, Opened, world, none, world_at, checks, soak_budget, OpensVerdict, ReportsFile, ReportsOpened, ReportsVerdict, ReportsTold, ReportsSoak, ReportsCommand, Reports, ReportsLines, runs}
+use Rattle.tophat.specs.Top.{Limits, NeedsMore, form_of, Report, ends, writes, reported, Opened, world, none, world_at, checks, soak_budget, OpensVerdict, ReportsFile, ReportsOpened, ReportsVerdict, ReportsTold, ReportsSoak, ReportsCommand, Reports, ReportsLines, runs, ReportsBound, bound_line}
+use Rattle.stride_bound.proofs.ExistLemmas.{bound_exists, bound_once}
 use Rattle.tophat.proofs.SessionLemmas.{script_exists, script_once, told_exists}
 use Rattle.tophat.proofs.SoakLemmas.{soaks_exist, soaks_once}
 
@@ -101,6 +102,15 @@ soak_exists : (count seed : ℕ) (w : WorldTerm) → There (ReportsSoak count se
 soak_exists count seed w = let u = soaks_exist count seed w no_inputs in
     (writes (summary_text count u.1 u.0), (summary_text count u.1 u.0, (u.0, u.1, u.2, refl), refl))
 
+pub bound_reported_once : (verdict : Verdict) → Once (ReportsBound verdict)
+bound_reported_once (accepted c) r s d e =
+    d.2 ∙ ap (λ o. writes (bound_line o)) (bound_once c.program d.0 e.0 d.1 e.1) ∙ sym e.2
+bound_reported_once (refused place refusal) r s d e = d ∙ sym e
+
+bound_reported : (verdict : Verdict) → There (ReportsBound verdict)
+bound_reported (accepted c) = let found = bound_exists c.program in (writes (bound_line found.0), (found.0, found.1, refl))
+bound_reported (refused place refusal) = (ends (Unopened (Refused place refusal)), refl)
+
 -- ---- commands
 pub soak_verdict_once : (count seed : ℕ) (verdict : Verdict) → Once (ReportsVerdict soak_budget verdict (ReportsSoak count seed))
 soak_verdict_once count seed verdict = verdict_once soak_budget verdict (ReportsSoak count seed) (soak_once count seed)
@@ -119,6 +129,8 @@ command_once l (Some (check name)) file verdict TellsAt one r s d e =
 command_once l (Some (soak count seed)) file verdict TellsAt one r s d e = soak_verdict_once count seed verdict r s d e
 command_once l (Some (drill seats each)) file verdict TellsAt one r s d e = absurd d
 command_once l (Some (serve name serving)) file verdict TellsAt one r s d e = absurd d
+command_once l (Some (bound name)) file verdict TellsAt one r s d e =
+    file_once l.file file (ReportsBound verdict) (bound_reported_once verdict) r s d e
 
 command_reported : (l : Limits) (command : Option CommandTerm) (file : Option Text) (verdict : Verdict)
     (TellsAt : WorldTerm → Told → Type 0) → (NeedsMore command → ⊥)
@@ -135,6 +147,8 @@ command_reported l (Some (soak count seed)) file verdict TellsAt plain some =
     verdict_exists soak_budget verdict (ReportsSoak count seed) (soak_exists count seed)
 command_reported l (Some (drill seats each)) file verdict TellsAt plain some = absurd (plain tt)
 command_reported l (Some (serve name serving)) file verdict TellsAt plain some = absurd (plain tt)
+command_reported l (Some (bound name)) file verdict TellsAt plain some =
+    file_exists l.file file (ReportsBound verdict) (bound_reported verdict)
 
 pub report_once : (l : Limits) (command : Option CommandTerm) (file : Option Text) (verdict : Verdict) (script : Text) (r s : Report)
     → Reports l command file verdict script r → Reports l command file verdict script s → r ≡ s
@@ -158,6 +172,7 @@ nothing_reported l (Some (check name)) file verdict script report more d = more
 nothing_reported l (Some (soak count seed)) file verdict script report more d = more
 nothing_reported l (Some (drill seats each)) file verdict script report more d = d
 nothing_reported l (Some (serve name serving)) file verdict script report more d = d
+nothing_reported l (Some (bound name)) file verdict script report more d = more
 
 -- the same of lines
 pub lines_reported : (l : Limits) (command : Option CommandTerm) (file : Option Text) (verdict : Verdict) (lines : List Text)

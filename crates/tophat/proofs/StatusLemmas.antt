@@ -5,7 +5,7 @@ use Rattle.world_core.specs.World.{WorldTerm}
 use Rattle.line_frame.specs.Told.{Told}
 use Rattle.line_frame.specs.Script.{TellsScript}
 use Rattle.line_frame.specs.declared.finish.Finish.TheVariants as finishes
-use Rattle.command_words.specs.Commands.{CommandTerm, run, check, soak, drill, serve, json}
+use Rattle.command_words.specs.Commands.{CommandTerm, run, check, soak, drill, serve, json, bound}
 use Rattle.tophat.specs.declared.ending.CommandEnding.{CommandEnding}
 use Rattle.tophat.specs.declared.ending.CommandEnding.TheVariants.{Usage, Absent, FileTooLong, Unopened, Ran, Wrote, WriteFault, GateFault}
 use Rattle.tophat.specs.declared.no_world.NoWorld.TheVariants.{Refused, OverBudget, Memory}
@@ -14,7 +14,7 @@ use Rattle.tophat.specs.Ending.{status_of}
 use Rattle.tophat.specs.Verdict.{Verdict, accepted, refused, IsVerdictOf}
 use Rattle.tophat.specs.declared.line_form.LineForm.TheVariants.{Script, Json}
 use Rattle.tophat.specs.Session.{Tells}
-use Rattle.tophat.specs.Top.{Limits, Report, ends, writes, reported, source_of, Opened, world, none, checks, ReportsFile, ReportsOpened, ReportsVerdict, ReportsTold, ReportsSoak, Reports}
+use Rattle.tophat.specs.Top.{Limits, Report, ends, writes, reported, source_of, Opened, world, none, checks, ReportsFile, ReportsOpened, ReportsVerdict, ReportsTold, ReportsSoak, Reports, ReportsBound}
 use Rattle.tophat.specs.Worked.{IfSilent}
 use Rattle.tophat.specs.Promise.{IsCutShort, WritesReport, Promised}
 use Rattle.tophat.proofs.ReportLemmas.{report_once}
@@ -111,6 +111,10 @@ at_checks : (verdict : Verdict) (report : Report) → report ≡ checks verdict 
 at_checks (accepted c) report e = at_text report _ e
 at_checks (refused place refusal) report e = at_end report _ e
 
+at_bound : (verdict : Verdict) (report : Report) → ReportsBound verdict report → IsSilent report
+at_bound (accepted c) report d = at_text report _ d.2
+at_bound (refused place refusal) report e = at_end report _ e
+
 at_file : (limit : ℕ) (file : Option Text) (Says : Report → Type 0) (report : Report) → (Says report → IsSilent report)
     → ReportsFile limit file Says report → IsSilent report
 at_file limit None Says report says e = at_end report Absent e
@@ -141,3 +145,5 @@ silent_ends l (Some (soak count seed)) file verdict script report e =
     at_opened (ReportsSoak count seed) report (λ w t. at_text report t.0 t.2) e.0 e.2
 silent_ends l (Some (drill seats each)) file verdict script report e = absurd e
 silent_ends l (Some (serve name serving)) file verdict script report e = absurd e
+silent_ends l (Some (bound name)) file verdict script report e =
+    at_file l.file file (ReportsBound verdict) report (at_bound verdict report) e

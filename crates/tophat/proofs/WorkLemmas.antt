@@ -26,7 +26,7 @@ use Rattle.tophat.specs.declared.ending.CommandEnding.TheVariants.{Usage, Absent
 use Rattle.tophat.specs.declared.no_world.NoWorld.{NoWorld}
 use Rattle.tophat.specs.declared.no_world.NoWorld.TheVariants.{Refused, OverBudget, Memory}
 use Rattle.tophat.specs.declared.refusal.Refusal.TheVariants.{Read}
-use Rattle.command_words.specs.Commands.{CommandTerm, check, soak, IsAsked}
+use Rattle.command_words.specs.Commands.{CommandTerm, check, soak, IsAsked, run, bound}
 use Rattle.command_words.specs.declared.stop.WordStop.{WordStop}
 use Rattle.command_words.specs.declared.stop.WordStop.TheVariants as words
 use Rattle.input_lines.specs.Soak.{soak_text}
@@ -37,13 +37,15 @@ use Rattle.tophat.specs.Verdict.{Verdict, accepted, refused, IsVerdict, IsOnlyVe
 use Rattle.tophat.specs.declared.line_form.LineForm.{LineForm}
 use Rattle.tophat.specs.declared.line_form.LineForm.TheVariants.{Script, Json}
 use Rattle.tophat.specs.Session.{Tells}
-use Rattle.tophat.specs.Top.{Limits, limits, Report, ends, writes, reported, source_of, soak_budget, Opened, world, none, checks, ReportsFile, ReportsOpened, ReportsVerdict, ReportsTold, Reports, ReportsLines, runs}
-use Rattle.tophat.specs.Sources.{FindsFile, WritesText, TellsText, ReportsCheck, ReportsInputs}
+use Rattle.tophat.specs.Top.{Limits, limits, Report, ends, writes, reported, source_of, soak_budget, Opened, world, none, checks, ReportsFile, ReportsOpened, ReportsVerdict, ReportsTold, Reports, ReportsLines, runs, bound_line, ReportsBound}
+use Rattle.tophat.specs.Sources.{FindsFile, WritesText, TellsText, ReportsCheck, ReportsInputs, ReportsBounded}
+use Rattle.stride_bound.specs.Bounds.{IsBound}
+use Rattle.stride_bound.specs.declared.bounds.Bound.{Bound}
 use Rattle.tophat.specs.Objects.{Counted, Around}
 use Rattle.tophat.specs.Ended.{Heard, NoneFailed, FailedBy, HasRisen, file_faults_after, input_faults_after, output_faults_after}
 use Rattle.tophat.specs.Worked.{IsFile, IfRan, Writes, HasVerdictAt, HasVerdictAfter, Worked, Opens, OpensBytes, word_ending}
 use Rattle.tophat.specs.SoakReport.{IsSummary}
-use Rattle.tophat.proofs.ReportLemmas.{opens_once, soak_verdict_once, lines_reported_of, lines_read_of}
+use Rattle.tophat.proofs.ReportLemmas.{opens_once, soak_verdict_once, lines_reported_of, lines_read_of, bound_reported_once}
 
 -- ---- what was written of a report
 pub writes_nothing : (report : Report) (ending : CommandEnding) → report ≡ ends ending → Writes report [] ending
@@ -175,6 +177,13 @@ run_asks form l name budget = record {
 pub check_asks : (l : Limits) (name : Text) → AsksFile l (Some (check name))
 check_asks l name = record {
   Says = λ verdict script report. report ≡ checks verdict;
+  source = λ file. refl;
+  reports = λ file verdict script report d. d;
+}
+
+pub bound_asks : (l : Limits) (name : Text) → AsksFile l (Some (bound name))
+bound_asks l name = record {
+  Says = λ verdict script. ReportsBound verdict;
   source = λ file. refl;
   reports = λ file verdict script report d. d;
 }
@@ -398,6 +407,38 @@ check_refused name holds bytes slice left out why same found t h =
     worked_none limits (Some (check name)) holds (Some bytes.list) bytes.list (ReportsCheck bytes.list) found.0 refl
     (λ verdict v script report d. (verdict, v, bytes_reported 1048576 bytes.list (λ r. r ≡ checks verdict) report found.1 d))
     Text left out why (subst (λ (z : Text). TellsText (ReportsCheck z) (Err why)) same t)
+    (subst (λ (z : Text). HasVerdictAfter {A = Text} (Err why) z) same h)
+
+-- ---- bounds
+pub bound_tells : (bytes : Text) (c : CheckedTerm) (found : Option Bound) (text : Text) → IsOnlyVerdict bytes (accepted c)
+    → IsBound c.program found → text ≡ bound_line found → TellsText (ReportsBounded bytes) (Ok text)
+bound_tells bytes c found text one is e = λ report d.
+    bound_reported_once (accepted c) report (writes text) (subst (λ v. ReportsBound v report) (one.only d.0 d.1) d.2) (found, is, ap writes e)
+
+pub unbounded_tells : (bytes : Text) (why : NoWorld) → Judges bytes (Err why) → TellsText (ReportsBounded bytes) (Err why)
+unbounded_tells bytes (Refused place refusal) one = λ report d. subst (λ v. ReportsBound v report) (one.only d.0 d.1) d.2
+unbounded_tells bytes OverBudget one = absurd one
+unbounded_tells bytes Memory one = tt
+
+-- the line was written, or a first part of it
+pub bound_written : (name : Text) (holds : Option (Option Text)) (bytes : Rowed ℕ) (slice : Text) (left old new : Option Text) (text : Text)
+    (ending : CommandEnding) → slice ≡ bytes.list → FindsFile limits.file holds (Ok bytes) → TellsText (ReportsBounded slice) (Ok text)
+    → HasVerdictAfter {A = Text} (Ok text) slice → WritesText old new text ending
+    → Worked limits (Some (bound name)) holds left left old new ending
+bound_written name holds bytes slice left old new text ending same found t h w =
+    worked_text limits (Some (bound name)) holds (Some bytes.list) bytes.list (ReportsBounded bytes.list) found.0 refl
+    (λ verdict v script report d. (verdict, v, bytes_reported 1048576 bytes.list (ReportsBound verdict) report found.1 d))
+    left old new text ending (subst (λ (z : Text). TellsText (ReportsBounded z) (Ok text)) same t)
+    (subst (λ (z : Text). HasVerdictAfter {A = Text} (Ok text) z) same h) w
+
+-- the program isn't accepted, or memory ran out
+pub bound_refused : (name : Text) (holds : Option (Option Text)) (bytes : Rowed ℕ) (slice : Text) (left out : Option Text) (why : NoWorld)
+    → slice ≡ bytes.list → FindsFile limits.file holds (Ok bytes) → TellsText (ReportsBounded slice) (Err why)
+    → HasVerdictAfter {A = Text} (Err why) slice → Worked limits (Some (bound name)) holds left left out out (Unopened why)
+bound_refused name holds bytes slice left out why same found t h =
+    worked_none limits (Some (bound name)) holds (Some bytes.list) bytes.list (ReportsBounded bytes.list) found.0 refl
+    (λ verdict v script report d. (verdict, v, bytes_reported 1048576 bytes.list (ReportsBound verdict) report found.1 d))
+    Text left out why (subst (λ (z : Text). TellsText (ReportsBounded z) (Err why)) same t)
     (subst (λ (z : Text). HasVerdictAfter {A = Text} (Err why) z) same h)
 
 -- ---- soaks

@@ -3,7 +3,7 @@ use Rattle.std.specs.Prelude.{ℕ, ◌≡◌, ◌⊎◌, Option, None, Some}
 use Rattle.outer_io.specs.Files.{AnswersFile, HasAtMost, KeepsFile, faults_after_request}
 use Rattle.outer_io.specs.declared.files.FileAnswer.{FileAnswer}
 use Rattle.task_model.specs.Terms.Text.{Text}
-use Rattle.command_words.specs.Commands.{CommandTerm, run, check, soak, drill, serve, json}
+use Rattle.command_words.specs.Commands.{CommandTerm, run, check, soak, drill, serve, json, bound}
 use Rattle.tophat.specs.Objects.{Around, Objects, IsUntouched}
 use Rattle.tophat.specs.Top.{Limits}
 
@@ -16,7 +16,7 @@ pub record AsksOnce (limit : ℕ) (name : Text) (files : Around (Text → Option
   pub keeps : (other : Text) → KeepsFile (files.before other) (files.now other)
   pub count : files.faults.now ≡ faults_after_request files.faults.before answer
 
--- A run, in either form, asks for its file. A check asks for its file, and leaves the input as it was; so does what is served. A soak and a drill leave files and
+-- A run, in either form, asks for its file. A check asks for its file, and leaves the input as it was; so do a bound and what is served. A soak and a drill leave files and
 -- input as they were.
 abbrev pub AsksFor : Limits → CommandTerm → Around (Text → Option (Option Text)) → Around (Option Text) → Type 0
 AsksFor l (run name budget) files input = AsksOnce l.file name files
@@ -25,6 +25,7 @@ AsksFor l (soak count seed) files input = files.Untouched × input.Untouched
 AsksFor l (drill seats each) files input = files.Untouched × input.Untouched
 AsksFor l (serve name serving) files input = AsksOnce l.file name files × input.Untouched
 AsksFor l (json name budget) files input = AsksOnce l.file name files
+AsksFor l (bound name) files input = AsksOnce l.file name files × input.Untouched
 
 -- Where the words ask for no command, or memory ran out while they were read, nothing is asked for, and nothing is written.
 abbrev pub Asks : Limits → Option CommandTerm → Objects → ℕ → Type 0

@@ -10,7 +10,7 @@ use Rattle.tophat.specs.declared.ending.CommandEnding.TheVariants.{Absent, FileT
 use Rattle.tophat.specs.declared.no_world.NoWorld.{NoWorld}
 use Rattle.tophat.specs.declared.no_world.NoWorld.TheVariants.{Memory}
 use Rattle.tophat.specs.Verdict.{Verdict, IsVerdict}
-use Rattle.tophat.specs.Top.{Report, ends, writes, checks, soak_budget, ReportsVerdict, ReportsSoak}
+use Rattle.tophat.specs.Top.{Report, ends, writes, checks, ReportsBound, soak_budget, ReportsVerdict, ReportsSoak}
 use Rattle.tophat.specs.Worked.{IsFile}
 
 -- a file of at most so many bytes, or how a command ends that asked for it
@@ -37,6 +37,10 @@ TellsText Reports (Err why) = (report : Report) → Reports report → report �
 -- this is reported of the check of these bytes
 abbrev pub ReportsCheck : Text → Report → Type 0
 ReportsCheck bytes report = (verdict : Verdict) × IsVerdict bytes verdict × (report ≡ checks verdict)
+
+-- this is reported of the bound of these bytes' program
+abbrev pub ReportsBounded : Text → Report → Type 0
+ReportsBounded bytes report = (verdict : Verdict) × IsVerdict bytes verdict × ReportsBound verdict report
 
 -- this is reported of so many inputs of the generator
 abbrev pub ReportsInputs : ℕ → ℕ → Report → Type 0

@@ -1,5 +1,5 @@
 -- What a command reports: what it writes and how it ends, by its file, the verdict on what it reads, and the script.
-use Rattle.std.specs.Prelude.{ℕ, ◌≡◌, ◌<◌, ◌≤◌, ◌⊎◌, List, [], ◌∷◌, length, Option, None, Some, ⊤}
+use Rattle.std.specs.Prelude.{ℕ, ◌≡◌, ◌<◌, ◌≤◌, ◌⊎◌, List, [], ◌∷◌, length, ◌++◌, Option, None, Some, ⊤, codes, decimal}
 use Rattle.task_model.specs.Terms.Text.{Text}
 use Rattle.task_model.specs.Terms.Tree.{State}
 use Rattle.task_model.specs.Terms.Item.{opened}
@@ -11,8 +11,10 @@ use Rattle.line_frame.specs.Told.{Told}
 use Rattle.line_frame.specs.Script.{TellsScript, cut_of}
 use Rattle.line_frame.specs.declared.finish.Finish.{Finish}
 use Rattle.line_frame.specs.declared.finish.Finish.TheVariants.{ReadFault}
-use Rattle.command_words.specs.Commands.{CommandTerm, run, check, soak, drill, serve, json}
+use Rattle.command_words.specs.Commands.{CommandTerm, run, check, soak, drill, serve, json, bound}
 use Rattle.input_lines.specs.Soak.{soak_text}
+use Rattle.stride_bound.specs.Bounds.{IsBound}
+use Rattle.stride_bound.specs.declared.bounds.Bound.{Bound}
 use Rattle.tophat.specs.declared.ending.CommandEnding.{CommandEnding}
 use Rattle.tophat.specs.declared.ending.CommandEnding.TheVariants.{Usage, Absent, FileTooLong, Unopened, Ran, Wrote}
 use Rattle.tophat.specs.declared.no_world.NoWorld.TheVariants.{Refused, OverBudget}
@@ -59,6 +61,7 @@ named (Some (soak count seed)) = []
 named (Some (drill seats each)) = []
 named (Some (serve name serving)) = name
 named (Some (json name budget)) = name
+named (Some (bound name)) = name
 
 -- the words ask for a command that starts threads: it isn't a plain one
 abbrev pub NeedsMore : Option CommandTerm → Type 0
@@ -69,6 +72,7 @@ NeedsMore (Some (soak count seed)) = ⊥
 NeedsMore (Some (drill seats each)) = ⊤
 NeedsMore (Some (serve name serving)) = ⊤
 NeedsMore (Some (json name budget)) = ⊥
+NeedsMore (Some (bound name)) = ⊥
 
 -- the form of the lines that a command runs
 abbrev pub form_of : Option CommandTerm → LineForm
@@ -131,6 +135,16 @@ abbrev pub checks : Verdict → Report
 checks (accepted c) = writes (program_text c.program)
 checks (refused place refusal) = ends (Unopened (Refused place refusal))
 
+-- the line on a bound, or that there is none
+abbrev pub bound_line : Option Bound → Text
+bound_line None = codes "no bound\n"
+bound_line (Some b) = codes "units " ++ decimal b.units ++ (codes " height " ++ decimal b.height) ++ codes "\n"
+
+-- the line on the bound of a program that is accepted is reported, or why it is refused
+abbrev pub ReportsBound : Verdict → Report → Type 0
+ReportsBound (accepted c) report = (found : Option Bound) × IsBound c.program found × (report ≡ writes (bound_line found))
+ReportsBound (refused place refusal) report = report ≡ ends (Unopened (Refused place refusal))
+
 -- the budget of `soak`
 abbrev pub soak_budget : ℕ
 soak_budget = 10000
@@ -146,6 +160,7 @@ ReportsCommand l (Some (drill seats each)) file verdict TellsAt report = ⊥
 ReportsCommand l (Some (serve name serving)) file verdict TellsAt report = ⊥
 ReportsCommand l (Some (json name budget)) file verdict TellsAt report =
     ReportsFile l.file file (ReportsVerdict budget verdict (ReportsTold TellsAt)) report
+ReportsCommand l (Some (bound name)) file verdict TellsAt report = ReportsFile l.file file (ReportsBound verdict) report
 
 -- this is reported of the whole script
 abbrev pub Reports : Limits → Option CommandTerm → Option Text → Verdict → Text → Report → Type 0

@@ -19,7 +19,8 @@ use task_model::TaskText;
 ///
 /// `run FILE` reads the program in FILE, opens it, and runs the script on the input; `json FILE` does so with JSON lines (docs/FORMATS.md,
 /// "JSON"); `check FILE` writes the program's text again;
-/// `soak N SEED` runs inputs of its own (docs/FORMATS.md, "Words" and "Statuses"). A fault of `err` changes no status.
+/// `soak N SEED` runs inputs of its own; `bound FILE` writes what the program costs at most (docs/FORMATS.md, "Words" and "Statuses"). A
+/// fault of `err` changes no status.
 /// Where the words ask for a `drill` or to `serve`, nothing is answered: whoever has threads and sockets does that.
 pub fn plain<F: Files, I: Source, O: Sink, E: Sink>(
     alloc: Global,
@@ -63,6 +64,7 @@ fn is_plain(asked: &Result<Command, WordStop>) -> bool
         Ok(Command::Drill { .. }) => false,
         Ok(Command::Serve { .. }) => false,
         Ok(Command::Json { .. }) => true,
+        Ok(Command::Bound { .. }) => true,
         Err(_) => true,
     }
 }

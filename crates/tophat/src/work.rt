@@ -1,9 +1,9 @@
 ghost use Rattle.std.specs.Prelude.{◌≡◌, ◌<◌, Some, Option, IfErr, IfOk};
 ghost use Rattle.task_model.specs.Running.State.{IsBudget};
-ghost use Rattle.command_words.specs.Commands.{CommandTerm, command_term, check, soak, IsAsked, IsInRange};
+ghost use Rattle.command_words.specs.Commands.{CommandTerm, command_term, check, soak, IsAsked, IsInRange, run, bound};
 ghost use Rattle.tophat.specs.Top.{limits, named, runs, NeedsMore};
 ghost use Rattle.tophat.specs.Worked.{Worked, IfNotRun, IfSilent, RunsBytes, HasVerdictAfter, IsTextEnd, IsRunEnd, word_ending};
-ghost use Rattle.tophat.specs.Sources.{TellsText, ReportsCheck};
+ghost use Rattle.tophat.specs.Sources.{TellsText, ReportsCheck, ReportsBounded};
 ghost use Rattle.task_model.specs.Terms.Text.{Text};
 ghost use Rattle.tophat.specs.Objects.{around};
 ghost use Rattle.tophat.specs.Asks.{AsksFor, AsksOnce};
@@ -18,7 +18,7 @@ use crate::opening::open_bytes;
 use crate::program_file::read_file;
 use crate::runner::Runner;
 use crate::soak::soaked_text;
-use crate::texts::write_text;
+use crate::texts::{bound_text, write_text};
 use crate::verdict::verdict_on;
 use command_words::{Command, WordStop};
 use line_frame::{Finish, run_script};
@@ -84,6 +84,7 @@ pub(crate) fn work<F: Files, I: Source, O: Sink, L: Ledger>(
                 Steps::<L>::new(blank),
             )
         }
+        Ok(Command::Bound { file }) => bound_file(alloc, file, files, out),
         Err(stop) => unasked(*stop),
     }
 }
@@ -109,6 +110,7 @@ pub(crate) fn named_file(asked: &Result<Command, WordStop>) -> &[u8]
         Ok(Command::Drill { .. }) => b"",
         Ok(Command::Serve { file, .. }) => file.as_str().as_bytes(),
         Ok(Command::Json { file, .. }) => file.as_str().as_bytes(),
+        Ok(Command::Bound { file }) => file.as_str().as_bytes(),
         Err(_) => b"",
     }
 }
@@ -201,6 +203,44 @@ fn checked_text(alloc: Global, bytes: &[u8]) -> Result<TaskText, NoWorld>
 {
     match verdict_on(alloc, bytes) {
         Ok(checked) => Ok(print_program(alloc, checked.program())?),
+        Err(why) => Err(why),
+    }
+}
+
+// Reads a program, and writes its bound where it is accepted.
+fn bound_file<F: Files, O: Sink>(
+    alloc: Global,
+    name: &TaskText,
+    files: &mut F,
+    out: &mut O,
+) -> CommandEnding
+    ensures worked { (left : Option Text) → Worked limits (Some (bound name.now)) (F.holds files.old name.now)
+        left left (O.taken out.old) (O.taken out.new) result }
+    ensures ends { IsRunEnd result → ⊥ }
+    ensures silent { IfSilent result (out.new ≡ out.old) }
+    ensures asked { AsksOnce limits.file name.now (around F.holds F.faults files.old files.new) }
+    ensures file_count { F.faults files.new ≡ file_faults_after (F.faults files.old) result }
+    ensures output_count { O.faults out.new ≡ output_faults_after (O.faults out.old) result }
+{
+    match read_file(alloc, name, files) {
+        Ok(bytes) => match bounded_text(alloc, bytes.as_slice()) {
+            Ok(text) => write_text(out, &text),
+            Err(why) => CommandEnding::Unopened(why),
+        },
+        Err(ending) => ending,
+    }
+}
+
+// The line on the bound of the accepted program of these bytes, or why there is none.
+fn bounded_text(alloc: Global, bytes: &[u8]) -> Result<TaskText, NoWorld>
+    ensures text { TellsText (ReportsBounded bytes.now) result }
+    ensures verdict_is { HasVerdictAfter result bytes.now }
+{
+    match verdict_on(alloc, bytes) {
+        Ok(checked) => {
+            let found = stride_bound::bound(alloc, &checked)?;
+            Ok(bound_text(alloc, found)?)
+        }
         Err(why) => Err(why),
     }
 }

@@ -7,7 +7,7 @@ use Rattle.outer_io.specs.declared.sink.Written.{Written}
 use Rattle.outer_io.specs.declared.sink.Written.TheVariants.{Failed, Whole}
 use Rattle.outer_gates.specs.Gates.{GateTold}
 use Rattle.task_model.specs.Terms.Text.{Text}
-use Rattle.command_words.specs.Commands.{CommandTerm, IsAsked, ServeTerm, check, command_term, drill, json, run, serve, soak}
+use Rattle.command_words.specs.Commands.{CommandTerm, IsAsked, ServeTerm, check, command_term, drill, json, run, serve, soak, bound}
 use Rattle.command_words.specs.declared.command.Command.{Command}
 use Rattle.command_words.specs.declared.stop.WordStop.{WordStop}
 use Rattle.command_words.specs.declared.stop.WordStop.TheVariants as words
@@ -53,6 +53,7 @@ module _ (l : Limits) (o : Objects) (ports : Around (ℕ → Option GateTold)) (
   plain_command asked (Some (check name)) a p f e u = (f, u, refl)
   plain_command asked (Some (json name budget)) a p f e u = (f, u, refl)
   plain_command asked (Some (soak count seed)) a p f e u = (f, u, refl)
+  plain_command asked (Some (bound name)) a p f e u = (f, u, refl)
   plain_command asked (Some (drill seats each)) a p f e u = inr (wordless asked (Some (drill seats each)) a p e u tt)
   plain_command asked (Some (serve name serving)) a p f e u = inr (wordless asked (Some (serve name serving)) a p e u tt)
 

@@ -25,7 +25,7 @@ use tophat::{CommandEnding, perform};
 /// Does what the words of a command line ask for, without the program's own name.
 ///
 /// `run FILE` reads the program in FILE, opens it, and runs the script on the input; `check FILE` writes the program's text again;
-/// `soak N SEED` runs inputs of its own; `drill SEATS N` lets seats act at once; `serve FILE` opens the program in FILE, and serves it over HTTP
+/// `soak N SEED` runs inputs of its own; `bound FILE` writes what the program costs at most; `drill SEATS N` lets seats act at once; `serve FILE` opens the program in FILE, and serves it over HTTP
 /// at a port (docs/FORMATS.md, "Words" and "Statuses"). A fault of `err` changes no status. A gate that was had comes back in each case.
 pub fn tophat<
     F: Files,
@@ -108,6 +108,7 @@ fn is_plain(asked: &Result<Command, WordStop>) -> bool
         Ok(Command::Drill { .. }) => false,
         Ok(Command::Serve { .. }) => false,
         Ok(Command::Json { .. }) => true,
+        Ok(Command::Bound { .. }) => true,
         Err(_) => true,
     }
 }

@@ -4,7 +4,7 @@ use super::case::{Case, SERVE};
 use super::requests::{AHEAD, NEXT, SET, SET_AND_PAGE};
 
 pub(super) const USAGE: &str = "status 2\n\
-    usage: tophat run FILE [--budget N] | check FILE | soak N SEED | drill SEATS N | serve FILE [--budget N] [--seats N] [--workers N] [--port N] [--connections N] | json FILE [--budget N]\n";
+    usage: tophat run FILE [--budget N] | check FILE | soak N SEED | drill SEATS N | serve FILE [--budget N] [--seats N] [--workers N] [--port N] [--connections N] | json FILE [--budget N] | bound FILE\n";
 
 pub(super) const INPUT_AND_PAGE: Case<'static> = Case {
     links: &[SET_AND_PAGE],

@@ -6,7 +6,7 @@ use std::alloc::Global;
 use task_model::OutOfMemory;
 
 const USAGE: &str =
-    "usage: tophat run FILE [--budget N] | check FILE | soak N SEED | drill SEATS N | serve FILE [--budget N] [--seats N] [--workers N] [--port N] [--connections N] | json FILE [--budget N]";
+    "usage: tophat run FILE [--budget N] | check FILE | soak N SEED | drill SEATS N | serve FILE [--budget N] [--seats N] [--workers N] [--port N] [--connections N] | json FILE [--budget N] | bound FILE";
 
 /// Blocks of words that ask for no command, one a row, and of none.
 pub(super) fn wrong_words(alloc: Global, rows: &str) -> Result<String, OutOfMemory> {
