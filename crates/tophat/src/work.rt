@@ -1,6 +1,6 @@
 ghost use Rattle.std.specs.Prelude.{◌≡◌, ◌<◌, Some, Option, IfErr, IfOk};
 ghost use Rattle.task_model.specs.Running.State.{IsBudget};
-ghost use Rattle.command_words.specs.Commands.{CommandTerm, command_term, check, soak, IsAsked, IsInRange, run, bound};
+ghost use Rattle.command_words.specs.Commands.{CommandTerm, command_term, check, soak, IsAsked, IsInRange, bound};
 ghost use Rattle.tophat.specs.Top.{limits, named, runs, NeedsMore};
 ghost use Rattle.tophat.specs.Worked.{Worked, IfNotRun, IfSilent, RunsBytes, HasVerdictAfter, IsTextEnd, IsRunEnd, word_ending};
 ghost use Rattle.tophat.specs.Sources.{TellsText, ReportsCheck, ReportsBounded};
