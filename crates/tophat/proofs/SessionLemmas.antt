@@ -1,19 +1,8 @@
--- What is told of lines, by what the world's calls answer.
-use Rattle.std.proofs.Common.{◌≡◌, ℕ, ◌+◌, ◌≤◌, List, [], ◌∷◌, ◌++◌, length, take, Ok, Err, refl, sym, ap, ◌∙◌, subst, ◌⊎◌, inl, inr, arith, length-take}
-use Rattle.std.specs.Prelude.{codes, decimal}
+-- What is told of lines, by what they are answered.
+use Rattle.std.proofs.Common.{◌≡◌, ℕ, ◌+◌, ◌≤◌, List, [], ◌∷◌, length, take, Err, refl, sym, ap, ◌∙◌, subst, ◌⊎◌, inl, inr, arith, length-take}
 use Rattle.std.proofs.lemmas.List.{take_all}
 use Rattle.task_model.specs.Terms.Text.{Text}
-use Rattle.task_model.specs.Terms.Input.{EntryTerm}
-use Rattle.task_model.specs.Running.Outcome.{taken, not_offered, over_budget}
-use Rattle.task_model.specs.Showing.Page.{page_text}
-use Rattle.task_model.specs.declared.widget.Face.TheVariants as faces
-use Rattle.task_model.specs.Running.State.{version_of}
-use Rattle.task_laws.proofs.OutcomeLemmas.{outcome_exists, outcome_once}
-use Rattle.task_laws.proofs.OfferLemmas.{widgets_exist, widgets_once}
-use Rattle.task_model.specs.declared.stops.ActStop.TheVariants.{NotOffered, Over}
-use Rattle.world_core.specs.declared.answers.Taken.{Taken}
-use Rattle.world_core.specs.World.{WorldTerm, Replies}
-use Rattle.world_core.specs.Pages.{IsWorldPage}
+use Rattle.world_core.specs.World.{WorldTerm}
 use Rattle.line_frame.specs.Told.{Told, told_after, TellsFirst, TellsBad}
 use Rattle.line_frame.specs.BadLine.{IfBad}
 use Rattle.line_frame.specs.declared.machine.LineStop.{LineStop}
@@ -21,51 +10,12 @@ use Rattle.line_frame.specs.declared.machine.LineStop.TheVariants.{Bad, Memory}
 use Rattle.line_frame.specs.Script.{TellsScript, lines_in, end_of}
 use Rattle.line_frame.specs.declared.finish.Finish.{Finish}
 use Rattle.line_frame.specs.declared.finish.Finish.TheVariants as finishes
-use Rattle.input_lines.specs.ScriptLines.{LineTerm, nothing, shows, gives}
+use Rattle.input_lines.specs.ScriptLines.{LineTerm}
 use Rattle.input_lines.specs.LinePlaces.{IsLineWithin, IsBadLine, IsBadColumn}
 use Rattle.tophat.proofs.LineLemmas.{line_once, bad_once, line_apart, cut_bad, line_decided}
-use Rattle.tophat.specs.Session.{Answers, Tells, answer_text, world_after}
-
--- ---- what the world replied is the answer
-pub taken_answers : (w : WorldTerm) (e : EntryTerm) (new : WorldTerm) (done : Taken) → Replies w e new (Ok done)
-    → Answers w (gives e) (codes "taken " ++ decimal done.version ++ codes "\n") new
-taken_answers w e new done r = (
-  taken r.0,
-  r.1,
-  ap (λ v. codes "taken " ++ decimal v ++ codes "\n")
-      (r.3 ∙ ap (λ z. version_of z.history) r.2),
-  r.2,
-)
-
-pub refused_answers : (w : WorldTerm) (e : EntryTerm) (new : WorldTerm) → Replies w e new (Err NotOffered)
-    → Answers w (gives e) (codes "not offered\n") new
-refused_answers w e new r = (not_offered, r.0, refl, r.1)
-
-pub over_answers : (w : WorldTerm) (e : EntryTerm) (new : WorldTerm) → Replies w e new (Err Over)
-    → Answers w (gives e) (codes "over budget\n") new
-over_answers w e new r = (over_budget, r.0, refl, r.1)
-
--- ---- a line is answered in exactly one way
-page_once : (w : WorldTerm) (seat : ℕ) (a b : Text) → IsWorldPage faces.Text w seat a → IsWorldPage faces.Text w seat b → a ≡ b
-page_once w seat a b p q =
-    p.2 ∙ ap (page_text (version_of w.history) seat) (widgets_once w.checked w.budget w.state.tree w.state.store p.0 q.0 p.1 q.1) ∙ sym q.2
-
-answers_once : (w : WorldTerm) (line : LineTerm) (a b : Text) (v u : WorldTerm) → Answers w line a v → Answers w line b u
-    → (a ≡ b) × (v ≡ u)
-answers_once w nothing a b v u p q = (p.0 ∙ sym q.0, p.1 ∙ sym q.1)
-answers_once w (shows seat) a b v u p q = (page_once w seat a b p.0 q.0, p.1 ∙ sym q.1)
-answers_once w (gives e) a b v u p q =
-    let same = outcome_once w.checked w.budget w.state e.input p.0 q.0 p.1 q.1 in
-    (p.2 ∙ ap (answer_text w e) same ∙ sym q.2, p.3 ∙ ap (world_after w e) same ∙ sym q.3)
-
-answers_exist : (w : WorldTerm) (line : LineTerm) → (text : Text) × (next : WorldTerm) × Answers w line text next
-answers_exist w nothing = ([], w, (refl, refl))
-answers_exist w (shows seat) =
-    let ws = widgets_exist w.checked w.budget w.state.tree w.state.store in
-    (page_text (version_of w.history) seat ws.0, w, ((ws.0, ws.1, refl), refl))
-answers_exist w (gives e) =
-    let o = outcome_exists w.checked w.budget w.state e.input in
-    (answer_text w e o.0, world_after w e o.0, (o.0, o.1, refl, refl))
+use Rattle.world_answers.specs.Answers.{Answers}
+use Rattle.world_answers.proofs.AnswerLemmas.{answers_exist, answers_once}
+use Rattle.tophat.specs.Session.{Tells}
 
 -- ---- of lines exactly one thing is told
 pub told_exists : (longest : ℕ) (w : WorldTerm) (number : ℕ) (lines : List Text) (finish : Finish)

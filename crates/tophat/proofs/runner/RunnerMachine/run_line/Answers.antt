@@ -5,9 +5,9 @@ use Rattle.tophat.proofs.runner.RunnerMachine.run_line.Goals as goal
 
 pub returns-in-Ok-answer-clause-ok : goal.returns-in-Ok-answer-clause-ok
 returns-in-Ok-answer-clause-ok g c = λ whole cut.
-    answered_first 1048576 (world_term c.args.self.now.world) (world_term c.answer.new.self.world) c.args.line.now whole
+    answered_first 1048576 (world_term c.args.self.now.world.world) (world_term c.answer.new.self.world) c.args.line.now whole
     c.in-Ok-answer.text.list (line_term c.in-Ok.line)
     c.in-Ok.ensures.found cut c.in-Ok-answer.ensures
 
 pub returns-in-Err-clause-bad : goal.returns-in-Err-clause-bad
-returns-in-Err-clause-bad g c = outside_stop 1048576 (world_term c.args.self.now.world) c.args.line.now c.in-Err.stop c.in-Err.ensures.bad
+returns-in-Err-clause-bad g c = outside_stop 1048576 (world_term c.args.self.now.world.world) c.args.line.now c.in-Err.stop c.in-Err.ensures.bad

@@ -4,9 +4,9 @@ use Rattle.task_model.specs.Terms.Text.{Text}
 use Rattle.task_model.specs.Terms.Input.{entry_term}
 use Rattle.world_core.specs.World.{world_term, Replies}
 use Rattle.input_lines.specs.ScriptLines.{gives}
-use Rattle.tophat.specs.Session.{Answers}
-use Rattle.tophat.proofs.SessionLemmas.{taken_answers, refused_answers, over_answers}
-use Rattle.tophat.proofs.runner.Runner.give.Goals as goal
+use Rattle.world_answers.specs.Answers.{Answers}
+use Rattle.world_answers.proofs.AnswerLemmas.{taken_answers, refused_answers, over_answers}
+use Rattle.world_answers.proofs.answering.Answering.give.Goals as goal
 
 pub returns-in-Ok : goal.returns-in-Ok
 returns-in-Ok g c =

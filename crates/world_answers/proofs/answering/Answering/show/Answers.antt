@@ -3,7 +3,7 @@ use Rattle.task_model.specs.Terms.Text.{Text}
 use Rattle.task_model.specs.declared.widget.Face.TheVariants as faces
 use Rattle.world_core.specs.World.{world_term}
 use Rattle.world_core.specs.Pages.{IsWorldPage}
-use Rattle.tophat.proofs.runner.Runner.show.Goals as goal
+use Rattle.world_answers.proofs.answering.Answering.show.Goals as goal
 
 pub returns : goal.returns
 returns g c = (
