@@ -1,5 +1,5 @@
 use Rattle.input_lines.proofs.WholeLineLemmas.{fault_at, fault_begins, line_only, fault_no_line, fault_column, over_column}
-use Rattle.input_lines.proofs.parse.line_within.Goals as goal
+use Rattle.input_lines.proofs.parse.parse_line_within.Goals as goal
 
 pub column-requires-in-Err-Fault-clause-begins : goal.column-requires-in-Err-Fault-clause-begins
 column-requires-in-Err-Fault-clause-begins c =
