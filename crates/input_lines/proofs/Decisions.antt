@@ -24,7 +24,7 @@ use Rattle.input_lines.specs.LinePlaces.{IsLineWithin, IsBadLine}
 use Rattle.input_paths.specs.Paths.{PathLetters, NoLetter}
 use Rattle.input_lines.specs.LineReading.{AtEnd, AtReturn, NoReturn, LineEnd, EndWord, SeatNumber, EndLiteral, EndAct, EndInput, EndCommand, SeatedLine}
 use Rattle.input_lines.proofs.EndLemmas.{nothing_right, nothing_stop, end_with, end_without, end_word_right, end_word_stop}
-use Rattle.input_lines.proofs.SeatLemmas.{no_seat, no_digit_at, zero_at, one_digit, two_digits, full_end, full_over}
+use Rattle.input_lines.proofs.SeatLemmas.{no_number, no_digit_at, zero_at, one_digit, two_digits, full_end, full_over}
 use Rattle.input_paths.proofs.PathLemmas.{path_right, path_stop, dot_read, turn_read}
 use Rattle.input_lines.proofs.LiteralEndLemmas.{literal_right, literal_stop, place_within, end_literal_right, end_literal_after, end_literal_stop}
 use Rattle.input_lines.proofs.ActLemmas as acts
@@ -94,26 +94,29 @@ decide_word word ts =
 decide_seat : (ts : Text) → Decided SeatNumber NoDigit ts
 decide_seat ts = go (digit_or_not ts)
   where
+    last : 64 ≤ 64
+    last = omega arith
+
     both : (byte : ℕ) (s : Text) (d : IsDigit byte) (e : ts ≡ byte ∷ s) (some : byte - 48 ≡ 0 → ⊥) (next : ℕ) (after : Text) → IsDigit next
         → s ≡ next ∷ after → (64 < (byte - 48) * 10 + (next - 48)) ⊎ ((byte - 48) * 10 + (next - 48) ≤ 64) → Decided SeatNumber NoDigit ts
     both byte s d e some next after d' e' (inl over) =
-        reads (byte - 48) s (one_digit d e refl some (full_over (byte - 48) next (next - 48) s after e' refl over))
+        reads (byte - 48) s (one_digit 64 last d e refl some (omega (arith, d.1)) (full_over 64 (byte - 48) next (next - 48) s after e' refl over))
     both byte s d e some next after d' e' (inr most) = reads ((byte - 48) * 10 + (next - 48)) after
-        (two_digits d e refl some d' e' refl most)
+        (two_digits 64 last d e refl some d' e' refl most)
 
     second : (byte : ℕ) (s : Text) (d : IsDigit byte) (e : ts ≡ byte ∷ s) (some : byte - 48 ≡ 0 → ⊥) → DigitOrNot s
         → Decided SeatNumber NoDigit ts
     second byte s d e some (inl (next, after, d', e')) =
         both byte s d e some next after d' e' (cases_lt 64 ((byte - 48) * 10 + (next - 48)))
-    second byte s d e some (inr none) = reads (byte - 48) s (one_digit d e refl some (full_end (byte - 48) s none))
+    second byte s d e some (inr none) = reads (byte - 48) s (one_digit 64 last d e refl some (omega (arith, d.1)) (full_end 64 (byte - 48) s none))
 
     first : (byte : ℕ) (s : Text) → IsDigit byte → ts ≡ byte ∷ s → (byte - 48 ≡ 0) ⊎ (byte - 48 ≡ 0 → ⊥) → Decided SeatNumber NoDigit ts
-    first byte s d e (inl zero) = fails (length ts) (no_seat ts (zero_at ts byte s e zero))
+    first byte s d e (inl zero) = fails (length ts) (no_number 64 last ts (zero_at 64 ts byte s e zero))
     first byte s d e (inr some) = second byte s d e some (digit_or_not s)
 
     go : DigitOrNot ts → Decided SeatNumber NoDigit ts
     go (inl (byte, s, d, e)) = first byte s d e (cases_eq (byte - 48) 0)
-    go (inr none) = fails (length ts) (no_seat ts (no_digit_at ts none))
+    go (inr none) = fails (length ts) (no_number 64 last ts (no_digit_at 64 ts none))
 
 -- ---- paths
 letters : (path : List Turn) (rest ts : Text) → ts ≡ path_text path ++ rest → Decided PathLetters NoLetter ts

@@ -1,4 +1,4 @@
--- Seats, as one digit or two.
+-- Seats and smaller numbers, as one digit or two.
 use Rattle.std.specs.Prelude.{decimal}
 use Rattle.std.proofs.lemmas.Fmt.{decimal_digit, decimal_step}
 use Rattle.std.proofs.Common.{◌≡◌, ℕ, ◌+◌, ◌-◌, ◌*◌, ◌/◌, ◌%◌, ◌<◌, ◌≤◌, ◌⊎◌, inl, inr, [], ◌∷◌, ◌++◌, length, Ok, Err, refl, sym, ap, ◌∙◌, subst, arith}
@@ -12,7 +12,7 @@ use Rattle.exact_reading.proofs.Sequences.{begins_shorter}
 use Rattle.exact_reading.proofs.Productions.{at_tokens, refused_first}
 use Rattle.literal_text.specs.LiteralReading.{NoDigit}
 use Rattle.literal_text.proofs.CharacterLemmas.{order}
-use Rattle.input_lines.specs.LineReading.{SeatNumber}
+use Rattle.input_lines.specs.LineReading.{SmallNumber}
 
 -- a seat has one digit or two
 pub data SeatShape (n : ℕ) : Type 0 where
@@ -36,9 +36,21 @@ first_digit n is = go (shape_of_seat n is)
     go (two le e) = let most = is.1 in
         (48 + n / 10, (48 + n % 10) ∷ [], e, (omega arith, omega (arith, most)), omega (arith, le))
 
--- a further digit makes the number too great for a seat
-abbrev pub IsFull : ℕ → Text → Type 0
-IsFull n rest = (digit : ℕ) (s : Text) → rest ≡ digit ∷ s → IsDigit digit → 64 < n * 10 + (digit - 48)
+-- that digit is no more than the number
+first_within : (n digit : ℕ) (s : Text) → IsSeat n → decimal n ≡ digit ∷ s → digit ≤ 48 + n
+first_within n digit s is e = go (shape_of_seat n is)
+  where
+    go : SeatShape n → digit ≤ 48 + n
+    go (one lt f) = let same : digit ≡ 48 + n = cc in omega (arith, same)
+    go (two le f) = let same : digit ≡ 48 + n / 10 = cc in omega (arith, same)
+
+-- a further digit makes the number too great
+abbrev pub IsFull : ℕ → ℕ → Text → Type 0
+IsFull most n rest = (digit : ℕ) (s : Text) → rest ≡ digit ∷ s → IsDigit digit → most < n * 10 + (digit - 48)
+
+-- the numbers up to one that is no greater than the last seat are seats
+seat_of : {most n : ℕ} → most ≤ 64 → (1 ≤ n) × (n ≤ most) → IsSeat n
+seat_of few is = let le = is.1 in (is.0, omega (arith, few, le))
 
 no_digit_first : (digit : ℕ) (s z : Text) → z ≡ digit ∷ s → IsDigit digit → NoDigit z → ⊥
 no_digit_first digit s z e is none = (subst NoDigit e none) is
@@ -54,17 +66,17 @@ one_two d c x (t ∷ rest) z (y, b) = let e : c ∷ (x ∷ z) ≡ d ∷ (t ∷ y
 two_more : (d x : ℕ) (rest s : Text) → SharesPrefix (d ∷ (x ∷ [])) rest s → (y : Text) × (s ≡ d ∷ (x ∷ y))
 two_more d x rest s b = begins_shorter (d ∷ []) (x ∷ []) rest s b
 
-module _ (n : ℕ) (is : IsSeat n) (rest : Text) (full : n < 10 → IsFull n rest) where
-  only_by : SeatShape n → (m : ℕ) (z : Text) → IsSeat m → SeatShape m → NoDigit z → SharesPrefix (decimal n) rest (decimal m ++ z) → m ≡ n
+module _ (most : ℕ) (few : most ≤ 64) (n : ℕ) (is : (1 ≤ n) × (n ≤ most)) (rest : Text) (full : n < 10 → IsFull most n rest) where
+  only_by : SeatShape n → (m : ℕ) (z : Text) → (1 ≤ m) × (m ≤ most) → SeatShape m → NoDigit z → SharesPrefix (decimal n) rest (decimal m ++ z) → m ≡ n
   only_by (one lt e) m z seat (one lt' e') none b =
       let same = one_one (48 + n) (48 + m) rest z (subst (λ l. SharesPrefix ((48 + n) ∷ []) rest (l ++ z)) e'
       (subst (λ l. SharesPrefix l rest (decimal m ++ z)) e b)) in omega (arith, same)
   only_by (one lt e) m z seat (two le' e') none b =
       let (same, (s, at)) = one_two (48 + n) (48 + m / 10) (48 + m % 10) rest z
       (subst (λ l. SharesPrefix ((48 + n) ∷ []) rest (l ++ z)) e' (subst (λ l. SharesPrefix l rest (decimal m ++ z)) e b)) in
-      let most = seat.1 in
+      let within = seat.1 in
       let over = full lt (48 + m % 10) s at (omega arith, omega arith) in
-      absurd (omega (arith, same, over, most))
+      absurd (omega (arith, same, over, within))
   only_by (two le e) m z seat (one lt' e') none b =
       let (y, at) = two_more (48 + n / 10) (48 + n % 10) rest (((48 + m) ∷ []) ++ z)
       (subst (λ l. SharesPrefix ((48 + n / 10) ∷ ((48 + n % 10) ∷ [])) rest (l ++ z)) e'
@@ -79,76 +91,85 @@ module _ (n : ℕ) (is : IsSeat n) (rest : Text) (full : n < 10 → IsFull n res
       let ones : 48 + m % 10 ≡ 48 + n % 10 = cc in
       omega (arith, tens, ones)
 
-  pub seat_right : {ts : Text} → ts ≡ decimal n ++ rest → Right SeatNumber Always NoDigit ts (Ok (n, rest))
-  seat_right split = at_tokens split (record {
+  number_right : {ts : Text} → ts ≡ decimal n ++ rest → Right (SmallNumber most) Always NoDigit ts (Ok (n, rest))
+  number_right split = at_tokens split (record {
     by = record {
       front = decimal n;
       split = refl;
       found = record { is = is; are = refl };
       fits = tt;
       only = λ a m z h hz b.
-          let same = only_by (shape_of_seat n is) m z h.is (shape_of_seat m h.is) hz
+          let same = only_by (shape_of_seat n (seat_of few is)) m z h.is (shape_of_seat m (seat_of few h.is)) hz
           (subst (λ l. SharesPrefix (decimal n) rest (l ++ z)) h.are b) in
           (h.are ∙ ap decimal same, same);
     };
   })
 
--- no seat begins so
-pub no_seat : (ts : Text) → ((digit : ℕ) (s : Text) → ts ≡ digit ∷ s → IsDigit digit → 49 ≤ digit → ⊥)
-    → Right SeatNumber Always NoDigit ts (Err (Fault Unexpected (length ts)))
-no_seat ts none = refused_first SeatNumber ts (go ts none)
+-- no number begins so
+pub no_number : (most : ℕ) → most ≤ 64 → (ts : Text)
+    → ((digit : ℕ) (s : Text) → ts ≡ digit ∷ s → IsDigit digit → 49 ≤ digit → digit ≤ 48 + most → ⊥)
+    → Right (SmallNumber most) Always NoDigit ts (Err (Fault Unexpected (length ts)))
+no_number most few ts none = refused_first (SmallNumber most) ts (go ts none)
   where
-    go : (ts : Text) → ((digit : ℕ) (s : Text) → ts ≡ digit ∷ s → IsDigit digit → 49 ≤ digit → ⊥) → (a : Text) (n : ℕ) (z : Text)
-        → SeatNumber a n → NoDigit z → SharesPrefix [] ts (a ++ z) → ⊥
-    go [] none a n z h hz b = let (digit, s, e, is, low) = first_digit n h.is in
+    go : (ts : Text) → ((digit : ℕ) (s : Text) → ts ≡ digit ∷ s → IsDigit digit → 49 ≤ digit → digit ≤ 48 + most → ⊥) → (a : Text) (n : ℕ)
+        (z : Text) → SmallNumber most a n → NoDigit z → SharesPrefix [] ts (a ++ z) → ⊥
+    go [] none a n z h hz b = let (digit, s, e, is, low) = first_digit n (seat_of few h.is) in
         let same : (digit ∷ s) ++ z ≡ [] = ap (λ l. l ++ z) (sym (h.are ∙ e)) ∙ b in cc
-    go (t ∷ ts) none a n z h hz (w, b) = let (digit, s, e, is, low) = first_digit n h.is in
+    go (t ∷ ts) none a n z h hz (w, b) = let (digit, s, e, is, low) = first_digit n (seat_of few h.is) in
         let same : (digit ∷ s) ++ z ≡ t ∷ w = ap (λ l. l ++ z) (sym (h.are ∙ e)) ∙ b in
         let at : t ≡ digit = cc in
-        none digit ts (ap (λ q. q ∷ ts) at) is low
+        let within = h.is.1 in
+        let first = first_within n digit s (seat_of few h.is) e in
+        none digit ts (ap (λ q. q ∷ ts) at) is low (omega (arith, within, first))
 
 -- ---- the answers
-pub no_digit_at : (ts : Text) → NoDigit ts → (digit : ℕ) (s : Text) → ts ≡ digit ∷ s → IsDigit digit → 49 ≤ digit → ⊥
-no_digit_at ts none digit s e is low = no_digit_first digit s ts e is none
+pub no_digit_at : (most : ℕ) (ts : Text) → NoDigit ts → (digit : ℕ) (s : Text) → ts ≡ digit ∷ s → IsDigit digit → 49 ≤ digit
+    → digit ≤ 48 + most → ⊥
+no_digit_at most ts none digit s e is low within = no_digit_first digit s ts e is none
 
-pub zero_at : (ts : Text) (byte : ℕ) (rest : Text) → ts ≡ byte ∷ rest → byte - 48 ≡ 0 → (digit : ℕ) (s : Text) → ts ≡ digit ∷ s
-    → IsDigit digit → 49 ≤ digit → ⊥
-zero_at ts byte rest e is digit s e' d low = let same : digit ≡ byte = cc in omega (arith, same, is, low)
+pub zero_at : (most : ℕ) (ts : Text) (byte : ℕ) (rest : Text) → ts ≡ byte ∷ rest → byte - 48 ≡ 0 → (digit : ℕ) (s : Text) → ts ≡ digit ∷ s
+    → IsDigit digit → 49 ≤ digit → digit ≤ 48 + most → ⊥
+zero_at most ts byte rest e is digit s e' d low within = let same : digit ≡ byte = cc in omega (arith, same, is, low)
+
+pub great_at : (most : ℕ) (ts : Text) (byte first : ℕ) (rest : Text) → ts ≡ byte ∷ rest → first ≡ byte - 48 → most < first → (digit : ℕ)
+    (s : Text) → ts ≡ digit ∷ s → IsDigit digit → 49 ≤ digit → digit ≤ 48 + most → ⊥
+great_at most ts byte first rest e is over digit s e' d low within = let same : digit ≡ byte = cc in omega (arith, same, is, over, within, low)
 
 -- one digit
-pub one_digit : {ts rest : Text} {byte first : ℕ} → IsDigit byte → ts ≡ byte ∷ rest → first ≡ byte - 48 → (first ≡ 0 → ⊥)
-    → IsFull first rest → Right SeatNumber Always NoDigit ts (Ok (first, rest))
-one_digit {ts = ts} {rest = rest} {byte = byte} {first = first} d e is some full =
+pub one_digit : (most : ℕ) → most ≤ 64 → {ts rest : Text} {byte first : ℕ} → IsDigit byte → ts ≡ byte ∷ rest → first ≡ byte - 48
+    → (first ≡ 0 → ⊥) → first ≤ most → IsFull most first rest → Right (SmallNumber most) Always NoDigit ts (Ok (first, rest))
+one_digit most few {ts = ts} {rest = rest} {byte = byte} {first = first} d e is some within full =
     let low : 49 ≤ byte = by_order (order byte 49) in
     let same : 48 + first ≡ byte = omega (arith, is, d.0) in
     let text : decimal first ≡ byte ∷ [] = decimal_digit first (omega (arith, is, d.1)) ∙ ap (λ q. q ∷ []) same in
-    seat_right first (omega (arith, is, low), omega (arith, is, d.1)) rest (λ _. full) (e ∙ ap (λ l. l ++ rest) (sym text))
+    number_right most few first (omega (arith, is, low), within) rest (λ _. full) (e ∙ ap (λ l. l ++ rest) (sym text))
   where
     by_order : (byte < 49) ⊎ (49 ≤ byte) → 49 ≤ byte
     by_order (inl lt) = absurd (some (omega (arith, is, lt)))
     by_order (inr le) = le
 
-pub full_end : (n : ℕ) (rest : Text) → NoDigit rest → IsFull n rest
-full_end n rest none digit s e is = absurd (no_digit_first digit s rest e is none)
+pub full_end : (most n : ℕ) (rest : Text) → NoDigit rest → IsFull most n rest
+full_end most n rest none digit s e is = absurd (no_digit_first digit s rest e is none)
 
-pub full_over : (n byte second : ℕ) (rest after : Text) → rest ≡ byte ∷ after → second ≡ byte - 48 → 64 < n * 10 + second → IsFull n rest
-full_over n byte second rest after e is over digit s e' d = let same : digit ≡ byte = cc in omega (arith, same, is, over)
+pub full_over : (most n byte second : ℕ) (rest after : Text) → rest ≡ byte ∷ after → second ≡ byte - 48 → most < n * 10 + second
+    → IsFull most n rest
+full_over most n byte second rest after e is over digit s e' d = let same : digit ≡ byte = cc in omega (arith, same, is, over)
 
 -- two digits
-pub two_digits : {ts rest after : Text} {byte first next second : ℕ} → IsDigit byte → ts ≡ byte ∷ rest → first ≡ byte - 48
-    → (first ≡ 0 → ⊥) → IsDigit next → rest ≡ next ∷ after → second ≡ next - 48 → first * 10 + second ≤ 64
-    → Right SeatNumber Always NoDigit ts (Ok (first * 10 + second, after))
-two_digits {ts = ts} {rest = rest} {after = after} {byte = byte} {first = first} {next = next} {second = second}
-    d e is some d' e' is' most =
+pub two_digits : (most : ℕ) → most ≤ 64 → {ts rest after : Text} {byte first next second : ℕ} → IsDigit byte → ts ≡ byte ∷ rest
+    → first ≡ byte - 48 → (first ≡ 0 → ⊥) → IsDigit next → rest ≡ next ∷ after → second ≡ next - 48 → first * 10 + second ≤ most
+    → Right (SmallNumber most) Always NoDigit ts (Ok (first * 10 + second, after))
+two_digits most few {ts = ts} {rest = rest} {after = after} {byte = byte} {first = first} {next = next} {second = second}
+    d e is some d' e' is' within =
     let low : 1 ≤ first = by_order (order first 1) in
     let n : ℕ = first * 10 + second in
     let tens : 48 + (first * 10 + second) / 10 ≡ byte = omega (arith, is, is', d.0, d'.1) in
     let ones : 48 + (first * 10 + second) % 10 ≡ next = omega (arith, is', d'.0, d'.1) in
     let text : decimal (first * 10 + second) ≡ byte ∷ (next ∷ []) =
-    decimal_step (first * 10 + second) (omega (arith, low)) (omega (arith, most))
-    ∙ ap (λ l. l ++ ((48 + (first * 10 + second) % 10) ∷ [])) (decimal_digit ((first * 10 + second) / 10) (omega (arith, most)))
+    decimal_step (first * 10 + second) (omega (arith, low)) (omega (arith, within, few))
+    ∙ ap (λ l. l ++ ((48 + (first * 10 + second) % 10) ∷ [])) (decimal_digit ((first * 10 + second) / 10) (omega (arith, within, few)))
     ∙ ap (λ q. q ∷ ((48 + (first * 10 + second) % 10) ∷ [])) tens ∙ ap (λ q. byte ∷ (q ∷ [])) ones in
-    seat_right (first * 10 + second) (omega (arith, low), most) after (λ lt. absurd (omega (arith, low, lt)))
+    number_right most few (first * 10 + second) (omega (arith, low), within) after (λ lt. absurd (omega (arith, low, lt)))
     (e ∙ ap (λ l. byte ∷ l) e' ∙ ap (λ l. l ++ after) (sym text))
   where
     by_order : (first < 1) ⊎ (1 ≤ first) → 1 ≤ first

@@ -1,5 +1,5 @@
 -- What the functions inside read: each a language.
-use Rattle.std.specs.Prelude.{◌≡◌, ℕ, Bool, List, [], ◌∷◌, ◌++◌, codes, decimal}
+use Rattle.std.specs.Prelude.{◌≡◌, ◌≤◌, ℕ, Bool, List, [], ◌∷◌, ◌++◌, codes, decimal}
 use Rattle.task_model.specs.Terms.Text.{Text}
 use Rattle.task_model.specs.Terms.Value.{ValueTerm}
 use Rattle.task_model.specs.Terms.Input.{ActTerm}
@@ -35,10 +35,14 @@ pub record EndWord (word : Text) (t : Text) (x : Unit {0}) : Type 0 where
   pub returned : Bool
   pub are : t ≡ word ++ return_text returned
 
+-- a number of 1 to at most so many, without a leading zero
+pub record SmallNumber (most : ℕ) (t : Text) (number : ℕ) : Type 0 where
+  pub is : (1 ≤ number) × (number ≤ most)
+  pub are : t ≡ decimal number
+
 -- a seat
-pub record SeatNumber (t : Text) (seat : ℕ) : Type 0 where
-  pub is : IsSeat seat
-  pub are : t ≡ decimal seat
+abbrev pub SeatNumber : Text → ℕ → Type 0
+SeatNumber = SmallNumber 64
 
 -- a literal to the end of the line
 pub record EndLiteral (t : Text) (v : ValueTerm) : Type 0 where

@@ -19,6 +19,7 @@ mod standing;
 
 pub use laws::{one_line, printed_entry};
 pub use line::Line;
-pub use parse::parse_line;
+pub use parse::{parse_line, parse_line_within};
 pub use print::print_entry;
+pub use seats::small_number;
 pub use soak::{soak_entry, soak_program};

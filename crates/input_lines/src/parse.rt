@@ -24,11 +24,11 @@ pub fn parse_line(alloc: Global, bytes: &[u8]) -> Result<Line, LineStop>
     // A seat that is named is a seat.
     ensures seat { IfOk result (λ l. HasSeat (line_term l)) }
 {
-    line_within(alloc, bytes, LINE_BYTE_LIMIT)
+    parse_line_within(alloc, bytes, LINE_BYTE_LIMIT)
 }
 
 /// The same for lines of at most so many bytes.
-fn line_within(alloc: Global, bytes: &[u8], longest: usize) -> Result<Line, LineStop>
+pub fn parse_line_within(alloc: Global, bytes: &[u8], longest: usize) -> Result<Line, LineStop>
     requires { longest < 2 ^ 32 }
     ensures found { IfOk result (λ l. IsScriptLine bytes.now (line_term l) × (length bytes.now ≤ longest)) }
     ensures only { (l : LineTerm) → IsScriptLine bytes.now l → length bytes.now ≤ longest

@@ -14,8 +14,8 @@ use Rattle.command_words.specs.Commands.{CommandTerm, run, check, soak, drill, s
 use Rattle.tophat.specs.declared.ending.CommandEnding.TheVariants.{Ran}
 use Rattle.tophat.specs.Ending.{status_of}
 use Rattle.tophat.specs.Verdict.{accepted}
-use Rattle.tophat.specs.declared.line_form.LineForm.{LineForm}
-use Rattle.tophat.specs.declared.line_form.LineForm.TheVariants.{Script, Json}
+use Rattle.world_answers.specs.declared.line_form.LineForm.{LineForm}
+use Rattle.world_answers.specs.declared.line_form.LineForm.TheVariants.{Script, Json}
 use Rattle.tophat.specs.Session.{Tells}
 use Rattle.tophat.specs.Top.{NeedsMore, Report, limits, world, none, world_at, Opened, OpensVerdict, ReportsFile, ReportsOpened, ReportsTold, ReportsVerdict, Reports, runs}
 use Rattle.tophat.specs.Promise.{Promised, WritesReport}

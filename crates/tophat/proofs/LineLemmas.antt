@@ -7,8 +7,8 @@ use Rattle.input_lines.specs.ScriptLines.{LineTerm, IsScriptLine}
 use Rattle.input_lines.specs.LinePlaces.{IsLineWithin, IsBadLine}
 use Rattle.json_face.proofs.AskedLemmas.{one_asked}
 use Rattle.json_face.proofs.LineDecisions.{json_line_or_none}
-use Rattle.tophat.specs.declared.line_form.LineForm.{LineForm}
-use Rattle.tophat.specs.declared.line_form.LineForm.TheVariants.{Script, Json}
+use Rattle.world_answers.specs.declared.line_form.LineForm.{LineForm}
+use Rattle.world_answers.specs.declared.line_form.LineForm.TheVariants.{Script, Json}
 use Rattle.tophat.specs.LineForms.{Asking, IsAsking, IsOutside}
 use Rattle.input_lines.proofs.Decisions.{one_line_meaning, line_or_place}
 use Rattle.input_lines.proofs.LawLemmas.{one_place, line_is_good, of_front}

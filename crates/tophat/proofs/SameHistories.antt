@@ -4,12 +4,11 @@ use Rattle.task_model.specs.Terms.Text.{Text}
 use Rattle.task_laws.proofs.OutcomeLemmas.{outcome_once}
 use Rattle.world_core.specs.World.{WorldTerm}
 use Rattle.input_lines.specs.ScriptLines.{LineTerm, nothing, shows, gives}
-use Rattle.tophat.specs.declared.line_form.LineForm.{LineForm}
-use Rattle.tophat.specs.LineForms.{answer_text}
-use Rattle.tophat.specs.Session.{Answers, world_after}
+use Rattle.world_answers.specs.declared.line_form.LineForm.{LineForm}
+use Rattle.world_answers.specs.Answers.{Answers, answer_text, world_after}
 use Rattle.tophat.specs.Complete.{AnswersAll}
 use Rattle.tophat.specs.SameHistory.{AskFor, LeadsTo}
-use Rattle.tophat.proofs.SessionLemmas.{page_exists}
+use Rattle.world_answers.proofs.AnswerLemmas.{page_exists}
 
 -- lines that are answered lead to a world
 pub lines_lead : (form : LineForm) (w : WorldTerm) (lines : List Text) (text : Text) → AnswersAll form w lines text

@@ -1,17 +1,8 @@
 -- What is told of lines, by what the world's calls answer.
-use Rattle.std.proofs.Common.{◌≡◌, ℕ, ◌+◌, ◌≤◌, List, [], ◌∷◌, length, take, Ok, Err, refl, sym, ap, ◌∙◌, subst, ◌⊎◌, inl, inr, arith, length-take}
+use Rattle.std.proofs.Common.{◌≡◌, ℕ, ◌+◌, ◌≤◌, List, [], ◌∷◌, length, take, Err, refl, sym, ap, ◌∙◌, subst, ◌⊎◌, inl, inr, arith, length-take}
 use Rattle.std.proofs.lemmas.List.{take_all}
 use Rattle.task_model.specs.Terms.Text.{Text}
-use Rattle.task_model.specs.Terms.Input.{EntryTerm}
-use Rattle.task_model.specs.Running.Outcome.{taken, not_offered, over_budget}
-use Rattle.task_model.specs.Showing.Page.{page_text}
-use Rattle.task_model.specs.Showing.Widget.{WidgetTerm}
-use Rattle.task_model.specs.Running.State.{version_of}
-use Rattle.task_laws.proofs.OutcomeLemmas.{outcome_exists, outcome_once}
-use Rattle.task_laws.proofs.OfferLemmas.{widgets_exist, widgets_once}
-use Rattle.task_model.specs.declared.stops.ActStop.TheVariants.{NotOffered, Over}
-use Rattle.world_core.specs.declared.answers.Taken.{Taken}
-use Rattle.world_core.specs.World.{WorldTerm, Replies}
+use Rattle.world_core.specs.World.{WorldTerm}
 use Rattle.line_frame.specs.Told.{Told, told_after, TellsFirst, TellsBad}
 use Rattle.line_frame.specs.BadLine.{IfBad}
 use Rattle.line_frame.specs.declared.machine.LineStop.{LineStop}
@@ -19,70 +10,13 @@ use Rattle.line_frame.specs.declared.machine.LineStop.TheVariants.{Bad, Memory}
 use Rattle.line_frame.specs.Script.{TellsScript, lines_in, end_of}
 use Rattle.line_frame.specs.declared.finish.Finish.{Finish}
 use Rattle.line_frame.specs.declared.finish.Finish.TheVariants as finishes
-use Rattle.input_lines.specs.ScriptLines.{LineTerm, nothing, shows, gives}
-use Rattle.json_face.specs.JsonPages.{page_data}
-use Rattle.tophat.specs.declared.line_form.LineForm.{LineForm}
-use Rattle.tophat.specs.declared.line_form.LineForm.TheVariants.{Script, Json}
-use Rattle.tophat.specs.LineForms.{IsAsking, IsOutside, IsOutsideColumn, IsShown, answer_text, json_line, taken_text, not_offered_text, over_budget_text}
+use Rattle.input_lines.specs.ScriptLines.{LineTerm}
+use Rattle.world_answers.specs.declared.line_form.LineForm.{LineForm}
+use Rattle.world_answers.specs.Answers.{Answers}
+use Rattle.world_answers.proofs.AnswerLemmas.{answers_once, answers_exist}
+use Rattle.tophat.specs.LineForms.{IsAsking, IsOutside, IsOutsideColumn}
 use Rattle.tophat.proofs.LineLemmas.{asked_once, outside_once, form_apart, cut_outside, form_decided, asking_within}
-use Rattle.tophat.specs.Session.{Answers, Tells, world_after}
-
--- ---- what the world replied is the answer
-pub taken_answers : (form : LineForm) (w : WorldTerm) (e : EntryTerm) (new : WorldTerm) (done : Taken) (text : Text) → Replies w e new (Ok done)
-    → text ≡ taken_text form done.version → Answers form w (gives e) text new
-taken_answers form w e new done text r is = (
-  taken r.0,
-  r.1,
-  is ∙ ap (taken_text form) (r.3 ∙ ap (λ (z : WorldTerm). version_of z.history) r.2),
-  r.2,
-)
-
--- the version at a refusal is the one before
-version_kept : (w new : WorldTerm) (version : ℕ) → version ≡ version_of new.history → new ≡ w → version ≡ version_of w.history
-version_kept w new version is same = is ∙ ap (λ (z : WorldTerm). version_of z.history) same
-
-pub refused_answers : (form : LineForm) (w : WorldTerm) (e : EntryTerm) (new : WorldTerm) (version : ℕ) (text : Text)
-    → Replies w e new (Err NotOffered) → version ≡ version_of new.history → text ≡ not_offered_text form version
-    → Answers form w (gives e) text new
-refused_answers form w e new version text r v is =
-    (not_offered, r.0, is ∙ ap (not_offered_text form) (version_kept w new version v r.1), r.1)
-
-pub over_answers : (form : LineForm) (w : WorldTerm) (e : EntryTerm) (new : WorldTerm) (version : ℕ) (text : Text)
-    → Replies w e new (Err Over) → version ≡ version_of new.history → text ≡ over_budget_text form version
-    → Answers form w (gives e) text new
-over_answers form w e new version text r v is =
-    (over_budget, r.0, is ∙ ap (over_budget_text form) (version_kept w new version v r.1), r.1)
-
--- ---- a line is answered in exactly one way
-page_once : (form : LineForm) (w : WorldTerm) (seat : ℕ) (a b : Text) → IsShown form w seat a → IsShown form w seat b → a ≡ b
-page_once Json w seat a b p q =
-    p.2 ∙ ap (λ (ws : List WidgetTerm). json_line (page_data (version_of w.history) seat ws))
-    (widgets_once w.checked w.budget w.state.tree w.state.store p.0 q.0 p.1 q.1) ∙ sym q.2
-page_once Script w seat a b p q =
-    p.2 ∙ ap (page_text (version_of w.history) seat) (widgets_once w.checked w.budget w.state.tree w.state.store p.0 q.0 p.1 q.1) ∙ sym q.2
-
-answers_once : (form : LineForm) (w : WorldTerm) (line : LineTerm) (a b : Text) (v u : WorldTerm) → Answers form w line a v → Answers form w line b u
-    → (a ≡ b) × (v ≡ u)
-answers_once form w nothing a b v u p q = (p.0 ∙ sym q.0, p.1 ∙ sym q.1)
-answers_once form w (shows seat) a b v u p q = (page_once form w seat a b p.0 q.0, p.1 ∙ sym q.1)
-answers_once form w (gives e) a b v u p q =
-    let same = outcome_once w.checked w.budget w.state e.input p.0 q.0 p.1 q.1 in
-    (p.2 ∙ ap (answer_text form w e) same ∙ sym q.2, p.3 ∙ ap (world_after w e) same ∙ sym q.3)
-
-pub page_exists : (form : LineForm) (w : WorldTerm) (seat : ℕ) → (text : Text) × IsShown form w seat text
-page_exists Script w seat =
-    let ws = widgets_exist w.checked w.budget w.state.tree w.state.store in
-    (page_text (version_of w.history) seat ws.0, (ws.0, ws.1, refl))
-page_exists Json w seat =
-    let ws = widgets_exist w.checked w.budget w.state.tree w.state.store in
-    (json_line (page_data (version_of w.history) seat ws.0), (ws.0, ws.1, refl))
-
-pub answers_exist : (form : LineForm) (w : WorldTerm) (line : LineTerm) → (text : Text) × (next : WorldTerm) × Answers form w line text next
-answers_exist form w nothing = ([], w, (refl, refl))
-answers_exist form w (shows seat) = let page = page_exists form w seat in (page.0, w, (page.1, refl))
-answers_exist form w (gives e) =
-    let o = outcome_exists w.checked w.budget w.state e.input in
-    (answer_text form w e o.0, world_after w e o.0, (o.0, o.1, refl, refl))
+use Rattle.tophat.specs.Session.{Tells}
 
 -- ---- of lines exactly one thing is told
 pub told_exists : (form : LineForm) (longest : ℕ) (w : WorldTerm) (number : ℕ) (lines : List Text) (finish : Finish)

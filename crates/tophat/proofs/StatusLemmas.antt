@@ -12,7 +12,7 @@ use Rattle.tophat.specs.declared.no_world.NoWorld.TheVariants.{Refused, OverBudg
 use Rattle.tophat.specs.declared.refusal.Refusal.{Refusal}
 use Rattle.tophat.specs.Ending.{status_of}
 use Rattle.tophat.specs.Verdict.{Verdict, accepted, refused, IsVerdictOf}
-use Rattle.tophat.specs.declared.line_form.LineForm.TheVariants.{Script, Json}
+use Rattle.world_answers.specs.declared.line_form.LineForm.TheVariants.{Script, Json}
 use Rattle.tophat.specs.Session.{Tells}
 use Rattle.tophat.specs.Top.{Limits, Report, ends, writes, reported, source_of, Opened, world, none, checks, ReportsFile, ReportsOpened, ReportsVerdict, ReportsTold, ReportsSoak, Reports, ReportsBound}
 use Rattle.tophat.specs.Worked.{IfSilent}

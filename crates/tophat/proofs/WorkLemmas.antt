@@ -34,8 +34,8 @@ use Rattle.tophat.specs.Ending.{status_of}
 use Rattle.task_model.specs.Running.Checked.{CheckedTerm}
 use Rattle.task_model.specs.Syntax.Printed.{program_text}
 use Rattle.tophat.specs.Verdict.{Verdict, accepted, refused, IsVerdict, IsOnlyVerdict, Judges, IsVerdictOf, HasVerdict}
-use Rattle.tophat.specs.declared.line_form.LineForm.{LineForm}
-use Rattle.tophat.specs.declared.line_form.LineForm.TheVariants.{Script, Json}
+use Rattle.world_answers.specs.declared.line_form.LineForm.{LineForm}
+use Rattle.world_answers.specs.declared.line_form.LineForm.TheVariants.{Script, Json}
 use Rattle.tophat.specs.Session.{Tells}
 use Rattle.tophat.specs.Top.{Limits, limits, Report, ends, writes, reported, source_of, soak_budget, Opened, world, none, checks, ReportsFile, ReportsOpened, ReportsVerdict, ReportsTold, Reports, ReportsLines, runs, bound_line, ReportsBound}
 use Rattle.tophat.specs.Sources.{FindsFile, WritesText, TellsText, ReportsCheck, ReportsInputs, ReportsBounded}

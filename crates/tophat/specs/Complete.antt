@@ -9,12 +9,12 @@ use Rattle.line_frame.specs.Script.{cut_of, all_lines}
 use Rattle.line_frame.specs.declared.finish.Finish.TheVariants.{Done}
 use Rattle.command_words.specs.Commands.{CommandTerm, run, json}
 use Rattle.input_lines.specs.ScriptLines.{LineTerm}
-use Rattle.tophat.specs.declared.line_form.LineForm.{LineForm}
-use Rattle.tophat.specs.declared.line_form.LineForm.TheVariants.{Script, Json}
+use Rattle.world_answers.specs.declared.line_form.LineForm.{LineForm}
+use Rattle.world_answers.specs.declared.line_form.LineForm.TheVariants.{Script, Json}
 use Rattle.tophat.specs.LineForms.{Asking, IsAsking}
 use Rattle.tophat.specs.declared.ending.CommandEnding.TheVariants.{Ran}
 use Rattle.tophat.specs.Verdict.{accepted, IsVerdict}
-use Rattle.tophat.specs.Session.{Answers}
+use Rattle.world_answers.specs.Answers.{Answers}
 use Rattle.tophat.specs.Top.{Limits, Report, world_at}
 
 -- the lines of a script, the last of which may lack its LF

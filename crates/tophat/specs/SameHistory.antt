@@ -3,9 +3,9 @@ use Rattle.std.specs.Prelude.{◌≡◌, List, [], ◌∷◌}
 use Rattle.task_model.specs.Terms.Text.{Text}
 use Rattle.world_core.specs.World.{WorldTerm}
 use Rattle.input_lines.specs.ScriptLines.{LineTerm}
-use Rattle.tophat.specs.declared.line_form.LineForm.{LineForm}
+use Rattle.world_answers.specs.declared.line_form.LineForm.{LineForm}
 use Rattle.tophat.specs.LineForms.{Asking}
-use Rattle.tophat.specs.Session.{Answers}
+use Rattle.world_answers.specs.Answers.{Answers}
 
 -- these lines ask for this, one by one
 abbrev pub AskFor : LineForm → List Text → List LineTerm → Type 0

@@ -1,28 +1,14 @@
 -- What is told of the lines of a script, line by line, in each form (docs/FORMATS.md, "Answers" and "JSON").
 use Rattle.std.specs.Prelude.{ℕ, ◌≡◌, ◌+◌, ◌⊎◌, List, [], ◌∷◌}
 use Rattle.task_model.specs.Terms.Text.{Text}
-use Rattle.task_model.specs.Terms.Input.{EntryTerm}
-use Rattle.task_model.specs.Running.Outcome.{Outcome, IsOutcome, taken, not_offered, over_budget}
-use Rattle.world_core.specs.World.{WorldTerm, with_entry}
+use Rattle.world_core.specs.World.{WorldTerm}
 use Rattle.line_frame.specs.Told.{Told, told_after}
 use Rattle.line_frame.specs.declared.finish.Finish.{Finish}
 use Rattle.line_frame.specs.declared.finish.Finish.TheVariants.{Bad}
-use Rattle.input_lines.specs.ScriptLines.{LineTerm, nothing, shows, gives}
-use Rattle.tophat.specs.declared.line_form.LineForm.{LineForm}
-use Rattle.tophat.specs.LineForms.{IsAsking, IsOutside, IsShown, answer_text}
-
--- the world after an entry with this outcome
-abbrev pub world_after : WorldTerm → EntryTerm → Outcome → WorldTerm
-world_after w e (taken t) = with_entry w e t
-world_after w e not_offered = w
-world_after w e over_budget = w
-
--- a line is answered by this text, and leads to this world: an input by its outcome, a page by the world's widgets
-abbrev pub Answers : LineForm → WorldTerm → LineTerm → Text → WorldTerm → Type 0
-Answers form w nothing text next = (text ≡ []) × (next ≡ w)
-Answers form w (shows seat) text next = IsShown form w seat text × (next ≡ w)
-Answers form w (gives e) text next =
-    (o : Outcome) × IsOutcome w.checked w.budget w.state e.input o × (text ≡ answer_text form w e o) × (next ≡ world_after w e o)
+use Rattle.input_lines.specs.ScriptLines.{LineTerm}
+use Rattle.world_answers.specs.declared.line_form.LineForm.{LineForm}
+use Rattle.world_answers.specs.Answers.{Answers}
+use Rattle.tophat.specs.LineForms.{IsAsking, IsOutside}
 
 -- a line in the form is answered, and then what is told of those behind it is told
 pub record TellsAnswer (form : LineForm) (longest : ℕ) (line : Text) (w : WorldTerm) (TellsRest : WorldTerm → Told → Type 0) (told : Told) : Type 0 where

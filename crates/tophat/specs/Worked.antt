@@ -16,7 +16,7 @@ use Rattle.command_words.specs.Commands.{CommandTerm}
 use Rattle.command_words.specs.declared.stop.WordStop.{WordStop}
 use Rattle.command_words.specs.declared.stop.WordStop.TheVariants as words
 use Rattle.tophat.specs.Verdict.{Verdict, IsVerdict, IsVerdictOf, HasVerdict}
-use Rattle.tophat.specs.declared.line_form.LineForm.{LineForm}
+use Rattle.world_answers.specs.declared.line_form.LineForm.{LineForm}
 use Rattle.tophat.specs.Session.{Tells}
 use Rattle.tophat.specs.Top.{Limits, Report, source_of, world, none, OpensVerdict, Reports, ReportsLines, ReportsRead}
 

@@ -16,7 +16,7 @@ ghost use Rattle.tophat.specs.Worked.{IfSilent};
 ghost use Rattle.tophat.specs.Promise.{IsCutShort, Promised};
 ghost use Rattle.tophat.specs.Complete.{AnswersAll, IsRunnable, ReportsAll, lines_of};
 ghost use Rattle.tophat.specs.Replay.{AskAgain, IsReplayable, replay_script, replayed};
-ghost use Rattle.tophat.specs.declared.line_form.LineForm.{LineForm};
+ghost use Rattle.world_answers.specs.declared.line_form.LineForm.{LineForm};
 ghost use Rattle.tophat.specs.SameHistory.{AskFor, LeadsTo};
 ghost use Rattle.world_core.specs.World.{WorldTerm};
 ghost use Rattle.input_lines.specs.ScriptLines.{LineTerm};

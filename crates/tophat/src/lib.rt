@@ -3,11 +3,10 @@
 //! `open_bytes` are the ways to the bytes of a program, to its verdict and to its world, and `CommandEnding` is how a command ends.
 #![tactic(auto)]
 
+mod asking;
 mod commands;
 mod ending;
 mod laws;
-mod line_form;
-mod line_texts;
 mod no_world;
 mod opening;
 mod program_file;

@@ -12,7 +12,6 @@ ghost use Rattle.line_frame.specs.RunFaults.{read_faults_after_run, write_faults
 ghost use Rattle.tophat.specs.declared.ending.CommandEnding.TheVariants as endings;
 
 use crate::ending::CommandEnding;
-use crate::line_form::LineForm;
 use crate::no_world::NoWorld;
 use crate::opening::open_bytes;
 use crate::program_file::read_file;

@@ -15,7 +15,7 @@ use Rattle.command_words.specs.Commands.{run}
 use Rattle.world_core.specs.World.{WorldTerm}
 use Rattle.world_core.proofs.WorldLemmas.{typed_alone}
 use Rattle.tophat.specs.Replay.{replay_script, replayed, taken_lines}
-use Rattle.tophat.specs.declared.line_form.LineForm.TheVariants.{Script}
+use Rattle.world_answers.specs.declared.line_form.LineForm.TheVariants.{Script}
 use Rattle.tophat.specs.Session.{Tells}
 use Rattle.tophat.specs.Top.{Reports, limits, world, world_at}
 use Rattle.tophat.specs.Verdict.{IsVerdict, accepted}

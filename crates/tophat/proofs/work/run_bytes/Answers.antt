@@ -2,7 +2,7 @@ use Rattle.std.proofs.Common.{subst}
 use Rattle.line_frame.specs.RanScript.{RanScript}
 use Rattle.line_frame.specs.declared.finish.Finish.{Finish}
 use Rattle.world_core.specs.World.{SeenWorld, world_term}
-use Rattle.tophat.specs.declared.line_form.LineForm.{LineForm}
+use Rattle.world_answers.specs.declared.line_form.LineForm.{LineForm}
 use Rattle.tophat.specs.Session.{Tells}
 use Rattle.tophat.specs.Top.{limits}
 use Rattle.tophat.proofs.OpeningLemmas.{same_verdict_after}

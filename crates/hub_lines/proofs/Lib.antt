@@ -1,0 +1,6 @@
+pub mod ToEndLemmas
+pub mod NamedLemmas
+pub mod UnnamedLemmas
+pub mod WholeHubLemmas
+pub mod CrossingLemmas
+pub mod QueueLemmas

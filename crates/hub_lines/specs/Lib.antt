@@ -1,0 +1,5 @@
+pub mod HubLines
+pub mod HubPlaces
+pub mod HubReading
+pub mod OwnLines
+pub mod Queues

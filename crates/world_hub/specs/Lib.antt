@@ -1,0 +1,4 @@
+pub mod Hubs
+pub mod Openings
+pub mod Shares
+pub mod Histories
