@@ -26,6 +26,7 @@ use std::alloc::Global;
 use std::sync::ledger::{Blank, Ledger};
 use task_model::{SCRIPT_BYTE_LIMIT, Steps, TaskText};
 use task_reader::print_program;
+use world_answers::LineForm;
 
 /// Does what a plain command asks for, but for the text on the error sink.
 pub(crate) fn work<F: Files, I: Source, O: Sink, L: Ledger>(

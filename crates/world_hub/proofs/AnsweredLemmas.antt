@@ -8,6 +8,7 @@ use Rattle.task_model.specs.declared.memory.OutOfMemory.{OutOfMemory}
 use Rattle.input_lines.specs.ScriptLines.{LineTerm}
 use Rattle.world_core.specs.World.{SeenWorld, WorldTerm, world_term}
 use Rattle.world_answers.specs.Answers.{AnswersInTurn}
+use Rattle.world_answers.specs.declared.line_form.LineForm.TheVariants.{Script}
 use Rattle.hub_lines.specs.OwnLines.{AddressedTerm, own_lines}
 use Rattle.world_hub.specs.declared.own.Numbered.{Numbered}
 use Rattle.world_hub.specs.declared.own.Share.{Share}
@@ -46,7 +47,7 @@ if_ok (Err e) P Q f p = tt
 
 -- ---- all worlds
 -- as many texts as lines
-pub in_turn_length : (w : WorldTerm) (lines : List LineTerm) (texts : List Text) (next : WorldTerm) → AnswersInTurn w lines texts next
+pub in_turn_length : (w : WorldTerm) (lines : List LineTerm) (texts : List Text) (next : WorldTerm) → AnswersInTurn Script w lines texts next
     → length texts ≡ length lines
 in_turn_length w [] [] next a = refl
 in_turn_length w [] (t ∷ texts) next a = absurd a
@@ -75,7 +76,7 @@ hub_answers lines k [] [] texts h stand = tt
 hub_answers lines k [] (s ∷ shares) texts h stand = absurd h
 hub_answers lines k (w ∷ ws) [] texts h stand = absurd h
 hub_answers lines k (w ∷ ws) (s ∷ shares) texts h stand = (
-  subst (λ ts. AnswersInTurn (world_term w) (own_lines k lines) ts (world_term s.world)) (sym stand.0) h.0.answers,
+  subst (λ ts. AnswersInTurn Script (world_term w) (own_lines k lines) ts (world_term s.world)) (sym stand.0) h.0.answers,
   hub_answers lines (k + 1) ws shares texts h.1 stand.1,
 )
 

@@ -7,6 +7,7 @@ use Rattle.task_model.specs.Running.Outcome.{Outcome, taken, not_offered, over_b
 use Rattle.input_lines.specs.ScriptLines.{LineTerm, nothing, shows, gives}
 use Rattle.world_core.specs.World.{WorldTerm}
 use Rattle.world_answers.specs.Answers.{AnswersInTurn, world_after}
+use Rattle.world_answers.specs.declared.line_form.LineForm.TheVariants.{Script}
 use Rattle.world_answers.proofs.AnswerLemmas.{in_turn_once}
 use Rattle.hub_lines.specs.OwnLines.{AddressedTerm, own_lines, own_texts}
 use Rattle.world_hub.specs.Hubs.{EachAnswersOwn, AreHubTexts}
@@ -16,7 +17,7 @@ use Rattle.world_hub.specs.Histories.{AreSomeOf}
 record AnswersAt (k : ℕ) (w : WorldTerm) (place : ℕ) (lines : List AddressedTerm) (texts : List Text) (after : List WorldTerm) : Type 0 where
   pub next : WorldTerm
   pub at : slice_get after place ≡ Some next
-  pub answers : AnswersInTurn w (own_lines (k + place) lines) (own_texts (k + place) lines texts) next
+  pub answers : AnswersInTurn Script w (own_lines (k + place) lines) (own_texts (k + place) lines texts) next
 
 answers_at : (k place : ℕ) (worlds : List WorldTerm) (lines : List AddressedTerm) (texts : List Text) (after : List WorldTerm) (w : WorldTerm)
     → EachAnswersOwn k worlds lines texts after → slice_get worlds place ≡ Some w → AnswersAt k w place lines texts after
@@ -28,15 +29,15 @@ answers_at k zero (v ∷ worlds) lines texts (n ∷ after) w h got =
     let here : k ≡ k + 0 = omega arith in record {
       next = n;
       at = refl;
-      answers = subst (λ (z : WorldTerm). AnswersInTurn z (own_lines (k + 0) lines) (own_texts (k + 0) lines texts) n) same
-          (subst (λ i. AnswersInTurn v (own_lines i lines) (own_texts i lines texts) n) here h.0);
+      answers = subst (λ (z : WorldTerm). AnswersInTurn Script z (own_lines (k + 0) lines) (own_texts (k + 0) lines texts) n) same
+          (subst (λ i. AnswersInTurn Script v (own_lines i lines) (own_texts i lines texts) n) here h.0);
     }
 answers_at k (suc place) (v ∷ worlds) lines texts (n ∷ after) w h got =
     let more = answers_at (k + 1) place worlds lines texts after w h.1 got in
     let there : k + 1 + place ≡ k + suc place = omega arith in record {
       next = more.next;
       at = more.at;
-      answers = subst (λ i. AnswersInTurn w (own_lines i lines) (own_texts i lines texts) more.next) there more.answers;
+      answers = subst (λ i. AnswersInTurn Script w (own_lines i lines) (own_texts i lines texts) more.next) there more.answers;
     }
 
 pub decided : (place : ℕ) (w : WorldTerm) (worlds others : List WorldTerm) (lines more : List AddressedTerm) (texts answers : List Text)
@@ -48,10 +49,10 @@ decided place w worlds others lines more texts answers after later h k at at' sa
     let a = answers_at 1 place worlds lines texts after w h.each at in
     let b = answers_at 1 place others more answers later w k.each at' in
     let number : 1 + place ≡ place + 1 = omega arith in
-    let own = subst (λ i. AnswersInTurn w (own_lines i lines) (own_texts i lines texts) a.next) number a.answers in
-    let other = subst (λ i. AnswersInTurn w (own_lines i more) (own_texts i more answers) b.next) number b.answers in
-    let moved = subst (λ ls. AnswersInTurn w ls (own_texts (place + 1) lines texts) a.next) same own in
-    let once = in_turn_once w (own_lines (place + 1) more) (own_texts (place + 1) lines texts) (own_texts (place + 1) more answers) a.next b.next
+    let own = subst (λ i. AnswersInTurn Script w (own_lines i lines) (own_texts i lines texts) a.next) number a.answers in
+    let other = subst (λ i. AnswersInTurn Script w (own_lines i more) (own_texts i more answers) b.next) number b.answers in
+    let moved = subst (λ ls. AnswersInTurn Script w ls (own_texts (place + 1) lines texts) a.next) same own in
+    let once = in_turn_once Script w (own_lines (place + 1) more) (own_texts (place + 1) lines texts) (own_texts (place + 1) more answers) a.next b.next
     moved other in
     (once.0, a.at ∙ ap Some once.1 ∙ sym b.at)
 
@@ -85,7 +86,7 @@ grows_by w m next e lines over_budget is g = record {
   history = g.history ∙ ap (λ h. h ++ map took g.entries) (history_of is);
 }
 
-grows : (w next : WorldTerm) (lines : List LineTerm) (texts : List Text) → AnswersInTurn w lines texts next → Grows w next lines
+grows : (w next : WorldTerm) (lines : List LineTerm) (texts : List Text) → AnswersInTurn Script w lines texts next → Grows w next lines
 grows w next [] [] a = record { entries = []; some = refl; history = history_of a ∙ sym (append-nil w.history) }
 grows w next [] (t ∷ texts) a = absurd a
 grows w next (l ∷ lines) [] a = absurd a
@@ -97,6 +98,6 @@ grows w next (shows seat ∷ lines) (t ∷ texts) (m, here, more) =
     record { entries = g.entries; some = g.some; history = g.history ∙ ap (λ h. h ++ map took g.entries) (history_of here.1) }
 grows w next (gives e ∷ lines) (t ∷ texts) (m, here, more) = grows_by w m next e lines here.0 here.3 (grows m next lines texts more)
 
-pub histories : (w next : WorldTerm) (lines : List LineTerm) (texts : List Text) → AnswersInTurn w lines texts next
+pub histories : (w next : WorldTerm) (lines : List LineTerm) (texts : List Text) → AnswersInTurn Script w lines texts next
     → (entries : List EntryTerm) × AreSomeOf lines entries × (next.history ≡ w.history ++ map took entries)
 histories w next lines texts a = let g = grows w next lines texts a in (g.entries, g.some, g.history)

@@ -4,6 +4,7 @@ use Rattle.std.specs.List.{All}
 use Rattle.task_model.specs.Terms.Text.{Text}
 use Rattle.world_core.specs.World.{SeenWorld, WorldTerm}
 use Rattle.world_answers.specs.Answers.{AnswersInTurn}
+use Rattle.world_answers.specs.declared.line_form.LineForm.TheVariants.{Script}
 use Rattle.hub_lines.specs.HubLines.{IsWorldCount}
 use Rattle.hub_lines.specs.OwnLines.{AddressedTerm, own_lines, own_texts}
 
@@ -23,7 +24,7 @@ EachAnswersOwn k [] lines texts [] = Unit {0}
 EachAnswersOwn k [] lines texts (next ∷ nexts) = ⊥
 EachAnswersOwn k (w ∷ worlds) lines texts [] = ⊥
 EachAnswersOwn k (w ∷ worlds) lines texts (next ∷ nexts) =
-    AnswersInTurn w (own_lines k lines) (own_texts k lines texts) next × EachAnswersOwn (k + 1) worlds lines texts nexts
+    AnswersInTurn Script w (own_lines k lines) (own_texts k lines texts) next × EachAnswersOwn (k + 1) worlds lines texts nexts
 
 -- There is one text for each line, and at the lines of each world stand the texts by which it answers those alone.
 pub record AreHubTexts (worlds : List WorldTerm) (lines : List AddressedTerm) (texts : List Text) (after : List WorldTerm) : Type 0 where

@@ -5,6 +5,7 @@ use Rattle.task_model.specs.Terms.Item.{history_term}
 use Rattle.task_model.specs.Running.State.{IsLegal}
 use Rattle.world_core.specs.World.{SeenWorld, world_term}
 use Rattle.world_answers.specs.Answers.{AnswersInTurn}
+use Rattle.world_answers.specs.declared.line_form.LineForm.TheVariants.{Script}
 use Rattle.hub_lines.specs.OwnLines.{AddressedTerm, own_lines}
 use Rattle.world_hub.specs.declared.own.Numbered.{Numbered}
 use Rattle.world_hub.specs.declared.own.Share.{Share}
@@ -20,7 +21,7 @@ share_texts s = map (λ t. t.list) s.texts.items
 
 -- a world has answered its own lines
 pub record HasAnswered (lines : List AddressedTerm) (job : Numbered) (share : Share) : Type 0 where
-  pub answers : AnswersInTurn (world_term job.world) (own_lines job.number lines) (share_texts share) (world_term share.world)
+  pub answers : AnswersInTurn Script (world_term job.world) (own_lines job.number lines) (share_texts share) (world_term share.world)
   pub rest : share.world.next ≡ None
   pub legal : IsLegal (history_term share.world.history)
 

@@ -5,6 +5,7 @@ ghost use Rattle.task_model.specs.Terms.Item.{took};
 ghost use Rattle.input_lines.specs.ScriptLines.{LineTerm};
 ghost use Rattle.world_core.specs.World.{WorldTerm};
 ghost use Rattle.world_answers.specs.Answers.{AnswersInTurn};
+ghost use Rattle.world_answers.specs.declared.line_form.LineForm.TheVariants as forms;
 ghost use Rattle.hub_lines.specs.OwnLines.{AddressedTerm, own_lines, own_texts};
 ghost use Rattle.world_hub.specs.Hubs.{AreHubTexts};
 ghost use Rattle.world_hub.specs.Histories.{AreSomeOf};
@@ -21,6 +22,6 @@ pub fn own_lines_decide()
 
 /// A world's history grows by the entries of its own lines that were taken, in order.
 pub fn own_histories()
-    ensures { (w next : WorldTerm) (lines : List LineTerm) (texts : List Text) → AnswersInTurn w lines texts next
+    ensures { (w next : WorldTerm) (lines : List LineTerm) (texts : List Text) → AnswersInTurn forms.Script w lines texts next
         → (entries : List EntryTerm) × AreSomeOf lines entries × (next.history ≡ w.history ++ map took entries) }
 {}

@@ -10,7 +10,7 @@ use std::alloc::Global;
 use std::marker::Brand;
 use std::sync::ledger::{Blank, Ledger};
 use task_model::{OutOfMemory, Row, Steps, copy_entry};
-use world_answers::Answering;
+use world_answers::{Answering, LineForm};
 use world_core::World;
 
 /// A world, and its number.
@@ -41,7 +41,7 @@ pub(crate) fn answer_own<L: Ledger>(
 {
     let Numbered { number, world } = job;
     let mut texts = Vec::new(alloc);
-    let mut answering = Answering::new(world, Steps::<L>::new(blank));
+    let mut answering = Answering::new(LineForm::Script, world, Steps::<L>::new(blank));
     for line in lines {
         if line.world == number {
             let asked = copy_line(alloc, &line.line)?;
