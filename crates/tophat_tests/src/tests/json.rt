@@ -47,7 +47,7 @@ null
 «\"seat\":1,\"path\":\".f\",\"act\":\"left\"»
 «\"seat\":1,\"path\":\".\",\"act\":\"stop\"»
 «\"seat\":1,\"path\":\".\",\"act\":\"set\",\"value\":\"{1048576 a}\"»
-«\"seat\":1,\"show\":true»{1048554  }";
+«\"seat\":1,\"show\":true»{1048555  }";
 
 /// A program, a script and what is told of it, behind each other with a line of `--` between.
 const GOOD: &str = "task main() : int = enter int >>? x . edit x
