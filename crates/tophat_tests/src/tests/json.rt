@@ -47,7 +47,7 @@ null
 «\"seat\":1,\"path\":\".f\",\"act\":\"left\"»
 «\"seat\":1,\"path\":\".\",\"act\":\"stop\"»
 «\"seat\":1,\"path\":\".\",\"act\":\"set\",\"value\":\"{1048576 a}\"»
-«\"seat\":1,\"show\":true»{1048554  }";
+«\"seat\":1,\"show\":true»{1048555  }";
 
 /// A program, a script and what is told of it, behind each other with a line of `--` between.
 const GOOD: &str = "task main() : int = enter int >>? x . edit x
@@ -117,7 +117,8 @@ pub(super) fn put_json(found: &mut String, alloc: Global) -> Result<(), OutOfMem
 }
 
 /// Pages, one a row, of each kind of widget.
-const PAGES: &str = "«\"seat\":1,\"version\":1,\"widgets\":[«\"choices\":[«\"label\":\"next\",\"sign\":\"yes\"»],\"kind\":\"step\",\"path\":\".\"»,«\"kind\":\"edit\",\"path\":\".\",\"type\":\"int\",\"value\":4»]»
+const PAGES: &str =
+    "«\"seat\":1,\"version\":1,\"widgets\":[«\"choices\":[«\"label\":\"next\",\"sign\":\"yes\"»],\"kind\":\"step\",\"path\":\".\"»,«\"kind\":\"edit\",\"path\":\".\",\"type\":\"int\",\"value\":4»]»
 «\"seat\":64,\"version\":18446744073709551615,\"widgets\":[]»
 «\"seat\":2,\"version\":0,\"widgets\":[«\"kind\":\"enter\",\"path\":\".FS\",\"type\":\"(int, [text])\"»,«\"kind\":\"share\",\"path\":\".S\",\"type\":\"bool\",\"value\":true»,«\"kind\":\"then\",\"path\":\".\"»,«\"kind\":\"fail\",\"path\":\".\"»,«\"kind\":\"and\",\"path\":\".\"»,«\"kind\":\"or\",\"path\":\".\"»,«\"kind\":\"pick\",\"left\":\"over\",\"path\":\".\",\"right\":\"no\"»]»
 «\"seat\":1,\"version\":7,\"widgets\":[«\"kind\":\"edit\",\"path\":\".\",\"type\":\"[(unit, text)]\",\"value\":[«\"first\":null,\"second\":\"a\\\"\\\\\\n\\u0001é\"»,«\"first\":null,\"second\":\"\"»]»,«\"kind\":\"edit\",\"path\":\".\",\"type\":\"int\",\"value\":-9223372036854775808»]»";
@@ -144,10 +145,7 @@ null
 // What a page is written as once it was read, or why it is none.
 fn read_back(alloc: Global, text: &str) -> Result<String, OutOfMemory> {
     match read_page(alloc, text.as_bytes()) {
-        Ok(page) => Ok(String::from_str(
-            alloc,
-            write_page(alloc, &page)?.as_str(),
-        )?),
+        Ok(page) => Ok(String::from_str(alloc, write_page(alloc, &page)?.as_str())?),
         Err(JsonStop::Bad) => Ok(String::from_str(alloc, "bad")?),
         Err(JsonStop::Memory) => Err(OutOfMemory),
     }
