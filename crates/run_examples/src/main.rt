@@ -25,6 +25,7 @@ const EXAMPLES: &[&str] = &[
     "rooms",
     "stock",
     "tender",
+    "visitors",
 ];
 
 /// The most bytes of a script or of a file of answers.

@@ -6,8 +6,8 @@ use Rattle.task_model.specs.Terms.Task.{TaskTerm, edit, enter, share, fail, call
 use Rattle.task_model.specs.Terms.Program.{DefBodyTerm, fun_body, task_body}
 use Rattle.stride_bound.specs.declared.bounds.Bound.{Bound}
 use Rattle.stride_bound.specs.declared.figures.Figures.{Figures}
-use Rattle.stride_bound.specs.Sums.{cut, plus, times, higher, leaf, none, beside, either, above, once, nothing, plain, still, called, behind, greater, pair, choice, then, next, strides, normal, tested, sides}
-use Rattle.stride_bound.specs.Figures.{Tables, IsWithin, AtMost, expression_bound, expressions_bound, task_figures, text_figures}
+use Rattle.stride_bound.specs.Sums.{cut, plus, times, higher, single_rule, naught, beside, either, over_parts, once, nothing, plain, still, called, after_first, greater, pair, choice, then, next, strides, normal, test_bound, sides}
+use Rattle.stride_bound.specs.Figures.{Tables, IsNoMore, AtMost, expression_bound, expressions_bound, task_figures, text_figures}
 
 -- the greatest bound, and the greatest figures
 abbrev pub most : Bound
@@ -22,38 +22,38 @@ cut_cap n = omega arith
 max_cap : (a b : ℕ) → a ≤ 1000001 → b ≤ 1000001 → max a b ≤ 1000001
 max_cap a b h k = omega (arith, h, k)
 
-leaf_cap : IsWithin leaf most
+leaf_cap : IsNoMore single_rule most
 leaf_cap = record { units = omega arith; height = omega arith }
 
-none_cap : IsWithin none most
+none_cap : IsNoMore naught most
 none_cap = record { units = omega arith; height = omega arith }
 
-beside_cap : (a b : Bound) → IsWithin a most → IsWithin b most → IsWithin (beside a b) most
+beside_cap : (a b : Bound) → IsNoMore a most → IsNoMore b most → IsNoMore (beside a b) most
 beside_cap a b h k = record { units = cut_cap (a.units + b.units); height = max_cap _ _ h.height k.height }
 
-either_cap : (a b : Bound) → IsWithin a most → IsWithin b most → IsWithin (either a b) most
+either_cap : (a b : Bound) → IsNoMore a most → IsNoMore b most → IsNoMore (either a b) most
 either_cap a b h k = record { units = max_cap _ _ h.units k.units; height = max_cap _ _ h.height k.height }
 
-above_cap : (a : Bound) → IsWithin a most → IsWithin (above a) most
+above_cap : (a : Bound) → IsNoMore a most → IsNoMore (over_parts a) most
 above_cap a h = record { units = h.units; height = cut_cap (a.height + 1) }
 
-once_cap : (a : Bound) → IsWithin a most → IsWithin (once a) most
+once_cap : (a : Bound) → IsNoMore a most → IsNoMore (once a) most
 once_cap a h = record { units = cut_cap (a.units + 1); height = h.height }
 
-tested_cap : (t : Figures) → AtMost t most_figures → IsWithin (tested t) most
+tested_cap : (t : Figures) → AtMost t most_figures → IsNoMore (test_bound t) most
 tested_cap t h =
     beside_cap _ _ (above_cap _ (beside_cap _ _ h.evaluating (record {
       units = cut_cap (higher t.fires * higher t.striding.units);
       height = h.striding.height;
     }))) h.failing
 
-still_cap : (a : Bound) → IsWithin a most → AtMost (still a) most_figures
+still_cap : (a : Bound) → IsNoMore a most → AtMost (still a) most_figures
 still_cap a h = record { evaluating = h; fires = omega arith; striding = leaf_cap; failing = leaf_cap }
 
-plain_cap : (a : Bound) → IsWithin a most → AtMost (plain a) most_figures
+plain_cap : (a : Bound) → IsNoMore a most → AtMost (plain a) most_figures
 plain_cap a h = record { evaluating = h; fires = omega arith; striding = none_cap; failing = none_cap }
 
-called_cap : (a : Bound) (t : Figures) → IsWithin a most → AtMost t most_figures → AtMost (called a t) most_figures
+called_cap : (a : Bound) (t : Figures) → IsNoMore a most → AtMost t most_figures → AtMost (called a t) most_figures
 called_cap a t h k = record {
   evaluating = above_cap _ (once_cap _ (beside_cap _ _ h k.evaluating));
   fires = k.fires;
@@ -61,7 +61,7 @@ called_cap a t h k = record {
   failing = k.failing;
 }
 
-behind_cap : (a : Bound) (t : Figures) → IsWithin a most → AtMost t most_figures → AtMost (behind a t) most_figures
+behind_cap : (a : Bound) (t : Figures) → IsNoMore a most → AtMost t most_figures → AtMost (after_first a t) most_figures
 behind_cap a t h k = record {
   evaluating = above_cap _ (beside_cap _ _ h k.evaluating);
   fires = k.fires;
@@ -123,7 +123,7 @@ pub record Capped (T : Tables) : Type 0 where
   pub body : (i : ℕ) → AtMost (T.body i) most_figures
 
 mutual
-  expression_cap : (T : Tables) → Capped T → (e : HostTerm) → IsWithin (expression_bound T e) most
+  expression_cap : (T : Tables) → Capped T → (e : HostTerm) → IsNoMore (expression_bound T e) most
   expression_cap T h unit_expr = leaf_cap
   expression_cap T h (bool_expr b) = leaf_cap
   expression_cap T h (int_expr i) = leaf_cap
@@ -146,7 +146,7 @@ mutual
   expression_cap T h (case_expr e a x y b) =
       above_cap _ (beside_cap _ _ (expression_cap T h e) (either_cap _ _ (expression_cap T h a) (expression_cap T h b)))
 
-  expressions_cap : (T : Tables) → Capped T → (es : HostTerms) → IsWithin (expressions_bound T es) most
+  expressions_cap : (T : Tables) → Capped T → (es : HostTerms) → IsNoMore (expressions_bound T es) most
   expressions_cap T h no_exprs = none_cap
   expressions_cap T h (more_exprs e es) = beside_cap _ _ (expression_cap T h e) (expressions_cap T h es)
 

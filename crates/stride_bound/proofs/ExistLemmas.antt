@@ -9,12 +9,12 @@ use Rattle.task_model.specs.Checking.Names.{Numbered, first_named}
 use Rattle.stride_bound.specs.declared.bounds.Bound.{Bound}
 use Rattle.stride_bound.specs.declared.figures.Figures.{Figures}
 use Rattle.stride_bound.specs.declared.links.Link.{Link}
-use Rattle.stride_bound.specs.Sums.{none, nothing, either, greater}
-use Rattle.stride_bound.specs.Figures.{IsWithin, AtMost, Holds, IsLeast, figures_of_number, tables_of, text_figures, texts_of, program_bound}
-use Rattle.stride_bound.specs.Links.{Leads, LeadsBack, links_of}
+use Rattle.stride_bound.specs.Sums.{naught, nothing, either, greater}
+use Rattle.stride_bound.specs.Figures.{IsNoMore, AtMost, IsAmple, IsLeast, figures_of_number, tables_of, text_figures, texts_of, program_bound}
+use Rattle.stride_bound.specs.TextLinks.{LeadsTo, LeadsBack, links_of}
 use Rattle.stride_bound.specs.Bounds.{IsBound, HasBound}
-use Rattle.stride_bound.specs.Marks.{mark_at, unmarked, AreWithin, IsSound, IsClosed}
-use Rattle.stride_bound.specs.Seen.{figures_at}
+use Rattle.stride_bound.specs.TextMarks.{mark_at, unmarked, LinksAreInside, IsSound, MarksAreClosed}
+use Rattle.stride_bound.specs.BoundTerms.{figures_at}
 use Rattle.stride_bound.specs.Least.{IsBelow, ComesTo, room, room_of}
 use Rattle.stride_bound.proofs.ListLemmas.{same_or_not}
 use Rattle.stride_bound.proofs.MarkLemmas.{Reaches, reaches_first, reaches_along, reaches_all, mark_one_less}
@@ -51,7 +51,7 @@ all_or_one P N each (suc n) = go (all_or_one P N each n) (each n)
     ])
 
 -- ---- links
-within_from : (links : List Link) → (count : ℕ) × AreWithin count links
+within_from : (links : List Link) → (count : ℕ) × LinksAreInside count links
 within_from [] = (0, λ i l is. cc)
 within_from (l ∷ ls) =
     let rest = within_from ls in
@@ -61,7 +61,7 @@ within_from (l ∷ ls) =
     head m c e = let same : l ≡ m = cc in
         subst (λ (k : Link). (k.from < suc (l.from + l.to + c)) × (k.to < suc (l.from + l.to + c))) same (omega arith, omega arith)
 
-    within : (c : ℕ) → AreWithin c ls → AreWithin (suc (l.from + l.to + c)) (l ∷ ls)
+    within : (c : ℕ) → LinksAreInside c ls → LinksAreInside (suc (l.from + l.to + c)) (l ∷ ls)
     within c h zero m is = head m c is
     within c h (suc i) m is = let x = (h i m is).0 in let y = (h i m is).1 in (omega (arith, x), omega (arith, y))
 
@@ -96,20 +96,20 @@ shut_or_open links ms k = go (slice_get links k) refl
     go (Some l) e = by_marks l e (mark_at ms l.from) (mark_at ms l.to) refl refl
 
 -- a text leads to another one or not
-leads_or_not : (links : List Link) (s t : ℕ) → Leads links s t ⊎ (Leads links s t → ⊥)
+leads_or_not : (links : List Link) (s t : ℕ) → LeadsTo links s t ⊎ (LeadsTo links s t → ⊥)
 leads_or_not links s t =
     let c = within_from links in
     let count = suc (s + c.0) in
     let first = set (replicate count false) s true in
-    let done = until_done (Reaches links count s) (IsClosed links) unmarked (step count (wider c.0 c.1)) (suc (unmarked first)) first
+    let done = until_done (Reaches links count s) (MarksAreClosed links) unmarked (step count (wider c.0 c.1)) (suc (unmarked first)) first
     (omega arith) (reaches_first links count s (replicate count false) (omega arith) refl) in
     by_mark done.0 done.1 done.2 (mark_at done.0 t) refl
   where
-    wider : (c : ℕ) → AreWithin c links → AreWithin (suc (s + c)) links
+    wider : (c : ℕ) → LinksAreInside c links → LinksAreInside (suc (s + c)) links
     wider c h i l is = let x = (h i l is).0 in let y = (h i l is).1 in (omega (arith, x), omega (arith, y))
 
-    step : (count : ℕ) → AreWithin count links → (ms : List Bool) → Reaches links count s ms
-        → IsClosed links ms ⊎ ((ns : List Bool) × Reaches links count s ns × (unmarked ns < unmarked ms))
+    step : (count : ℕ) → LinksAreInside count links → (ms : List Bool) → Reaches links count s ms
+        → MarksAreClosed links ms ⊎ ((ns : List Bool) × Reaches links count s ns × (unmarked ns < unmarked ms))
     step count inside ms r = elim (all_or_one (IsShut links ms) (IsOpen links ms) (shut_or_open links ms) (length links)) [
       | inl shut ↦ inl (λ i l is. shut i (slice_get_within links i l is) l is)
       | inr (k, lt, found) ↦
@@ -121,8 +121,8 @@ leads_or_not links s t =
           )
     ]
 
-    by_mark : {count : ℕ} (ms : List Bool) → Reaches links count s ms → IsClosed links ms → (b : Bool) → mark_at ms t ≡ b
-        → Leads links s t ⊎ (Leads links s t → ⊥)
+    by_mark : {count : ℕ} (ms : List Bool) → Reaches links count s ms → MarksAreClosed links ms → (b : Bool) → mark_at ms t ≡ b
+        → LeadsTo links s t ⊎ (LeadsTo links s t → ⊥)
     by_mark ms r closed true e = inl (r.sound t e)
     by_mark ms r closed false e = inr (λ leads. let on = reaches_all links ms closed s t leads r.start in cc)
 
@@ -134,19 +134,19 @@ leads_back_or_not links = elim (all_or_one Stays Returns each (length links)) [
 ]
   where
     Stays : ℕ → Type 0
-    Stays k = (l : Link) → slice_get links k ≡ Some l → l.tight ≡ true → Leads links l.to l.from → ⊥
+    Stays k = (l : Link) → slice_get links k ≡ Some l → l.tight ≡ true → LeadsTo links l.to l.from → ⊥
 
     Returns : ℕ → Type 0
-    Returns k = (l : Link) × (slice_get links k ≡ Some l) × (l.tight ≡ true) × Leads links l.to l.from
+    Returns k = (l : Link) × (slice_get links k ≡ Some l) × (l.tight ≡ true) × LeadsTo links l.to l.from
 
     some_same : (l m : Link) → Some l ≡ Some m → l ≡ m
     some_same l m e = cc
 
     of_link : (k : ℕ) (l : Link) → slice_get links k ≡ Some l → (b : Bool) → l.tight ≡ b
-        → Leads links l.to l.from ⊎ (Leads links l.to l.from → ⊥) → Stays k ⊎ Returns k
+        → LeadsTo links l.to l.from ⊎ (LeadsTo links l.to l.from → ⊥) → Stays k ⊎ Returns k
     of_link k l is true e (inl back) = inr (l, is, e, back)
     of_link k l is true e (inr stays) = inl (λ m at on back. let same = some_same l m (sym is ∙ at) in
-        stays (subst (λ (j : Link). Leads links j.to j.from) (sym same) back))
+        stays (subst (λ (j : Link). LeadsTo links j.to j.from) (sym same) back))
     of_link k l is false e d = inl (λ m at on back. let same = some_same l m (sym is ∙ at) in
         let off : m.tight ≡ false = ap (λ (j : Link). j.tight) (sym same) ∙ e in cc)
 
@@ -158,11 +158,11 @@ leads_back_or_not links = elim (all_or_one Stays Returns each (length links)) [
     each k = go k (slice_get links k) refl
 
 -- ---- tables
-within_or : (a b : Bound) → IsWithin a b ⊎ ((b.units < a.units) ⊎ (b.height < a.height))
+within_or : (a b : Bound) → IsNoMore a b ⊎ ((b.units < a.units) ⊎ (b.height < a.height))
 within_or a b = go (at_most_or a.units b.units) (at_most_or a.height b.height)
   where
     go : (a.units ≤ b.units) ⊎ (b.units < a.units) → (a.height ≤ b.height) ⊎ (b.height < a.height)
-        → IsWithin a b ⊎ ((b.units < a.units) ⊎ (b.height < a.height))
+        → IsNoMore a b ⊎ ((b.units < a.units) ⊎ (b.height < a.height))
     go (inl h) (inl k) = inl (record { units = h; height = k })
     go (inr h) k = inr (inl h)
     go (inl h) (inr k) = inr (inr k)
@@ -228,10 +228,10 @@ room_less known found cap more =
 figures_or : (a b : Figures) → AtMost a b ⊎ Exceeds a b
 figures_or a b = go (within_or a.evaluating b.evaluating) (at_most_or a.fires b.fires) (within_or a.striding b.striding) (within_or a.failing b.failing)
   where
-    go : IsWithin a.evaluating b.evaluating ⊎ ((b.evaluating.units < a.evaluating.units) ⊎ (b.evaluating.height < a.evaluating.height))
+    go : IsNoMore a.evaluating b.evaluating ⊎ ((b.evaluating.units < a.evaluating.units) ⊎ (b.evaluating.height < a.evaluating.height))
         → (a.fires ≤ b.fires) ⊎ (b.fires < a.fires)
-        → IsWithin a.striding b.striding ⊎ ((b.striding.units < a.striding.units) ⊎ (b.striding.height < a.striding.height))
-        → IsWithin a.failing b.failing ⊎ ((b.failing.units < a.failing.units) ⊎ (b.failing.height < a.failing.height))
+        → IsNoMore a.striding b.striding ⊎ ((b.striding.units < a.striding.units) ⊎ (b.striding.height < a.striding.height))
+        → IsNoMore a.failing b.failing ⊎ ((b.failing.units < a.failing.units) ⊎ (b.failing.height < a.failing.height))
         → AtMost a b ⊎ Exceeds a b
     go (inl h) (inl k) (inl l) (inl m) = inl (record { evaluating = h; fires = k; striding = l; failing = m })
     go (inr (inl h)) k l m = inr (inl h)
@@ -244,7 +244,7 @@ figures_or a b = go (within_or a.evaluating b.evaluating) (at_most_or a.fires b.
 
 module _ (p : ProgramTerm) where
   -- the table of the greatest figures holds
-  greatest_holds : Holds p (λ _. most_figures)
+  greatest_holds : IsAmple p (λ _. most_figures)
   greatest_holds n w is = text_cap (tables_of p (λ _. most_figures)) capped w
     where
       itself : AtMost most_figures most_figures
@@ -300,7 +300,7 @@ module _ (p : ProgramTerm) where
       go (Some w) e = by w e (figures_or (text_figures (tables_of p (figures_at fs)) w) (figures_at fs n))
 
   table_step : (fs : List Figures) → Climbs p (length (texts_of p)) fs
-      → Holds p (figures_at fs) ⊎ ((gs : List Figures) × Climbs p (length (texts_of p)) gs × (room gs < room fs))
+      → IsAmple p (figures_at fs) ⊎ ((gs : List Figures) × Climbs p (length (texts_of p)) gs × (room gs < room fs))
   table_step fs r = elim (all_or_one (ComesTo p fs) (Rises fs) (comes_or_rises fs) (length (texts_of p))) [
     | inl comes ↦ inl (λ n w is. comes n (slice_get_within (texts_of p) n w is) w is)
     | inr (n, lt, rise) ↦
@@ -329,7 +329,7 @@ module _ (p : ProgramTerm) where
   least_table : (fs : List Figures) × IsLeast p (figures_at fs)
   least_table =
       let first = replicate (length (texts_of p)) nothing in
-      let done = until_done (Climbs p (length (texts_of p))) (λ fs. Holds p (figures_at fs)) room table_step (suc (room first)) first (omega arith)
+      let done = until_done (Climbs p (length (texts_of p))) (λ fs. IsAmple p (figures_at fs)) room table_step (suc (room first)) first (omega arith)
       (climbs_first p (length (texts_of p)) first refl) in
       (done.0, climbs_least p (length (texts_of p)) done.0 done.1 done.2)
 

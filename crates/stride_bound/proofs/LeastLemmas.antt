@@ -7,14 +7,14 @@ use Rattle.task_model.specs.Terms.Program.{DefBodyTerm, ProgramTerm}
 use Rattle.task_model.specs.Checking.Names.{Numbered, first_named}
 use Rattle.stride_bound.specs.declared.bounds.Bound.{Bound}
 use Rattle.stride_bound.specs.declared.figures.Figures.{Figures}
-use Rattle.stride_bound.specs.Sums.{none, nothing, either, greater}
-use Rattle.stride_bound.specs.Figures.{IsWithin, AtMost, Holds, IsLeast, figures_of_number, tables_of, text_figures, texts_of}
-use Rattle.stride_bound.specs.Seen.{figures_at}
+use Rattle.stride_bound.specs.Sums.{naught, nothing, either, greater}
+use Rattle.stride_bound.specs.Figures.{IsNoMore, AtMost, IsAmple, IsLeast, figures_of_number, tables_of, text_figures, texts_of}
+use Rattle.stride_bound.specs.BoundTerms.{figures_at}
 use Rattle.stride_bound.specs.Least.{IsBelow, ComesTo, room}
 use Rattle.stride_bound.proofs.ListLemmas.{same_or_not}
 use Rattle.stride_bound.proofs.RiseLemmas.{Below, within_then, text_up}
 
-none_within : (a : Bound) → IsWithin none a
+none_within : (a : Bound) → IsNoMore naught a
 none_within a = record { units = omega arith; height = omega arith }
 
 nothing_least : (a : Figures) → AtMost nothing a
@@ -25,7 +25,7 @@ nothing_least a = record {
   failing = none_within a.failing;
 }
 
-either_least : (a b c : Bound) → IsWithin a c → IsWithin b c → IsWithin (either a b) c
+either_least : (a b c : Bound) → IsNoMore a c → IsNoMore b c → IsNoMore (either a b) c
 either_least a b c h k = record { units = max_least _ _ _ h.units k.units; height = max_least _ _ _ h.height k.height }
   where
     max_least : (x y z : ℕ) → x ≤ z → y ≤ z → max x y ≤ z
@@ -150,9 +150,9 @@ pub climbs_more : (p : ProgramTerm) (count : ℕ) (old new : List Figures) → C
     → (IsBelow p old → IsBelow p new) → Climbs p count new
 climbs_more p count old new so_far long below = record { long = long ∙ so_far.long; below = below so_far.below }
 
-pub climbs_least : (p : ProgramTerm) (count : ℕ) (fs : List Figures) → Climbs p count fs → Holds p (figures_at fs) → IsLeast p (figures_at fs)
+pub climbs_least : (p : ProgramTerm) (count : ℕ) (fs : List Figures) → Climbs p count fs → IsAmple p (figures_at fs) → IsLeast p (figures_at fs)
 climbs_least p count fs so_far holds = record { holds = holds; least = λ other h n. so_far.below other h n }
 
 -- each text comes to what the figures have
-pub comes_all : (p : ProgramTerm) (fs : List Figures) → ((n : ℕ) → n < length (texts_of p) → ComesTo p fs n) → Holds p (figures_at fs)
+pub comes_all : (p : ProgramTerm) (fs : List Figures) → ((n : ℕ) → n < length (texts_of p) → ComesTo p fs n) → IsAmple p (figures_at fs)
 comes_all p fs comes n w is = comes n (slice_get_within (texts_of p) n w is) w is

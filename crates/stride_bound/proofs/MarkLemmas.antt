@@ -5,17 +5,17 @@ use Rattle.std.proofs.lemmas.Option.{unwrap_or-slice_get, slice_get_within, slic
 use Rattle.std.proofs.lemmas.List.{get_or-set_same, get_or-set_other, length-set, length-replicate}
 use Rattle.std.proofs.lemmas.List.Sums.{sum_by-set}
 use Rattle.stride_bound.specs.declared.links.Link.{Link}
-use Rattle.stride_bound.specs.Links.{Leads, here, along}
+use Rattle.stride_bound.specs.TextLinks.{LeadsTo, here, along}
 use Rattle.stride_bound.proofs.ListLemmas.{same_or_not}
-use Rattle.stride_bound.specs.Marks.{mark_at, unmarked, AreWithin, IsSound, IsClosed}
+use Rattle.stride_bound.specs.TextMarks.{mark_at, unmarked, LinksAreInside, IsSound, MarksAreClosed}
 
 -- what a text leads to leads on along a link
-pub leads_on : (links : List Link) (i : ℕ) (l : Link) → slice_get links i ≡ Some l → (s n : ℕ) → n ≡ l.from → Leads links s n
-    → Leads links s l.to
+pub leads_on : (links : List Link) (i : ℕ) (l : Link) → slice_get links i ≡ Some l → (s n : ℕ) → n ≡ l.from → LeadsTo links s n
+    → LeadsTo links s l.to
 leads_on links i l is s n e (here _) = along i l s l.to is (sym e) (here l.to)
 leads_on links i l is s n e (along j k _ _ at from rest) = along j k s l.to at from (leads_on links i l is k.to n e rest)
 
-pub leads_then : (links : List Link) (a b c : ℕ) → Leads links a b → Leads links b c → Leads links a c
+pub leads_then : (links : List Link) (a b c : ℕ) → LeadsTo links a b → LeadsTo links b c → LeadsTo links a c
 leads_then links a b c (here _) rest = rest
 leads_then links a b c (along j k _ _ at from more) rest = along j k a c at from (leads_then links k.to b c more rest)
 
@@ -66,12 +66,12 @@ fewer_still false old now new falls same less = let h = ap unmarked (same refl) 
 
 -- a link whose end is marked
 pub spread_more : (links : List Link) (i : ℕ) (l : Link) (old now new : List Bool) (changed : Bool) → Spreads links i old now changed
-    → slice_get links i ≡ Some l → AreWithin (length old) links → mark_at now l.from ≡ true → mark_at now l.to ≡ false
+    → slice_get links i ≡ Some l → LinksAreInside (length old) links → mark_at now l.from ≡ true → mark_at now l.to ≡ false
     → new ≡ set now l.to true → Spreads links (i + 1) old new true
 spread_more links i l old now new changed so_far is inside on off e = let within = subst (λ k. l.to < k) (sym so_far.long) (inside i l is).1 in record {
   long = ap length e ∙ length-set now l.to true ∙ so_far.long;
   sound = λ s h n m. elim (mark_more now l.to n within (sym (ap (λ ms. mark_at ms n) e) ∙ m)) [
-    | inl same ↦ subst (λ k. Leads links s k) (sym same) (leads_on links i l is s l.from refl (so_far.sound s h l.from on))
+    | inl same ↦ subst (λ k. LeadsTo links s k) (sym same) (leads_on links i l is s l.from refl (so_far.sound s h l.from on))
     | inr was ↦ so_far.sound s h n was
   ];
   kept = λ n h. ap (λ ms. mark_at ms n) e ∙ mark_kept now l.to n within (so_far.kept n h);
@@ -126,7 +126,7 @@ pub reaches_first : (links : List Link) (count s : ℕ) (ms : List Bool) → s <
 reaches_first links count s ms within e = record {
   long = length-set ms s true ∙ long;
   sound = λ n h. elim (mark_more ms s n (subst (λ k. s < k) (sym long) within) h) [
-    | inl same ↦ subst (λ k. Leads links s k) (sym same) (here s)
+    | inl same ↦ subst (λ k. LeadsTo links s k) (sym same) (here s)
     | inr was ↦ absurd (none_marked count n (sym (ap (λ l. mark_at l n) e) ∙ was))
   ];
   start = unwrap_or-slice_get (set ms s true) s false ∙ get_or-set_same ms s true false (subst (λ k. s < k) (sym long) within);
@@ -149,7 +149,7 @@ pub reaches_along : (links : List Link) (count s : ℕ) (i : ℕ) (l : Link) (ol
 reaches_along links count s i l old new so_far is within on e = record {
   long = ap length e ∙ length-set old l.to true ∙ so_far.long;
   sound = λ n m. elim (mark_more old l.to n within (sym (ap (λ ms. mark_at ms n) e) ∙ m)) [
-    | inl same ↦ subst (λ k. Leads links s k) (sym same) (leads_on links i l is s l.from refl (so_far.sound l.from on))
+    | inl same ↦ subst (λ k. LeadsTo links s k) (sym same) (leads_on links i l is s l.from refl (so_far.sound l.from on))
     | inr was ↦ so_far.sound n was
   ];
   start = ap (λ ms. mark_at ms s) e ∙ mark_kept old l.to s within so_far.start;
@@ -166,7 +166,7 @@ reaches_spread links count s i l old new false so_far is within marks leaves =
     subst (Reaches links count s) (sym (leaves refl).0) so_far
 
 -- closed marks have all that the text leads to
-pub reaches_all : (links : List Link) (ms : List Bool) → IsClosed links ms → (s t : ℕ) → Leads links s t → mark_at ms s ≡ true → mark_at ms t ≡ true
+pub reaches_all : (links : List Link) (ms : List Bool) → MarksAreClosed links ms → (s t : ℕ) → LeadsTo links s t → mark_at ms s ≡ true → mark_at ms t ≡ true
 reaches_all links ms closed s t (here _) on = on
 reaches_all links ms closed s t (along i l _ _ at from rest) on =
     reaches_all links ms closed l.to t rest (closed i l at (ap (mark_at ms) from ∙ on))

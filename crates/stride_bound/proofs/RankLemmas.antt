@@ -2,12 +2,12 @@
 use Rattle.std.proofs.Common.{◌≡◌, ℕ, ◌+◌, ◌<◌, ◌≤◌, List, Some, inl, inr, refl, sym, ap, ◌∙◌, subst, arith}
 use Rattle.std.specs.Prelude.{slice_get}
 use Rattle.stride_bound.specs.declared.links.Link.{Link}
-use Rattle.stride_bound.specs.Links.{Leads, here, along}
+use Rattle.stride_bound.specs.TextLinks.{LeadsTo, here, along}
 use Rattle.stride_bound.proofs.ListLemmas.{same_or_not}
 use Rattle.stride_bound.specs.Ranks.{rank_at, NeverRise}
 
 -- what a text leads to has no higher rank
-pub ranks_fall : (links : List Link) (ranks : List ℕ) → NeverRise links ranks → (n m : ℕ) → Leads links n m → rank_at ranks m ≤ rank_at ranks n
+pub ranks_fall : (links : List Link) (ranks : List ℕ) → NeverRise links ranks → (n m : ℕ) → LeadsTo links n m → rank_at ranks m ≤ rank_at ranks n
 ranks_fall links ranks falls n m (here _) = omega arith
 ranks_fall links ranks falls n m (along i l _ _ at from rest) =
     let one = falls i l at in

@@ -3,7 +3,7 @@ use Rattle.std.proofs.Common.{◌≡◌, ℕ, suc, ◌+◌, ◌<◌, ◌≤◌, 
 use Rattle.task_model.specs.Terms.Host.{host_term, HostTerm, HostTerms, no_exprs, more_exprs, as_exprs}
 use Rattle.task_model.specs.declared.host.Host.{Host}
 use Rattle.stride_bound.specs.declared.bounds.Bound.{Bound}
-use Rattle.stride_bound.specs.Sums.{cut, plus, none, beside}
+use Rattle.stride_bound.specs.Sums.{cut, plus, naught, beside}
 use Rattle.stride_bound.specs.Figures.{Tables, expression_bound, expressions_bound}
 
 plus_assoc : (a b c : ℕ) → plus a (plus b c) ≡ plus (plus a b) c
@@ -38,10 +38,10 @@ max_zero a = omega arith
 max_zero_behind : (a : ℕ) → max a 0 ≡ a
 max_zero_behind a = omega arith
 
-pub none_beside : (T : Tables) (es : HostTerms) → beside none (expressions_bound T es) ≡ expressions_bound T es
+pub none_beside : (T : Tables) (es : HostTerms) → beside naught (expressions_bound T es) ≡ expressions_bound T es
 none_beside T es = two_numbers _ _ _ _ (cut_zero ((expressions_bound T es).units) (listed_cut T es)) (max_zero ((expressions_bound T es).height))
 
-pub beside_none : (a : Bound) → a.units ≤ 1000001 → beside a none ≡ a
+pub beside_none : (a : Bound) → a.units ≤ 1000001 → beside a naught ≡ a
 beside_none a h = two_numbers _ _ _ _ (cut_zero_behind a.units h) (max_zero_behind a.height)
 
 -- an expression more, of those from a place on

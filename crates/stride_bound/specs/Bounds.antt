@@ -4,7 +4,7 @@ use Rattle.task_model.specs.Terms.Program.{ProgramTerm}
 use Rattle.stride_bound.specs.declared.bounds.Bound.{Bound}
 use Rattle.stride_bound.specs.declared.figures.Figures.{Figures}
 use Rattle.stride_bound.specs.Figures.{IsLeast, program_bound}
-use Rattle.stride_bound.specs.Links.{links_of, LeadsBack}
+use Rattle.stride_bound.specs.TextLinks.{links_of, LeadsBack}
 
 -- A program has no bound where a tight link leads back. Else its bound is that of the least table that holds.
 pub record HasBound (p : ProgramTerm) (b : Bound) : Type 0 where

@@ -7,7 +7,7 @@ use Rattle.task_model.specs.Terms.Program.{DefBodyTerm, fun_body, task_body, Pro
 use Rattle.task_model.specs.Checking.Names.{Numbered, first_named}
 use Rattle.stride_bound.specs.declared.bounds.Bound.{Bound}
 use Rattle.stride_bound.specs.declared.figures.Figures.{Figures}
-use Rattle.stride_bound.specs.Sums.{plus, higher, leaf, none, beside, either, above, once, nothing, plain, still, called, behind, greater, pair, choice, then, next, strides, normal, tested, sides}
+use Rattle.stride_bound.specs.Sums.{plus, higher, single_rule, naught, beside, either, over_parts, once, nothing, plain, still, called, after_first, greater, pair, choice, then, next, strides, normal, test_bound, sides}
 
 -- what each definition comes to, by its name, and each body, by its number
 pub record Tables : Type 0 where
@@ -18,47 +18,47 @@ module _ (T : Tables) where
   abbrev mutual
     -- an expression: its parts, the greater branch, and for a call one unit more and the function's expression
     pub expression_bound : HostTerm → Bound
-    expression_bound unit_expr = leaf
-    expression_bound (bool_expr b) = leaf
-    expression_bound (int_expr i) = leaf
-    expression_bound (text_expr t) = leaf
-    expression_bound (name_expr x) = leaf
-    expression_bound (read_expr x) = leaf
-    expression_bound (call_expr f es) = above (once (beside (expressions_bound es) (T.definition f).evaluating))
-    expression_bound (pair_expr a b) = above (beside (expression_bound a) (expression_bound b))
-    expression_bound (list_expr es) = above (expressions_bound es)
-    expression_bound (nil_expr b) = leaf
-    expression_bound (neg_expr a) = above (expression_bound a)
-    expression_bound (not_expr a) = above (expression_bound a)
-    expression_bound (fst_expr a) = above (expression_bound a)
-    expression_bound (snd_expr a) = above (expression_bound a)
-    expression_bound (len_expr a) = above (expression_bound a)
-    expression_bound (op_expr o a b) = above (beside (expression_bound a) (expression_bound b))
-    expression_bound (let_expr x a b) = above (beside (expression_bound a) (expression_bound b))
-    expression_bound (if_expr e a b) = above (beside (expression_bound e) (either (expression_bound a) (expression_bound b)))
-    expression_bound (case_expr e a x y b) = above (beside (expression_bound e) (either (expression_bound a) (expression_bound b)))
+    expression_bound unit_expr = single_rule
+    expression_bound (bool_expr b) = single_rule
+    expression_bound (int_expr i) = single_rule
+    expression_bound (text_expr t) = single_rule
+    expression_bound (name_expr x) = single_rule
+    expression_bound (read_expr x) = single_rule
+    expression_bound (call_expr f es) = over_parts (once (beside (expressions_bound es) (T.definition f).evaluating))
+    expression_bound (pair_expr a b) = over_parts (beside (expression_bound a) (expression_bound b))
+    expression_bound (list_expr es) = over_parts (expressions_bound es)
+    expression_bound (nil_expr b) = single_rule
+    expression_bound (neg_expr a) = over_parts (expression_bound a)
+    expression_bound (not_expr a) = over_parts (expression_bound a)
+    expression_bound (fst_expr a) = over_parts (expression_bound a)
+    expression_bound (snd_expr a) = over_parts (expression_bound a)
+    expression_bound (len_expr a) = over_parts (expression_bound a)
+    expression_bound (op_expr o a b) = over_parts (beside (expression_bound a) (expression_bound b))
+    expression_bound (let_expr x a b) = over_parts (beside (expression_bound a) (expression_bound b))
+    expression_bound (if_expr e a b) = over_parts (beside (expression_bound e) (either (expression_bound a) (expression_bound b)))
+    expression_bound (case_expr e a x y b) = over_parts (beside (expression_bound e) (either (expression_bound a) (expression_bound b)))
 
     pub expressions_bound : HostTerms → Bound
-    expressions_bound no_exprs = none
+    expressions_bound no_exprs = naught
     expressions_bound (more_exprs e es) = beside (expression_bound e) (expressions_bound es)
 
   -- a task
   abbrev pub task_figures : TaskTerm → Figures
-  task_figures (edit e) = still (above (expression_bound e))
-  task_figures (enter b) = still leaf
-  task_figures (share x) = still leaf
-  task_figures (fail b) = still leaf
+  task_figures (edit e) = still (over_parts (expression_bound e))
+  task_figures (enter b) = still single_rule
+  task_figures (share x) = still single_rule
+  task_figures (fail b) = still single_rule
   task_figures (call_task f es) = called (expressions_bound (as_exprs es)) (T.definition f)
   task_figures (then_task t i) = then (task_figures t) (T.body i)
   task_figures (next_task t i) = next (task_figures t) (T.body i)
   task_figures (and_task t u) = pair (task_figures t) (task_figures u)
   task_figures (or_task t u) = choice (task_figures t) (task_figures u)
   task_figures (xor_task i j) = sides (T.body i) (T.body j)
-  task_figures (let_task x e t) = behind (expression_bound e) (task_figures t)
-  task_figures (if_task e t u) = behind (expression_bound e) (greater (task_figures t) (task_figures u))
-  task_figures (case_task e t x y u) = behind (expression_bound e) (greater (task_figures t) (task_figures u))
-  task_figures (new_task x e t) = behind (expression_bound e) (task_figures t)
-  task_figures (put_task x e t) = behind (expression_bound e) (task_figures t)
+  task_figures (let_task x e t) = after_first (expression_bound e) (task_figures t)
+  task_figures (if_task e t u) = after_first (expression_bound e) (greater (task_figures t) (task_figures u))
+  task_figures (case_task e t x y u) = after_first (expression_bound e) (greater (task_figures t) (task_figures u))
+  task_figures (new_task x e t) = after_first (expression_bound e) (task_figures t)
+  task_figures (put_task x e t) = after_first (expression_bound e) (task_figures t)
 
   -- the body of a definition
   abbrev pub text_figures : DefBodyTerm → Figures
@@ -68,24 +68,24 @@ module _ (T : Tables) where
   -- the greatest test that an input makes at a user step or an external choice of this task
   abbrev pub task_tests : TaskTerm → Bound
   task_tests (then_task t i) = task_tests t
-  task_tests (next_task t i) = either (task_tests t) (tested (T.body i))
+  task_tests (next_task t i) = either (task_tests t) (test_bound (T.body i))
   task_tests (and_task t u) = either (task_tests t) (task_tests u)
   task_tests (or_task t u) = either (task_tests t) (task_tests u)
-  task_tests (xor_task i j) = either (tested (T.body i)) (tested (T.body j))
+  task_tests (xor_task i j) = either (test_bound (T.body i)) (test_bound (T.body j))
   task_tests (let_task x e t) = task_tests t
   task_tests (if_task e t u) = either (task_tests t) (task_tests u)
   task_tests (case_task e t x y u) = either (task_tests t) (task_tests u)
   task_tests (new_task x e t) = task_tests t
   task_tests (put_task x e t) = task_tests t
-  task_tests t = none
+  task_tests t = naught
 
   abbrev pub text_tests : DefBodyTerm → Bound
-  text_tests (fun_body e) = none
+  text_tests (fun_body e) = naught
   text_tests (task_body t) = task_tests t
 
   -- the greatest test of these texts
   abbrev pub greatest_test : List DefBodyTerm → Bound
-  greatest_test [] = none
+  greatest_test [] = naught
   greatest_test (w ∷ ws) = either (text_tests w) (greatest_test ws)
 
 -- ---- programs
@@ -105,37 +105,37 @@ tables_of p table = record {
 }
 
 -- units and height are at most the other's
-pub record IsWithin (a b : Bound) : Type 0 where
+pub record IsNoMore (a b : Bound) : Type 0 where
   pub units : a.units ≤ b.units
   pub height : a.height ≤ b.height
 
 -- each number is at most the other's
 pub record AtMost (a b : Figures) : Type 0 where
-  pub evaluating : IsWithin a.evaluating b.evaluating
+  pub evaluating : IsNoMore a.evaluating b.evaluating
   pub fires : a.fires ≤ b.fires
-  pub striding : IsWithin a.striding b.striding
-  pub failing : IsWithin a.failing b.failing
+  pub striding : IsNoMore a.striding b.striding
+  pub failing : IsNoMore a.failing b.failing
 
 module _ (p : ProgramTerm) where
   -- the table has at least what each text comes to by it
-  abbrev pub Holds : (ℕ → Figures) → Type 0
-  Holds table = (n : ℕ) (w : DefBodyTerm) → slice_get (texts_of p) n ≡ Some w → AtMost (text_figures (tables_of p table) w) (table n)
+  abbrev pub IsAmple : (ℕ → Figures) → Type 0
+  IsAmple table = (n : ℕ) (w : DefBodyTerm) → slice_get (texts_of p) n ≡ Some w → AtMost (text_figures (tables_of p table) w) (table n)
 
   -- it is the least one that has
   pub record IsLeast (table : ℕ → Figures) : Type 0 where
-    pub holds : Holds table
-    pub least : (other : ℕ → Figures) → Holds other → (n : ℕ) → AtMost (table n) (other n)
+    pub holds : IsAmple table
+    pub least : (other : ℕ → Figures) → IsAmple other → (n : ℕ) → AtMost (table n) (other n)
 
 -- the call of `main`: evaluating it costs a unit and a rule more than its body
 abbrev pub main_call : Figures → Figures
-main_call m = called none m
+main_call m = called naught m
 
 -- The bound of a program by a table, where `main` comes to m and no test to more than t: an opening or an input is the call of `main` or a
 -- test, with all strides of settling.
 abbrev pub whole_bound : Figures → Bound → Bound
 whole_bound m t = record {
   units = plus (either (main_call m).evaluating t).units (strides m).units;
-  height = (either (normal (main_call m)) (either (above m.striding) t)).height;
+  height = (either (normal (main_call m)) (either (over_parts m.striding) t)).height;
 }
 
 abbrev pub program_bound : ProgramTerm → (ℕ → Figures) → Bound

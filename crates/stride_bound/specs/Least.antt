@@ -2,12 +2,12 @@
 use Rattle.std.specs.Prelude.{◌≡◌, ℕ, ◌+◌, ◌-◌, ◌^◌, List, sum_by, Some, slice_get}
 use Rattle.task_model.specs.Terms.Program.{DefBodyTerm, ProgramTerm}
 use Rattle.stride_bound.specs.declared.figures.Figures.{Figures}
-use Rattle.stride_bound.specs.Figures.{AtMost, Holds, tables_of, text_figures, texts_of}
-use Rattle.stride_bound.specs.Seen.{figures_at}
+use Rattle.stride_bound.specs.Figures.{AtMost, IsAmple, tables_of, text_figures, texts_of}
+use Rattle.stride_bound.specs.BoundTerms.{figures_at}
 
 -- each table that holds has at least these figures
 abbrev pub IsBelow : ProgramTerm → List Figures → Type 0
-IsBelow p fs = (other : ℕ → Figures) → Holds p other → (n : ℕ) → AtMost (figures_at fs n) (other n)
+IsBelow p fs = (other : ℕ → Figures) → IsAmple p other → (n : ℕ) → AtMost (figures_at fs n) (other n)
 
 -- the figures of this text are at least what it comes to
 abbrev pub ComesTo : ProgramTerm → List Figures → ℕ → Type 0

@@ -1,8 +1,8 @@
 pub mod Sums
 pub mod Figures
-pub mod Seen
-pub mod Links
-pub mod Marks
+pub mod BoundTerms
+pub mod TextLinks
+pub mod TextMarks
 pub mod Least
 pub mod Bounds
 pub mod Ranks

@@ -3,7 +3,7 @@ ghost use Rattle.task_model.specs.Terms.Program.{program_term};
 ghost use Rattle.task_model.specs.Running.Checked.{checked_term};
 ghost use Rattle.stride_bound.specs.Figures.{greatest_test, whole_bound};
 ghost use Rattle.stride_bound.specs.Bounds.{IsBound};
-ghost use Rattle.stride_bound.specs.Seen.{piece_term, table_term};
+ghost use Rattle.stride_bound.specs.BoundTerms.{piece_term, table_term};
 
 use crate::bounds::{Bound, plus};
 use crate::figures::Figures;

@@ -34,11 +34,11 @@ pub(crate) fn higher(a: u64) -> u64
 impl Bound {
     ghost use Rattle.std.specs.Prelude.{◌≡◌, ◌↔◌, IsTrue};
     ghost use Rattle.stride_bound.specs.Sums as sums;
-    ghost use Rattle.stride_bound.specs.Figures.{IsWithin};
+    ghost use Rattle.stride_bound.specs.Figures.{IsNoMore};
 
     /// Of a rule with no parts.
     pub(crate) fn leaf() -> Bound
-        ensures { result ≡ sums.leaf }
+        ensures { result ≡ sums.single_rule }
     {
         Bound {
             units: 0,
@@ -48,7 +48,7 @@ impl Bound {
 
     /// Of nothing at all.
     pub(crate) fn none() -> Bound
-        ensures { result ≡ sums.none }
+        ensures { result ≡ sums.naught }
     {
         Bound {
             units: 0,
@@ -78,7 +78,7 @@ impl Bound {
 
     /// Of a rule over this.
     pub(crate) fn above(self) -> Bound
-        ensures { result ≡ sums.above self }
+        ensures { result ≡ sums.over_parts self }
     {
         Bound {
             units: self.units,
@@ -98,7 +98,7 @@ impl Bound {
 
     /// Whether units and height are at most the other's.
     pub(crate) fn is_within(self, other: Bound) -> bool
-        ensures { IsTrue result ↔ IsWithin self other }
+        ensures { IsTrue result ↔ IsNoMore self other }
     {
         self.units <= other.units && self.height <= other.height
     }

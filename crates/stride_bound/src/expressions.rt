@@ -1,8 +1,8 @@
 ghost use Rattle.std.specs.Prelude.{◌≡◌, map};
 ghost use Rattle.task_model.specs.Terms.Host.{host_term, as_exprs, call_expr};
 ghost use Rattle.stride_bound.specs.Figures.{expression_bound, expressions_bound};
-ghost use Rattle.stride_bound.specs.Seen.{table_term};
-ghost use Rattle.stride_bound.specs.Sums.{above, beside, either};
+ghost use Rattle.stride_bound.specs.BoundTerms.{table_term};
+ghost use Rattle.stride_bound.specs.Sums.{over_parts, beside, either};
 
 use crate::bounds::Bound;
 use crate::table::Table;
@@ -63,7 +63,7 @@ pub(crate) fn expressions(table: &Table, items: &[Host]) -> Bound
 // A form that evaluates two parts.
 #[cycle(expression)]
 fn both(table: &Table, a: &Host, b: &Host) -> Bound
-    ensures { result ≡ above (beside (expression_bound (table_term table.now) (host_term a.now))
+    ensures { result ≡ over_parts (beside (expression_bound (table_term table.now) (host_term a.now))
         (expression_bound (table_term table.now) (host_term b.now))) }
 {
     expression(table, a).beside(expression(table, b)).above()
@@ -72,7 +72,7 @@ fn both(table: &Table, a: &Host, b: &Host) -> Bound
 // A form that evaluates a part and then one of two.
 #[cycle(expression)]
 fn branches(table: &Table, e: &Host, a: &Host, b: &Host) -> Bound
-    ensures { result ≡ above (beside (expression_bound (table_term table.now) (host_term e.now))
+    ensures { result ≡ over_parts (beside (expression_bound (table_term table.now) (host_term e.now))
         (either (expression_bound (table_term table.now) (host_term a.now)) (expression_bound (table_term table.now) (host_term b.now)))) }
 {
     let branch = expression(table, a).either(expression(table, b));

@@ -65,7 +65,7 @@ impl Figures {
 
     /// Behind an expression that is evaluated first.
     pub(crate) fn behind(self, first: Bound) -> Figures
-        ensures { result ≡ sums.behind first self }
+        ensures { result ≡ sums.after_first first self }
     {
         Figures {
             evaluating: first.beside(self.evaluating).above(),
@@ -156,7 +156,7 @@ impl Figures {
 
     /// A test: normalising, and then the test for failing.
     pub(crate) fn tested(self) -> Bound
-        ensures { result ≡ sums.tested self }
+        ensures { result ≡ sums.test_bound self }
     {
         self.normal().beside(self.failing)
     }

@@ -2,8 +2,8 @@ ghost use Rattle.std.specs.Prelude.{◌≡◌, [], ◌∷◌, ◌++◌, map, OnO
 ghost use Rattle.task_model.specs.Terms.Task.{task_term};
 ghost use Rattle.task_model.specs.Terms.Program.{program_term};
 ghost use Rattle.task_model.specs.Checking.Names.{first_named};
-ghost use Rattle.stride_bound.specs.Links.{call_links, body_link, links_of_task, links_of_text, links_from};
-ghost use Rattle.stride_bound.specs.Seen.{piece_term};
+ghost use Rattle.stride_bound.specs.TextLinks.{call_links, body_link, links_of_task, links_of_text, links_from};
+ghost use Rattle.stride_bound.specs.BoundTerms.{piece_term};
 
 use crate::pieces::Piece;
 use host_eval::Definitions;

@@ -1,7 +1,7 @@
 ghost use Rattle.std.specs.Prelude.{◌≡◌, map, IfOk};
 ghost use Rattle.task_model.specs.Terms.Program.{def_body_term, program_term};
 ghost use Rattle.stride_bound.specs.Figures.{texts_of};
-ghost use Rattle.stride_bound.specs.Seen.{piece_term};
+ghost use Rattle.stride_bound.specs.BoundTerms.{piece_term};
 
 use std::alloc::Global;
 use task_model::{DefBody, Host, OutOfMemory, Program, Task};

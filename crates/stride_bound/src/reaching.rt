@@ -1,6 +1,6 @@
 ghost use Rattle.std.specs.Prelude.{◌≡◌, ◌↔◌, ℕ, ◌<◌, true, false, length, slice_set, replicate, IsTrue, IfOk};
-ghost use Rattle.stride_bound.specs.Links.{Leads};
-ghost use Rattle.stride_bound.specs.Marks.{mark_at, unmarked, AreWithin, IsSound, IsClosed};
+ghost use Rattle.stride_bound.specs.TextLinks.{LeadsTo};
+ghost use Rattle.stride_bound.specs.TextMarks.{mark_at, unmarked, LinksAreInside, IsSound, MarksAreClosed};
 
 use crate::links::Link;
 use std::alloc::Global;
@@ -16,9 +16,9 @@ pub(crate) fn leads(
     from: usize,
     to: usize,
 ) -> Result<bool, OutOfMemory>
-    requires within { AreWithin count links.now }
+    requires within { LinksAreInside count links.now }
     requires start { from < count }
-    ensures { IfOk result (λ yes. IsTrue yes ↔ Leads links.now from to) }
+    ensures { IfOk result (λ yes. IsTrue yes ↔ LeadsTo links.now from to) }
 {
     let mut marked = unmarked_texts(alloc, count)?;
     marked[from] = true;
@@ -65,12 +65,12 @@ fn spread(link: &Link, marked: &mut Vec<bool>) -> bool
 
 // Does so at each link; whether some end wasn't marked.
 fn spread_all(links: &[Link], marked: &mut Vec<bool>) -> bool
-    requires { AreWithin (length marked.old.items) links.now }
+    requires { LinksAreInside (length marked.old.items) links.now }
     ensures long { length marked.new.items ≡ length marked.old.items }
     ensures sound { (s : ℕ) → IsSound links.now s marked.old.items → IsSound links.now s marked.new.items }
     ensures kept { (n : ℕ) → mark_at marked.old.items n ≡ true → mark_at marked.new.items n ≡ true }
     ensures falls { result ≡ true → unmarked marked.new.items < unmarked marked.old.items }
-    ensures closed { result ≡ false → (marked.new.items ≡ marked.old.items) × IsClosed links.now marked.new.items }
+    ensures closed { result ≡ false → (marked.new.items ≡ marked.old.items) × MarksAreClosed links.now marked.new.items }
 {
     let mut changed = false;
     for link in links {

@@ -1,6 +1,6 @@
 ghost use Rattle.std.specs.Prelude.{◌≡◌, ◌↔◌, ◌<◌, true, IsTrue, IfOk};
-ghost use Rattle.stride_bound.specs.Links.{Leads, LeadsBack};
-ghost use Rattle.stride_bound.specs.Marks.{AreWithin};
+ghost use Rattle.stride_bound.specs.TextLinks.{LeadsTo, LeadsBack};
+ghost use Rattle.stride_bound.specs.TextMarks.{LinksAreInside};
 ghost use Rattle.stride_bound.specs.Ranks.{NeverRise, rank_at};
 
 use crate::links::Link;
@@ -37,10 +37,10 @@ fn returns(
     steady: bool,
     link: &Link,
 ) -> Result<bool, OutOfMemory>
-    requires within { AreWithin count links.now }
+    requires within { LinksAreInside count links.now }
     requires start { link.now.to < count }
     requires steady { IsTrue steady → NeverRise links.now orders.now.ranks.items }
-    ensures { IfOk result (λ yes. IsTrue yes ↔ (link.now.tight ≡ true × Leads links.now link.now.to link.now.from)) }
+    ensures { IfOk result (λ yes. IsTrue yes ↔ (link.now.tight ≡ true × LeadsTo links.now link.now.to link.now.from)) }
 {
     if !link.tight {
         return Ok(false);
@@ -61,7 +61,7 @@ fn returns(
 
 // A number above those of all texts of the links.
 fn count_of(links: &[Link]) -> Result<usize, OutOfMemory>
-    ensures { IfOk result (λ count. AreWithin count links.now) }
+    ensures { IfOk result (λ count. LinksAreInside count links.now) }
 {
     let mut most: usize = 0;
     for link in links {

@@ -1,8 +1,8 @@
 ghost use Rattle.std.specs.Prelude.{◌≡◌, ◌<◌, true, false, length, map, replicate, IfOk};
 ghost use Rattle.task_model.specs.Terms.Program.{program_term};
-ghost use Rattle.stride_bound.specs.Figures.{Holds, IsLeast, texts_of, text_figures};
+ghost use Rattle.stride_bound.specs.Figures.{IsAmple, IsLeast, texts_of, text_figures};
 ghost use Rattle.stride_bound.specs.Sums.{nothing};
-ghost use Rattle.stride_bound.specs.Seen.{figures_at, piece_term, table_term};
+ghost use Rattle.stride_bound.specs.BoundTerms.{figures_at, piece_term, table_term};
 ghost use Rattle.stride_bound.specs.Least.{IsBelow, ComesTo, room};
 
 use crate::expressions::expression;
@@ -90,7 +90,7 @@ fn raise_all(definitions: &Definitions, pieces: &[Piece], figures: &mut Vec<Figu
     ensures below { IsBelow (program_term definitions.now.program) figures.old.items → IsBelow (program_term definitions.now.program) figures.new.items }
     ensures raises { result ≡ true → room figures.new.items < room figures.old.items }
     ensures leaves { result ≡ false → (figures.new.items ≡ figures.old.items)
-        × Holds (program_term definitions.now.program) (figures_at figures.new.items) }
+        × IsAmple (program_term definitions.now.program) (figures_at figures.new.items) }
 {
     let mut changed = false;
     for number in 0..pieces.len() {

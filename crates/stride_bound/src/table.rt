@@ -13,7 +13,7 @@ pub(crate) struct Table<'t> {
 
 impl<'t> Table<'t> {
     ghost use Rattle.std.specs.Prelude.{◌≡◌};
-    ghost use Rattle.stride_bound.specs.Seen.{table_term, figures_at};
+    ghost use Rattle.stride_bound.specs.BoundTerms.{table_term, figures_at};
 
     /// Of a text; nothing where there is none.
     pub(crate) fn text(&self, number: usize) -> Figures

@@ -1,9 +1,9 @@
 ghost use Rattle.std.specs.Prelude.{◌≡◌, map};
 ghost use Rattle.task_model.specs.Terms.Host.{host_term};
 ghost use Rattle.task_model.specs.Terms.Task.{task_term, call_task};
-ghost use Rattle.stride_bound.specs.Sums.{behind, greater};
+ghost use Rattle.stride_bound.specs.Sums.{after_first, greater};
 ghost use Rattle.stride_bound.specs.Figures.{expression_bound, task_figures, task_tests};
-ghost use Rattle.stride_bound.specs.Seen.{table_term};
+ghost use Rattle.stride_bound.specs.BoundTerms.{table_term};
 
 use crate::bounds::Bound;
 use crate::expressions::{expression, expressions};
@@ -48,7 +48,7 @@ fn call(table: &Table, name: &TaskText, args: &[Host]) -> Figures
 // A task behind an expression.
 #[cycle(task)]
 fn rest_of(table: &Table, e: &Host, rest: &Task) -> Figures
-    ensures { result ≡ behind (expression_bound (table_term table.now) (host_term e.now)) (task_figures (table_term table.now) (task_term rest.now)) }
+    ensures { result ≡ after_first (expression_bound (table_term table.now) (host_term e.now)) (task_figures (table_term table.now) (task_term rest.now)) }
 {
     task(table, rest).behind(expression(table, e))
 }
@@ -56,7 +56,7 @@ fn rest_of(table: &Table, e: &Host, rest: &Task) -> Figures
 // One of two tasks behind an expression.
 #[cycle(task)]
 fn branches(table: &Table, e: &Host, a: &Task, b: &Task) -> Figures
-    ensures { result ≡ behind (expression_bound (table_term table.now) (host_term e.now))
+    ensures { result ≡ after_first (expression_bound (table_term table.now) (host_term e.now))
         (greater (task_figures (table_term table.now) (task_term a.now)) (task_figures (table_term table.now) (task_term b.now))) }
 {
     let branch = task(table, a).greater(task(table, b));

@@ -1,7 +1,7 @@
 use Rattle.std.proofs.Common.{◌≡◌, map, drop}
 use Rattle.stride_bound.specs.Sums.{either}
 use Rattle.stride_bound.specs.Figures.{greatest_test}
-use Rattle.stride_bound.specs.Seen.{table_term, piece_term}
+use Rattle.stride_bound.specs.BoundTerms.{table_term, piece_term}
 use Rattle.stride_bound.proofs.bounding.greatest.Given as goal
 
 -- so far, with the rest, it is the greatest of all

@@ -3,9 +3,9 @@ use Rattle.stride_bound.specs.declared.bounds.Bound.{Bound}
 use Rattle.std.proofs.lemmas.List.{at_drop_all}
 use Rattle.task_model.specs.Terms.Host.{host_term, as_exprs, call_expr, list_expr}
 use Rattle.task_model.proofs.RowLemmas.{host_term-List, host_term-Call}
-use Rattle.stride_bound.specs.Sums.{beside, above}
+use Rattle.stride_bound.specs.Sums.{beside, over_parts}
 use Rattle.stride_bound.specs.Figures.{expression_bound, expressions_bound}
-use Rattle.stride_bound.specs.Seen.{table_term}
+use Rattle.stride_bound.specs.BoundTerms.{table_term}
 use Rattle.stride_bound.proofs.SumLemmas.{none_beside, beside_none, one_more}
 use Rattle.stride_bound.proofs.expressions.+expression.Goals as goal
 
@@ -19,7 +19,7 @@ expression-returns-in-Call t c =
 pub expression-returns-in-List : goal.expression-returns-in-List
 expression-returns-in-List t c =
     c.above.ensures
-    ∙ ap above c.expressions.ensures
+    ∙ ap over_parts c.expressions.ensures
     ∙ ap (λ e. expression_bound (table_term c.args.table.now) e)
     (ap (λ l. list_expr (as_exprs (map host_term l))) c.as_slice-in-List.ensures ∙ sym (host_term-List c.in-List.items)
     ∙ ap host_term (sym c.in-List.is))

@@ -3,7 +3,7 @@ use Rattle.task_model.specs.Terms.Host.{host_term, as_exprs}
 use Rattle.task_model.specs.declared.host.Host.{size-Host}
 use Rattle.stride_bound.specs.Sums.{beside}
 use Rattle.stride_bound.specs.Figures.{expressions_bound}
-use Rattle.stride_bound.specs.Seen.{table_term}
+use Rattle.stride_bound.specs.BoundTerms.{table_term}
 use Rattle.stride_bound.proofs.expressions.+expression.Given as goal
 
 abbrev pub decreases-expression : goal.decreases-expression

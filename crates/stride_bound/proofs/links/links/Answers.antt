@@ -4,8 +4,8 @@ use Rattle.std.proofs.lemmas.List.{at_drop_all, length-map}
 use Rattle.task_model.specs.Terms.Program.{def_term, program_term}
 use Rattle.task_model.specs.declared.program.Program.{Program}
 use Rattle.task_model.specs.Running.Checked.{SeenChecked}
-use Rattle.stride_bound.specs.Links.{links_from, links_of_text}
-use Rattle.stride_bound.specs.Seen.{piece_term}
+use Rattle.stride_bound.specs.TextLinks.{links_from, links_of_text}
+use Rattle.stride_bound.specs.BoundTerms.{piece_term}
 use Rattle.stride_bound.proofs.links.links.Goals as goal
 
 pub loop-from-preserved : goal.loop-from-preserved

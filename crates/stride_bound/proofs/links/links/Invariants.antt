@@ -1,7 +1,7 @@
 use Rattle.std.proofs.Common.{◌≡◌, ◌++◌, map, drop}
 use Rattle.task_model.specs.Terms.Program.{program_term}
-use Rattle.stride_bound.specs.Links.{links_from}
-use Rattle.stride_bound.specs.Seen.{piece_term}
+use Rattle.stride_bound.specs.TextLinks.{links_from}
+use Rattle.stride_bound.specs.BoundTerms.{piece_term}
 use Rattle.stride_bound.proofs.links.links.Given as goal
 
 -- so far, with those of the texts that are left, they are all links

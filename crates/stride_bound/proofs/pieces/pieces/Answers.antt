@@ -4,7 +4,7 @@ use Rattle.task_model.specs.Terms.Task.{task_term, body_term}
 use Rattle.task_model.specs.Terms.Program.{def_term, task_body}
 use Rattle.task_model.specs.declared.program.Def.{Def}
 use Rattle.task_model.specs.declared.task.Body.{Body}
-use Rattle.stride_bound.specs.Seen.{piece_term}
+use Rattle.stride_bound.specs.BoundTerms.{piece_term}
 use Rattle.stride_bound.proofs.ListLemmas.{pushed, map_twice}
 use Rattle.stride_bound.proofs.pieces.pieces.Goals as goal
 

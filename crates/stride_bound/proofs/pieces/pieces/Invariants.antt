@@ -1,7 +1,7 @@
 use Rattle.std.proofs.Common.{◌≡◌, ◌++◌, map, take}
 use Rattle.task_model.specs.Terms.Task.{body_term}
 use Rattle.task_model.specs.Terms.Program.{def_term, task_body}
-use Rattle.stride_bound.specs.Seen.{piece_term}
+use Rattle.stride_bound.specs.BoundTerms.{piece_term}
 use Rattle.stride_bound.proofs.pieces.pieces.Given as goal
 
 abbrev pub invariant-loop-def : goal.invariant-loop-def

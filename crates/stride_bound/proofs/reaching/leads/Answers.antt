@@ -1,5 +1,5 @@
 use Rattle.std.proofs.Common.{◌≡◌, ◌<◌, get_or, length, Bool, true, false, subst, sym, ap, refl, ◌∙◌, arith, IsTrue, Vec, Global, rules}
-use Rattle.stride_bound.specs.Marks.{mark_at}
+use Rattle.stride_bound.specs.TextMarks.{mark_at}
 use Rattle.stride_bound.proofs.MarkLemmas.{Reaches, reaches_first, reaches_more, reaches_spread, reaches_all}
 use Rattle.std.proofs.lemmas.Option.{slice_get_read}
 use Rattle.stride_bound.proofs.reaching.leads.Goals.{in-Some, in_default}

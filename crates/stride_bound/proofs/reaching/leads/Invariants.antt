@@ -1,4 +1,4 @@
-use Rattle.stride_bound.specs.Marks.{unmarked}
+use Rattle.stride_bound.specs.TextMarks.{unmarked}
 use Rattle.stride_bound.proofs.MarkLemmas.{Reaches}
 use Rattle.stride_bound.proofs.reaching.leads.Given as goal
 

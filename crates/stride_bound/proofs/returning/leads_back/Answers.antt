@@ -2,7 +2,7 @@ use Rattle.std.proofs.Common.{◌≡◌, ℕ, ◌+◌, ◌<◌, ◌≤◌, Some,
 use Rattle.std.specs.Prelude.{slice_get}
 use Rattle.std.proofs.lemmas.Option.{slice_get-get_or, slice_get_within}
 use Rattle.stride_bound.specs.declared.links.Link.{Link}
-use Rattle.stride_bound.specs.Links.{Leads, LeadsBack}
+use Rattle.stride_bound.specs.TextLinks.{LeadsTo, LeadsBack}
 use Rattle.stride_bound.proofs.RankLemmas.{one_more_has}
 use Rattle.stride_bound.proofs.returning.leads_back.Goals as goal
 
@@ -14,7 +14,7 @@ pub loop-link-preserved : goal.loop-link-preserved
 loop-link-preserved c =
     let links = c.args.links.now in
     let i = c.loop-link.link-index in
-    one_more_has (λ m. m.tight ≡ true → Leads links m.to m.from → ⊥) links i _ (slice_get-get_or links i (record { from = 0; to = 0; tight = false }) c.loop-link-test.true)
+    one_more_has (λ m. m.tight ≡ true → LeadsTo links m.to m.from → ⊥) links i _ (slice_get-get_or links i (record { from = 0; to = 0; tight = false }) c.loop-link-test.true)
     (λ tight back. false_is _ c.if-branch.false (c.in_ok-returns.ensures.1 (tight, back))) c.loop-link.invariant
 
 pub returns : goal.returns

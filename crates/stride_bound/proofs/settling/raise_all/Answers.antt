@@ -1,7 +1,7 @@
 use Rattle.std.proofs.Common.{◌≡◌, ◌+◌, ◌<◌, length, map, true, false, subst, sym, ap, ◌∙◌, arith}
 use Rattle.std.proofs.lemmas.List.{length-map}
 use Rattle.task_model.specs.Terms.Program.{program_term}
-use Rattle.stride_bound.specs.Seen.{piece_term}
+use Rattle.stride_bound.specs.BoundTerms.{piece_term}
 use Rattle.stride_bound.proofs.LeastLemmas.{Raises, none_raised, raise_more, raise_same, comes_all}
 use Rattle.stride_bound.proofs.settling.raise_all.Goals.{then-raise, else-raise}
 use Rattle.stride_bound.proofs.settling.raise_all.Goals as goal

@@ -50,9 +50,9 @@ module _ (p : ProgramTerm) where
   links_of = links_from 0 (texts_of p)
 
 -- a text leads to itself, and to what the end of a link of it leads to
-pub data Leads (links : List Link) : ℕ → ℕ → Type 0 where
-  here : (n : ℕ) → Leads links n n
-  along : (i : ℕ) (l : Link) (n m : ℕ) → slice_get links i ≡ Some l → l.from ≡ n → Leads links l.to m → Leads links n m
+pub data LeadsTo (links : List Link) : ℕ → ℕ → Type 0 where
+  here : (n : ℕ) → LeadsTo links n n
+  along : (i : ℕ) (l : Link) (n m : ℕ) → slice_get links i ≡ Some l → l.from ≡ n → LeadsTo links l.to m → LeadsTo links n m
 
 -- some tight link leads back to the text that it is in
 pub record LeadsBack (links : List Link) : Type 0 where
@@ -60,4 +60,4 @@ pub record LeadsBack (links : List Link) : Type 0 where
   pub link : Link
   pub is : slice_get links number ≡ Some link
   pub tight : link.tight ≡ true
-  pub back : Leads links link.to link.from
+  pub back : LeadsTo links link.to link.from
