@@ -35,7 +35,7 @@ loop-line-preserved g c =
           let is : (x.world == k) ≡ true = search (rules, w.if-line-number.true) in
           let first = ap (own_lines k) all ∙ own_here k (addressed x) (map addressed (drop (i + 1) xs)) is in
           let t = w.in_ok-answer.field-0 in
-          let told = subst (λ (f : LineForm). Answers f (world_term l.answering.world) (line_term w.in_ok-asked.field-0) t.list
+          let told = subst (λ (f : LineForm). Answers f (world_term l.answering.world) (line_term w.in_ok-asked.asked) t.list
           (world_term w.answer.new.self.world)) l.invariant.0 w.in_ok-answer.ensures.answers in
           let answered = subst (λ (q : LineTerm). Answers Script (world_term l.answering.world) q t.list (world_term w.answer.new.self.world))
           w.in_ok-asked.ensures told in
