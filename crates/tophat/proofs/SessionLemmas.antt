@@ -13,7 +13,7 @@ use Rattle.line_frame.specs.declared.finish.Finish.TheVariants as finishes
 use Rattle.input_lines.specs.ScriptLines.{LineTerm}
 use Rattle.input_lines.specs.LinePlaces.{IsLineWithin, IsBadLine, IsBadColumn}
 use Rattle.tophat.proofs.LineLemmas.{line_once, bad_once, line_apart, cut_bad, line_decided}
-use Rattle.world_answers.specs.Answers.{Answers}
+use Rattle.world_answers.specs.LineAnswers.{Answers}
 use Rattle.world_answers.proofs.AnswerLemmas.{answers_exist, answers_once}
 use Rattle.tophat.specs.Session.{Tells}
 

@@ -7,7 +7,7 @@ use Rattle.line_frame.specs.declared.finish.Finish.{Finish}
 use Rattle.line_frame.specs.declared.finish.Finish.TheVariants.{Bad}
 use Rattle.input_lines.specs.ScriptLines.{LineTerm}
 use Rattle.input_lines.specs.LinePlaces.{IsLineWithin, IsBadLine}
-use Rattle.world_answers.specs.Answers.{Answers}
+use Rattle.world_answers.specs.LineAnswers.{Answers}
 
 -- a line in the grammar is answered, and then what is told of those behind it is told
 pub record TellsAnswer (longest : ℕ) (line : Text) (w : WorldTerm) (TellsRest : WorldTerm → Told → Type 0) (told : Told) : Type 0 where

@@ -14,7 +14,7 @@ use Rattle.world_core.specs.declared.answers.Taken.{Taken}
 use Rattle.world_core.specs.World.{WorldTerm, Replies}
 use Rattle.world_core.specs.Pages.{IsWorldPage}
 use Rattle.input_lines.specs.ScriptLines.{LineTerm, nothing, shows, gives}
-use Rattle.world_answers.specs.Answers.{Answers, AnswersInTurn, answer_text, world_after}
+use Rattle.world_answers.specs.LineAnswers.{Answers, AnswersInTurn, answer_text, world_after}
 
 -- ---- what the world replied is the answer
 pub taken_answers : (w : WorldTerm) (e : EntryTerm) (new : WorldTerm) (done : Taken) → Replies w e new (Ok done)

@@ -3,7 +3,7 @@ ghost use Rattle.task_model.specs.Terms.Input.{entry_term};
 ghost use Rattle.task_model.specs.Running.State.{IsSeat};
 ghost use Rattle.world_core.specs.World.{world_term, Replies};
 ghost use Rattle.input_lines.specs.ScriptLines.{HasSeat, gives, shows, line_term};
-ghost use Rattle.world_answers.specs.Answers.{Answers};
+ghost use Rattle.world_answers.specs.LineAnswers.{Answers};
 
 use input_lines::Line;
 use itoa::Buffer;

@@ -3,7 +3,7 @@ use Rattle.std.proofs.lemmas.List.{drop_more, drop_all}
 use Rattle.task_model.specs.Terms.Rowed.{Rowed}
 use Rattle.input_lines.specs.ScriptLines.{LineTerm}
 use Rattle.world_core.specs.World.{SeenWorld, world_term}
-use Rattle.world_answers.specs.Answers.{Answers, AnswersInTurn}
+use Rattle.world_answers.specs.LineAnswers.{Answers, AnswersInTurn}
 use Rattle.hub_lines.specs.OwnLines.{addressed, own_lines}
 use Rattle.hub_lines.proofs.QueueLemmas.{one_text_more}
 use Rattle.world_hub.proofs.AnsweredLemmas.{own_here, own_other}

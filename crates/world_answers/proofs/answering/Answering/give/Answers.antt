@@ -4,7 +4,7 @@ use Rattle.task_model.specs.Terms.Text.{Text}
 use Rattle.task_model.specs.Terms.Input.{entry_term}
 use Rattle.world_core.specs.World.{world_term, Replies}
 use Rattle.input_lines.specs.ScriptLines.{gives}
-use Rattle.world_answers.specs.Answers.{Answers}
+use Rattle.world_answers.specs.LineAnswers.{Answers}
 use Rattle.world_answers.proofs.AnswerLemmas.{taken_answers, refused_answers, over_answers}
 use Rattle.world_answers.proofs.answering.Answering.give.Goals as goal
 
