@@ -96,6 +96,7 @@ run_found o = looked run_in o (λ v. run_range (v (codes "FILE")) (budget_in v)
 json_found : (o : Option (List Use)) → AreInRange (looked_up json_in o)
 json_found o = looked json_in o (λ v. json_range (v (codes "FILE")) (budget_in v)
     (or_between usual_budget 1 1000000 (v (codes "budget")) (omega arith) (omega arith)))
+
 bound_range : (file : Option Text) → AreInRange (bound_with file)
 bound_range None = tt
 bound_range (Some file) = tt

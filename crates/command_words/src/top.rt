@@ -5,7 +5,7 @@ ghost use Rattle.clap.specs.Walk.{texts};
 ghost use Rattle.command_words.specs.Commands.{IsAsked, IsInRange, command_of, command_term};
 
 use crate::command::Command;
-use crate::reading::{check, drill, json, run, serve, soak, bound};
+use crate::reading::{bound, check, drill, json, run, serve, soak};
 use crate::stop::WordStop;
 use std::alloc::Global;
 use task_model::TaskText;

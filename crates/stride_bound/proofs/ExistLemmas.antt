@@ -8,7 +8,7 @@ use Rattle.task_model.specs.Terms.Program.{DefBodyTerm, ProgramTerm}
 use Rattle.task_model.specs.Checking.Names.{Numbered, first_named}
 use Rattle.stride_bound.specs.declared.bounds.Bound.{Bound}
 use Rattle.stride_bound.specs.declared.figures.Figures.{Figures}
-use Rattle.stride_bound.specs.declared.links.Link.{Link}
+use Rattle.stride_bound.specs.declared.links.TextLink.{TextLink}
 use Rattle.stride_bound.specs.Sums.{naught, nothing, either, greater}
 use Rattle.stride_bound.specs.Figures.{IsNoMore, AtMost, IsAmple, IsLeast, figures_of_number, tables_of, text_figures, texts_of, program_bound}
 use Rattle.stride_bound.specs.TextLinks.{LeadsTo, LeadsBack, links_of}
@@ -51,52 +51,52 @@ all_or_one P N each (suc n) = go (all_or_one P N each n) (each n)
     ])
 
 -- ---- links
-within_from : (links : List Link) → (count : ℕ) × LinksAreInside count links
+within_from : (links : List TextLink) → (count : ℕ) × LinksAreInside count links
 within_from [] = (0, λ i l is. cc)
 within_from (l ∷ ls) =
     let rest = within_from ls in
     (suc (l.from + l.to + rest.0), within rest.0 rest.1)
   where
-    head : (m : Link) (c : ℕ) → Some l ≡ Some m → (m.from < suc (l.from + l.to + c)) × (m.to < suc (l.from + l.to + c))
+    head : (m : TextLink) (c : ℕ) → Some l ≡ Some m → (m.from < suc (l.from + l.to + c)) × (m.to < suc (l.from + l.to + c))
     head m c e = let same : l ≡ m = cc in
-        subst (λ (k : Link). (k.from < suc (l.from + l.to + c)) × (k.to < suc (l.from + l.to + c))) same (omega arith, omega arith)
+        subst (λ (k : TextLink). (k.from < suc (l.from + l.to + c)) × (k.to < suc (l.from + l.to + c))) same (omega arith, omega arith)
 
     within : (c : ℕ) → LinksAreInside c ls → LinksAreInside (suc (l.from + l.to + c)) (l ∷ ls)
     within c h zero m is = head m c is
     within c h (suc i) m is = let x = (h i m is).0 in let y = (h i m is).1 in (omega (arith, x), omega (arith, y))
 
 -- the end of link k isn't marked, though its text is
-record IsOpen (links : List Link) (ms : List Bool) (k : ℕ) : Type 0 where
-  link : Link
+record IsOpen (links : List TextLink) (ms : List Bool) (k : ℕ) : Type 0 where
+  link : TextLink
   is : slice_get links k ≡ Some link
   from : mark_at ms link.from ≡ true
   to : mark_at ms link.to ≡ false
 
-abbrev IsShut : List Link → List Bool → ℕ → Type 0
-IsShut links ms k = (l : Link) → slice_get links k ≡ Some l → mark_at ms l.from ≡ true → mark_at ms l.to ≡ true
+abbrev IsShut : List TextLink → List Bool → ℕ → Type 0
+IsShut links ms k = (l : TextLink) → slice_get links k ≡ Some l → mark_at ms l.from ≡ true → mark_at ms l.to ≡ true
 
-shut_or_open : (links : List Link) (ms : List Bool) (k : ℕ) → IsShut links ms k ⊎ IsOpen links ms k
+shut_or_open : (links : List TextLink) (ms : List Bool) (k : ℕ) → IsShut links ms k ⊎ IsOpen links ms k
 shut_or_open links ms k = go (slice_get links k) refl
   where
-    by_marks : (l : Link) → slice_get links k ≡ Some l → (a b : Bool) → mark_at ms l.from ≡ a → mark_at ms l.to ≡ b
+    by_marks : (l : TextLink) → slice_get links k ≡ Some l → (a b : Bool) → mark_at ms l.from ≡ a → mark_at ms l.to ≡ b
         → IsShut links ms k ⊎ IsOpen links ms k
     by_marks l is true false x y = inr (record { link = l; is = is; from = x; to = y })
-    by_marks l is true true x y = inl (λ m at on. let same : l ≡ m = some_same m (sym is ∙ at) in ap (λ (j : Link). mark_at ms j.to) (sym same) ∙ y)
+    by_marks l is true true x y = inl (λ m at on. let same : l ≡ m = some_same m (sym is ∙ at) in ap (λ (j : TextLink). mark_at ms j.to) (sym same) ∙ y)
       where
-        some_same : (m : Link) → Some l ≡ Some m → l ≡ m
+        some_same : (m : TextLink) → Some l ≡ Some m → l ≡ m
         some_same m e = cc
     by_marks l is false b x y = inl (λ m at on. let same : l ≡ m = some_same m (sym is ∙ at) in
-        let off : mark_at ms m.from ≡ false = ap (λ (j : Link). mark_at ms j.from) (sym same) ∙ x in absurd (cc))
+        let off : mark_at ms m.from ≡ false = ap (λ (j : TextLink). mark_at ms j.from) (sym same) ∙ x in absurd (cc))
       where
-        some_same : (m : Link) → Some l ≡ Some m → l ≡ m
+        some_same : (m : TextLink) → Some l ≡ Some m → l ≡ m
         some_same m e = cc
 
-    go : (o : Option Link) → slice_get links k ≡ o → IsShut links ms k ⊎ IsOpen links ms k
+    go : (o : Option TextLink) → slice_get links k ≡ o → IsShut links ms k ⊎ IsOpen links ms k
     go None e = inl (λ l is on. cc)
     go (Some l) e = by_marks l e (mark_at ms l.from) (mark_at ms l.to) refl refl
 
 -- a text leads to another one or not
-leads_or_not : (links : List Link) (s t : ℕ) → LeadsTo links s t ⊎ (LeadsTo links s t → ⊥)
+leads_or_not : (links : List TextLink) (s t : ℕ) → LeadsTo links s t ⊎ (LeadsTo links s t → ⊥)
 leads_or_not links s t =
     let c = within_from links in
     let count = suc (s + c.0) in
@@ -127,30 +127,30 @@ leads_or_not links s t =
     by_mark ms r closed false e = inr (λ leads. let on = reaches_all links ms closed s t leads r.start in cc)
 
 -- some tight link leads back or none does
-pub leads_back_or_not : (links : List Link) → LeadsBack links ⊎ (LeadsBack links → ⊥)
+pub leads_back_or_not : (links : List TextLink) → LeadsBack links ⊎ (LeadsBack links → ⊥)
 leads_back_or_not links = elim (all_or_one Stays Returns each (length links)) [
   | inl stays ↦ inr (λ h. stays h.number (slice_get_within links h.number h.link h.is) h.link h.is h.tight h.back)
   | inr (k, lt, back) ↦ inl (record { number = k; link = back.0; is = back.1; tight = back.2; back = back.3 })
 ]
   where
     Stays : ℕ → Type 0
-    Stays k = (l : Link) → slice_get links k ≡ Some l → l.tight ≡ true → LeadsTo links l.to l.from → ⊥
+    Stays k = (l : TextLink) → slice_get links k ≡ Some l → l.tight ≡ true → LeadsTo links l.to l.from → ⊥
 
     Returns : ℕ → Type 0
-    Returns k = (l : Link) × (slice_get links k ≡ Some l) × (l.tight ≡ true) × LeadsTo links l.to l.from
+    Returns k = (l : TextLink) × (slice_get links k ≡ Some l) × (l.tight ≡ true) × LeadsTo links l.to l.from
 
-    some_same : (l m : Link) → Some l ≡ Some m → l ≡ m
+    some_same : (l m : TextLink) → Some l ≡ Some m → l ≡ m
     some_same l m e = cc
 
-    of_link : (k : ℕ) (l : Link) → slice_get links k ≡ Some l → (b : Bool) → l.tight ≡ b
+    of_link : (k : ℕ) (l : TextLink) → slice_get links k ≡ Some l → (b : Bool) → l.tight ≡ b
         → LeadsTo links l.to l.from ⊎ (LeadsTo links l.to l.from → ⊥) → Stays k ⊎ Returns k
     of_link k l is true e (inl back) = inr (l, is, e, back)
     of_link k l is true e (inr stays) = inl (λ m at on back. let same = some_same l m (sym is ∙ at) in
-        stays (subst (λ (j : Link). LeadsTo links j.to j.from) (sym same) back))
+        stays (subst (λ (j : TextLink). LeadsTo links j.to j.from) (sym same) back))
     of_link k l is false e d = inl (λ m at on back. let same = some_same l m (sym is ∙ at) in
-        let off : m.tight ≡ false = ap (λ (j : Link). j.tight) (sym same) ∙ e in cc)
+        let off : m.tight ≡ false = ap (λ (j : TextLink). j.tight) (sym same) ∙ e in cc)
 
-    go : (k : ℕ) (o : Option Link) → slice_get links k ≡ o → Stays k ⊎ Returns k
+    go : (k : ℕ) (o : Option TextLink) → slice_get links k ≡ o → Stays k ⊎ Returns k
     go k None e = inl (λ l is. cc)
     go k (Some l) e = of_link k l e l.tight refl (leads_or_not links l.to l.from)
 

@@ -4,18 +4,18 @@ use Rattle.std.specs.Prelude.{slice_get, sum_by}
 use Rattle.std.proofs.lemmas.Option.{unwrap_or-slice_get, slice_get_within, slice_get_read}
 use Rattle.std.proofs.lemmas.List.{get_or-set_same, get_or-set_other, length-set, length-replicate}
 use Rattle.std.proofs.lemmas.List.Sums.{sum_by-set}
-use Rattle.stride_bound.specs.declared.links.Link.{Link}
+use Rattle.stride_bound.specs.declared.links.TextLink.{TextLink}
 use Rattle.stride_bound.specs.TextLinks.{LeadsTo, here, along}
 use Rattle.stride_bound.proofs.ListLemmas.{same_or_not}
 use Rattle.stride_bound.specs.TextMarks.{mark_at, unmarked, LinksAreInside, IsSound, MarksAreClosed}
 
 -- what a text leads to leads on along a link
-pub leads_on : (links : List Link) (i : ℕ) (l : Link) → slice_get links i ≡ Some l → (s n : ℕ) → n ≡ l.from → LeadsTo links s n
+pub leads_on : (links : List TextLink) (i : ℕ) (l : TextLink) → slice_get links i ≡ Some l → (s n : ℕ) → n ≡ l.from → LeadsTo links s n
     → LeadsTo links s l.to
 leads_on links i l is s n e (here _) = along i l s l.to is (sym e) (here l.to)
 leads_on links i l is s n e (along j k _ _ at from rest) = along j k s l.to at from (leads_on links i l is k.to n e rest)
 
-pub leads_then : (links : List Link) (a b c : ℕ) → LeadsTo links a b → LeadsTo links b c → LeadsTo links a c
+pub leads_then : (links : List TextLink) (a b c : ℕ) → LeadsTo links a b → LeadsTo links b c → LeadsTo links a c
 leads_then links a b c (here _) rest = rest
 leads_then links a b c (along j k _ _ at from more) rest = along j k a c at from (leads_then links k.to b c more rest)
 
@@ -41,15 +41,15 @@ mark_one_less ms t within off =
     omega (arith, h)
 
 -- marks after some links were looked at, of which each has a number below i, and whether some end was marked
-pub record Spreads (links : List Link) (i : ℕ) (old new : List Bool) (changed : Bool) : Type 0 where
+pub record Spreads (links : List TextLink) (i : ℕ) (old new : List Bool) (changed : Bool) : Type 0 where
   pub long : length new ≡ length old
   pub sound : (s : ℕ) → IsSound links s old → IsSound links s new
   pub kept : (n : ℕ) → mark_at old n ≡ true → mark_at new n ≡ true
   pub falls : changed ≡ true → unmarked new < unmarked old
   pub same : changed ≡ false → new ≡ old
-  pub closed : changed ≡ false → (k : ℕ) (l : Link) → k < i → slice_get links k ≡ Some l → mark_at new l.from ≡ true → mark_at new l.to ≡ true
+  pub closed : changed ≡ false → (k : ℕ) (l : TextLink) → k < i → slice_get links k ≡ Some l → mark_at new l.from ≡ true → mark_at new l.to ≡ true
 
-pub none_spread : (links : List Link) (old : List Bool) → Spreads links 0 old old false
+pub none_spread : (links : List TextLink) (old : List Bool) → Spreads links 0 old old false
 none_spread links old = record {
   long = refl;
   sound = λ s h. h;
@@ -65,7 +65,7 @@ fewer_still true old now new falls same less = let h = falls refl in omega (arit
 fewer_still false old now new falls same less = let h = ap unmarked (same refl) in omega (arith, h, less)
 
 -- a link whose end is marked
-pub spread_more : (links : List Link) (i : ℕ) (l : Link) (old now new : List Bool) (changed : Bool) → Spreads links i old now changed
+pub spread_more : (links : List TextLink) (i : ℕ) (l : TextLink) (old now new : List Bool) (changed : Bool) → Spreads links i old now changed
     → slice_get links i ≡ Some l → LinksAreInside (length old) links → mark_at now l.from ≡ true → mark_at now l.to ≡ false
     → new ≡ set now l.to true → Spreads links (i + 1) old new true
 spread_more links i l old now new changed so_far is inside on off e = let within = subst (λ k. l.to < k) (sym so_far.long) (inside i l is).1 in record {
@@ -81,7 +81,7 @@ spread_more links i l old now new changed so_far is inside on off e = let within
 }
 
 -- one whose end was marked, or whose text isn't
-pub spread_same : (links : List Link) (i : ℕ) (l : Link) (old now new : List Bool) (changed : Bool) → Spreads links i old now changed
+pub spread_same : (links : List TextLink) (i : ℕ) (l : TextLink) (old now new : List Bool) (changed : Bool) → Spreads links i old now changed
     → slice_get links i ≡ Some l → (mark_at now l.from ≡ true → mark_at now l.to ≡ true) → new ≡ now
     → Spreads links (i + 1) old new changed
 spread_same links i l old now new changed so_far is leaves e = record {
@@ -96,13 +96,13 @@ spread_same links i l old now new changed so_far is leaves e = record {
   ];
 }
   where
-    some_same : (j : Link) → Some j ≡ Some l → j ≡ l
+    some_same : (j : TextLink) → Some j ≡ Some l → j ≡ l
     some_same j h = cc
 
-    end_of : (j : Link) → slice_get links i ≡ Some j → mark_at now j.from ≡ true → mark_at now j.to ≡ true
+    end_of : (j : TextLink) → slice_get links i ≡ Some j → mark_at now j.from ≡ true → mark_at now j.to ≡ true
     end_of j at on =
         let same = some_same j (sym at ∙ is) in
-        ap (λ (k : Link). mark_at now k.to) same ∙ leaves (sym (ap (λ (k : Link). mark_at now k.from) same) ∙ on)
+        ap (λ (k : TextLink). mark_at now k.to) same ∙ leaves (sym (ap (λ (k : TextLink). mark_at now k.from) same) ∙ on)
 
 -- ---- all that one text leads to
 mark_within : (ms : List Bool) (n : ℕ) → mark_at ms n ≡ true → n < length ms
@@ -116,12 +116,12 @@ none_marked (suc count) zero h = cc
 none_marked (suc count) (suc n) h = none_marked count n h
 
 -- marks of some texts that this one leads to, itself among them
-pub record Reaches (links : List Link) (count s : ℕ) (ms : List Bool) : Type 0 where
+pub record Reaches (links : List TextLink) (count s : ℕ) (ms : List Bool) : Type 0 where
   pub long : length ms ≡ count
   pub sound : IsSound links s ms
   pub start : mark_at ms s ≡ true
 
-pub reaches_first : (links : List Link) (count s : ℕ) (ms : List Bool) → s < count → ms ≡ replicate count false
+pub reaches_first : (links : List TextLink) (count s : ℕ) (ms : List Bool) → s < count → ms ≡ replicate count false
     → Reaches links count s (set ms s true)
 reaches_first links count s ms within e = record {
   long = length-set ms s true ∙ long;
@@ -135,7 +135,7 @@ reaches_first links count s ms within e = record {
     long : length ms ≡ count
     long = ap length e ∙ length-replicate count false
 
-pub reaches_more : (links : List Link) (count s : ℕ) (old new : List Bool) → Reaches links count s old → length new ≡ length old
+pub reaches_more : (links : List TextLink) (count s : ℕ) (old new : List Bool) → Reaches links count s old → length new ≡ length old
     → (IsSound links s old → IsSound links s new) → (mark_at old s ≡ true → mark_at new s ≡ true) → Reaches links count s new
 reaches_more links count s old new so_far long sound kept = record {
   long = long ∙ so_far.long;
@@ -144,7 +144,7 @@ reaches_more links count s old new so_far long sound kept = record {
 }
 
 -- one link more
-pub reaches_along : (links : List Link) (count s : ℕ) (i : ℕ) (l : Link) (old new : List Bool) → Reaches links count s old
+pub reaches_along : (links : List TextLink) (count s : ℕ) (i : ℕ) (l : TextLink) (old new : List Bool) → Reaches links count s old
     → slice_get links i ≡ Some l → l.to < length old → mark_at old l.from ≡ true → new ≡ set old l.to true → Reaches links count s new
 reaches_along links count s i l old new so_far is within on e = record {
   long = ap length e ∙ length-set old l.to true ∙ so_far.long;
@@ -155,7 +155,7 @@ reaches_along links count s i l old new so_far is within on e = record {
   start = ap (λ ms. mark_at ms s) e ∙ mark_kept old l.to s within so_far.start;
 }
 
-pub reaches_spread : (links : List Link) (count s : ℕ) (i : ℕ) (l : Link) (old new : List Bool) (result : Bool) → Reaches links count s old
+pub reaches_spread : (links : List TextLink) (count s : ℕ) (i : ℕ) (l : TextLink) (old new : List Bool) (result : Bool) → Reaches links count s old
     → slice_get links i ≡ Some l → l.to < length old
     → (result ≡ true → (mark_at old l.from ≡ true) × (mark_at old l.to ≡ false) × (new ≡ set old l.to true))
     → (result ≡ false → (new ≡ old) × (mark_at old l.from ≡ true → mark_at old l.to ≡ true))
@@ -166,7 +166,7 @@ reaches_spread links count s i l old new false so_far is within marks leaves =
     subst (Reaches links count s) (sym (leaves refl).0) so_far
 
 -- closed marks have all that the text leads to
-pub reaches_all : (links : List Link) (ms : List Bool) → MarksAreClosed links ms → (s t : ℕ) → LeadsTo links s t → mark_at ms s ≡ true → mark_at ms t ≡ true
+pub reaches_all : (links : List TextLink) (ms : List Bool) → MarksAreClosed links ms → (s t : ℕ) → LeadsTo links s t → mark_at ms s ≡ true → mark_at ms t ≡ true
 reaches_all links ms closed s t (here _) on = on
 reaches_all links ms closed s t (along i l _ _ at from rest) on =
     reaches_all links ms closed l.to t rest (closed i l at (ap (mark_at ms) from ∙ on))

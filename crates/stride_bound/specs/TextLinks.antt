@@ -3,23 +3,23 @@ use Rattle.std.specs.Prelude.{◌≡◌, ℕ, suc, ◌+◌, Bool, true, false, n
 use Rattle.task_model.specs.Terms.Task.{TaskTerm, edit, enter, share, fail, call_task, then_task, next_task, and_task, or_task, xor_task, let_task, if_task, case_task, new_task, put_task}
 use Rattle.task_model.specs.Terms.Program.{DefBodyTerm, fun_body, task_body, ProgramTerm}
 use Rattle.task_model.specs.Checking.Names.{Numbered, first_named}
-use Rattle.stride_bound.specs.declared.links.Link.{Link}
+use Rattle.stride_bound.specs.declared.links.TextLink.{TextLink}
 use Rattle.stride_bound.specs.Figures.{texts_of}
 
 -- to the task that a call names
-abbrev pub call_links : ℕ → Bool → Option Numbered → List Link
+abbrev pub call_links : ℕ → Bool → Option Numbered → List TextLink
 call_links n tight None = []
 call_links n tight (Some d) = record { from = n; to = d.index; tight = tight } ∷ []
 
 module _ (p : ProgramTerm) where
   -- to a body
-  abbrev pub body_link : ℕ → Bool → ℕ → Link
+  abbrev pub body_link : ℕ → Bool → ℕ → TextLink
   body_link n tight i = record { from = n; to = length p.defs + i; tight = tight }
 
   -- Those of a task in text n, where this text is a body or not, and the task stands at its end or not. A link is loose to the body of a
   -- user step at the end, and to the task of a call at the end of a body. All others are tight. A task stands at the end where only `let`,
   -- `if`, `case`, `new` and `:=` are around it.
-  abbrev pub links_of_task : ℕ → Bool → Bool → TaskTerm → List Link
+  abbrev pub links_of_task : ℕ → Bool → Bool → TaskTerm → List TextLink
   links_of_task n inside last (edit e) = []
   links_of_task n inside last (enter b) = []
   links_of_task n inside last (share x) = []
@@ -36,28 +36,28 @@ module _ (p : ProgramTerm) where
   links_of_task n inside last (new_task x e t) = links_of_task n inside last t
   links_of_task n inside last (put_task x e t) = links_of_task n inside last t
 
-  abbrev pub links_of_text : ℕ → Bool → DefBodyTerm → List Link
+  abbrev pub links_of_text : ℕ → Bool → DefBodyTerm → List TextLink
   links_of_text n inside (fun_body e) = []
   links_of_text n inside (task_body t) = links_of_task n inside true t
 
   -- those of these texts, of which the first has number n
-  abbrev pub links_from : ℕ → List DefBodyTerm → List Link
+  abbrev pub links_from : ℕ → List DefBodyTerm → List TextLink
   links_from n [] = []
   links_from n (w ∷ ws) = links_of_text n (nat_le (length p.defs) n) w ++ links_from (suc n) ws
 
   -- all links of the program
-  abbrev pub links_of : List Link
+  abbrev pub links_of : List TextLink
   links_of = links_from 0 (texts_of p)
 
 -- a text leads to itself, and to what the end of a link of it leads to
-pub data LeadsTo (links : List Link) : ℕ → ℕ → Type 0 where
+pub data LeadsTo (links : List TextLink) : ℕ → ℕ → Type 0 where
   here : (n : ℕ) → LeadsTo links n n
-  along : (i : ℕ) (l : Link) (n m : ℕ) → slice_get links i ≡ Some l → l.from ≡ n → LeadsTo links l.to m → LeadsTo links n m
+  along : (i : ℕ) (l : TextLink) (n m : ℕ) → slice_get links i ≡ Some l → l.from ≡ n → LeadsTo links l.to m → LeadsTo links n m
 
 -- some tight link leads back to the text that it is in
-pub record LeadsBack (links : List Link) : Type 0 where
+pub record LeadsBack (links : List TextLink) : Type 0 where
   pub number : ℕ
-  pub link : Link
+  pub link : TextLink
   pub is : slice_get links number ≡ Some link
   pub tight : link.tight ≡ true
   pub back : LeadsTo links link.to link.from

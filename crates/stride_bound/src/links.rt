@@ -12,7 +12,7 @@ use task_model::{OutOfMemory, Task, TaskText};
 
 /// A text leads to another: it names that body, or calls that task. It does so loosely behind a user step, at the end of its task.
 #[derive(Clone, Copy)]
-pub struct Link {
+pub struct TextLink {
     pub from: usize,
     pub to: usize,
     pub tight: bool,
@@ -31,7 +31,7 @@ pub(crate) fn links(
     alloc: Global,
     definitions: &Definitions,
     pieces: &[Piece],
-) -> Result<Vec<Link>, OutOfMemory>
+) -> Result<Vec<TextLink>, OutOfMemory>
     ensures { IfOk result (λ all. all.items ≡ links_from (program_term definitions.now.program) 0 (map piece_term pieces.now)) }
 {
     let before = definitions.checked().program().defs.as_slice().len();
@@ -48,7 +48,7 @@ pub(crate) fn links(
 }
 
 // Those of a text.
-fn text_links(spot: &Spot, piece: &Piece, all: &mut Vec<Link>) -> Result<(), OutOfMemory>
+fn text_links(spot: &Spot, piece: &Piece, all: &mut Vec<TextLink>) -> Result<(), OutOfMemory>
     ensures { OnOk result (all.new.items ≡ all.old.items
         ++ links_of_text (program_term spot.now.definitions.now.program) spot.now.from spot.now.inside (piece_term piece.now)) }
 {
@@ -59,7 +59,7 @@ fn text_links(spot: &Spot, piece: &Piece, all: &mut Vec<Link>) -> Result<(), Out
 }
 
 // Those of a task, which stands at the end of its text or not.
-fn task_links(spot: &Spot, last: bool, t: &Task, all: &mut Vec<Link>) -> Result<(), OutOfMemory>
+fn task_links(spot: &Spot, last: bool, t: &Task, all: &mut Vec<TextLink>) -> Result<(), OutOfMemory>
     ensures { OnOk result (all.new.items ≡ all.old.items
         ++ links_of_task (program_term spot.now.definitions.now.program) spot.now.from spot.now.inside last (task_term t.now)) }
 {
@@ -102,13 +102,13 @@ fn add_call(
     spot: &Spot,
     last: bool,
     name: &TaskText,
-    all: &mut Vec<Link>,
+    all: &mut Vec<TextLink>,
 ) -> Result<(), OutOfMemory>
     ensures { OnOk result (all.new.items ≡ all.old.items ++ call_links spot.now.from (not (spot.now.inside && last))
         (first_named 0 (program_term spot.now.definitions.now.program).defs name.now)) }
 {
     if let Some(found) = spot.definitions.first(name) {
-        all.push(Link {
+        all.push(TextLink {
             from: spot.from,
             to: found.number,
             tight: !(spot.inside && last),
@@ -118,7 +118,7 @@ fn add_call(
 }
 
 // The link to a body.
-fn add_body(spot: &Spot, tight: bool, body: u32, all: &mut Vec<Link>) -> Result<(), OutOfMemory>
+fn add_body(spot: &Spot, tight: bool, body: u32, all: &mut Vec<TextLink>) -> Result<(), OutOfMemory>
     ensures { OnOk result (all.new.items ≡ all.old.items
         ++ body_link (program_term spot.now.definitions.now.program) spot.now.from tight body ∷ []) }
 {
@@ -126,7 +126,7 @@ fn add_body(spot: &Spot, tight: bool, body: u32, all: &mut Vec<Link>) -> Result<
     let Some(to) = before.checked_add(body as usize) else {
         return Err(OutOfMemory);
     };
-    all.push(Link {
+    all.push(TextLink {
         from: spot.from,
         to,
         tight,

@@ -2,7 +2,7 @@ ghost use Rattle.std.specs.Prelude.{◌≡◌, ◌↔◌, ℕ, ◌<◌, true, fa
 ghost use Rattle.stride_bound.specs.TextLinks.{LeadsTo};
 ghost use Rattle.stride_bound.specs.TextMarks.{mark_at, unmarked, LinksAreInside, IsSound, MarksAreClosed};
 
-use crate::links::Link;
+use crate::links::TextLink;
 use std::alloc::Global;
 use task_model::OutOfMemory;
 
@@ -10,7 +10,7 @@ use task_model::OutOfMemory;
 /// doesn't depend on them.
 pub(crate) fn leads(
     alloc: Global,
-    links: &[Link],
+    links: &[TextLink],
     count: usize,
     hints: &[usize],
     from: usize,
@@ -49,7 +49,7 @@ fn is_marked(marked: &[bool], number: usize) -> bool
 }
 
 // Marks the end of a link whose text is marked; whether it wasn't.
-fn spread(link: &Link, marked: &mut Vec<bool>) -> bool
+fn spread(link: &TextLink, marked: &mut Vec<bool>) -> bool
     requires { link.now.to < length marked.old.items }
     ensures marks { result ≡ true → mark_at marked.old.items link.now.from ≡ true × mark_at marked.old.items link.now.to ≡ false
         × (marked.new.items ≡ slice_set marked.old.items link.now.to true) }
@@ -64,7 +64,7 @@ fn spread(link: &Link, marked: &mut Vec<bool>) -> bool
 }
 
 // Does so at each link; whether some end wasn't marked.
-fn spread_all(links: &[Link], marked: &mut Vec<bool>) -> bool
+fn spread_all(links: &[TextLink], marked: &mut Vec<bool>) -> bool
     requires { LinksAreInside (length marked.old.items) links.now }
     ensures long { length marked.new.items ≡ length marked.old.items }
     ensures sound { (s : ℕ) → IsSound links.now s marked.old.items → IsSound links.now s marked.new.items }

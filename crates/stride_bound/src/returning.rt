@@ -3,7 +3,7 @@ ghost use Rattle.stride_bound.specs.TextLinks.{LeadsTo, LeadsBack};
 ghost use Rattle.stride_bound.specs.TextMarks.{LinksAreInside};
 ghost use Rattle.stride_bound.specs.Ranks.{NeverRise, rank_at};
 
-use crate::links::Link;
+use crate::links::TextLink;
 use crate::orders::Orders;
 use crate::reaching::leads;
 use std::alloc::Global;
@@ -13,7 +13,7 @@ use task_model::OutOfMemory;
 /// doesn't depend on the orders.
 pub(crate) fn leads_back(
     alloc: Global,
-    links: &[Link],
+    links: &[TextLink],
     orders: &Orders,
 ) -> Result<bool, OutOfMemory>
     ensures { IfOk result (λ yes. IsTrue yes ↔ LeadsBack links.now) }
@@ -31,11 +31,11 @@ pub(crate) fn leads_back(
 // Whether this link is tight and leads back to the text that it is in.
 fn returns(
     alloc: Global,
-    links: &[Link],
+    links: &[TextLink],
     count: usize,
     orders: &Orders,
     steady: bool,
-    link: &Link,
+    link: &TextLink,
 ) -> Result<bool, OutOfMemory>
     requires within { LinksAreInside count links.now }
     requires start { link.now.to < count }
@@ -60,7 +60,7 @@ fn returns(
 }
 
 // A number above those of all texts of the links.
-fn count_of(links: &[Link]) -> Result<usize, OutOfMemory>
+fn count_of(links: &[TextLink]) -> Result<usize, OutOfMemory>
     ensures { IfOk result (λ count. LinksAreInside count links.now) }
 {
     let mut most: usize = 0;
@@ -84,7 +84,7 @@ fn rank(ranks: &[usize], number: usize) -> usize
 }
 
 // Whether no link leads to a text of a higher rank.
-fn never_rise(links: &[Link], ranks: &[usize]) -> bool
+fn never_rise(links: &[TextLink], ranks: &[usize]) -> bool
     ensures { IsTrue result → NeverRise links.now ranks.now }
 {
     for link in links {

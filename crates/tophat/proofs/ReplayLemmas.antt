@@ -26,7 +26,7 @@ use Rattle.input_lines.proofs.SeatLemmas.{SeatShape, one, two, shape_of_seat}
 use Rattle.command_words.specs.Commands.{run}
 use Rattle.tophat.specs.Verdict.{accepted, IsVerdict}
 use Rattle.world_answers.specs.declared.line_form.LineForm.TheVariants.{Script}
-use Rattle.world_answers.specs.Answers.{answer_text}
+use Rattle.world_answers.specs.LineAnswers.{answer_text}
 use Rattle.tophat.specs.Session.{Tells}
 use Rattle.tophat.specs.Top.{limits, world, world_at, Reports}
 use Rattle.history_lines.specs.EntryLines.{entries_text}

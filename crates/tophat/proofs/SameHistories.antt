@@ -5,14 +5,14 @@ use Rattle.task_laws.proofs.OutcomeLemmas.{outcome_once}
 use Rattle.world_core.specs.World.{WorldTerm}
 use Rattle.input_lines.specs.ScriptLines.{LineTerm, nothing, shows, gives}
 use Rattle.world_answers.specs.declared.line_form.LineForm.{LineForm}
-use Rattle.world_answers.specs.Answers.{Answers, answer_text, world_after}
+use Rattle.world_answers.specs.LineAnswers.{Answers, answer_text, world_after}
 use Rattle.tophat.specs.Complete.{AnswersAll}
-use Rattle.tophat.specs.SameHistory.{AskFor, LeadsTo}
+use Rattle.tophat.specs.SameHistory.{AskFor, LinesLeadTo}
 use Rattle.world_answers.proofs.AnswerLemmas.{page_exists}
 
 -- lines that are answered lead to a world
 pub lines_lead : (form : LineForm) (w : WorldTerm) (lines : List Text) (text : Text) → AnswersAll form w lines text
-    → (asked : List LineTerm) × (v : WorldTerm) × AskFor form lines asked × LeadsTo form w asked v
+    → (asked : List LineTerm) × (v : WorldTerm) × AskFor form lines asked × LinesLeadTo form w asked v
 lines_lead form w [] text h = ([], w, tt, refl)
 lines_lead form w (line ∷ lines) text h =
     let more = lines_lead form h.next lines h.rest h.more in
@@ -25,7 +25,7 @@ answer_alike other one w nothing text next a = ([], (refl, a.1))
 answer_alike other one w (shows seat) text next a = let page = page_exists other w seat in (page.0, (page.1, a.1))
 answer_alike other one w (gives e) text next a = (answer_text other w e a.0, (a.0, a.1, refl, a.3))
 
-pub leads_alike : (one other : LineForm) (w v : WorldTerm) (asked : List LineTerm) → LeadsTo one w asked v → LeadsTo other w asked v
+pub leads_alike : (one other : LineForm) (w v : WorldTerm) (asked : List LineTerm) → LinesLeadTo one w asked v → LinesLeadTo other w asked v
 leads_alike one other w v [] h = h
 leads_alike one other w v (asked ∷ more) h =
     let a = answer_alike other one w asked h.0 h.1 h.2 in
@@ -38,8 +38,8 @@ next_once one other w (shows seat) a b v u p q = p.1 ∙ sym q.1
 next_once one other w (gives e) a b v u p q =
     p.3 ∙ ap (world_after w e) (outcome_once w.checked w.budget w.state e.input p.0 q.0 p.1 q.1) ∙ sym q.3
 
-pub leads_once : (one other : LineForm) (w v u : WorldTerm) (asked : List LineTerm) → LeadsTo one w asked v → LeadsTo other w asked u → v ≡ u
+pub leads_once : (one other : LineForm) (w v u : WorldTerm) (asked : List LineTerm) → LinesLeadTo one w asked v → LinesLeadTo other w asked u → v ≡ u
 leads_once one other w v u [] h g = h ∙ sym g
 leads_once one other w v u (asked ∷ more) h g =
     let same = next_once one other w asked h.0 g.0 h.1 g.1 h.2 g.2 in
-    leads_once one other g.1 v u more (subst (λ (z : WorldTerm). LeadsTo one z more v) same h.3) g.3
+    leads_once one other g.1 v u more (subst (λ (z : WorldTerm). LinesLeadTo one z more v) same h.3) g.3

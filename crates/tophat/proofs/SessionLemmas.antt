@@ -12,7 +12,7 @@ use Rattle.line_frame.specs.declared.finish.Finish.{Finish}
 use Rattle.line_frame.specs.declared.finish.Finish.TheVariants as finishes
 use Rattle.input_lines.specs.ScriptLines.{LineTerm}
 use Rattle.world_answers.specs.declared.line_form.LineForm.{LineForm}
-use Rattle.world_answers.specs.Answers.{Answers}
+use Rattle.world_answers.specs.LineAnswers.{Answers}
 use Rattle.world_answers.proofs.AnswerLemmas.{answers_once, answers_exist}
 use Rattle.tophat.specs.LineForms.{IsAsking, IsOutside, IsOutsideColumn}
 use Rattle.tophat.proofs.LineLemmas.{asked_once, outside_once, form_apart, cut_outside, form_decided, asking_within}

@@ -13,7 +13,7 @@ use Rattle.task_model.specs.Terms.Input.{EntryTerm}
 use Rattle.task_model.specs.Running.Outcome.{Outcome, IsOutcome, taken, not_offered, over_budget}
 use Rattle.world_core.specs.World.{WorldTerm}
 use Rattle.input_lines.specs.Soak.{soak_next, soak_entry_of}
-use Rattle.world_answers.specs.Answers.{world_after}
+use Rattle.world_answers.specs.LineAnswers.{world_after}
 use Rattle.tophat.specs.SoakReport.{TallyTerm, counted, all_inputs, CountsInput, Soaks}
 
 pub soaks_exist : (n s : ℕ) (w : WorldTerm) (t : TallyTerm) → (u : WorldTerm) × (r : TallyTerm) × Soaks n s w t u r

@@ -14,7 +14,7 @@ use Rattle.world_answers.specs.declared.line_form.LineForm.TheVariants.{Script, 
 use Rattle.tophat.specs.LineForms.{Asking, IsAsking}
 use Rattle.tophat.specs.declared.ending.CommandEnding.TheVariants.{Ran}
 use Rattle.tophat.specs.Verdict.{accepted, IsVerdict}
-use Rattle.world_answers.specs.Answers.{Answers}
+use Rattle.world_answers.specs.LineAnswers.{Answers}
 use Rattle.tophat.specs.Top.{Limits, Report, world_at}
 
 -- the lines of a script, the last of which may lack its LF

@@ -5,7 +5,7 @@ use Rattle.world_core.specs.World.{WorldTerm}
 use Rattle.input_lines.specs.ScriptLines.{LineTerm}
 use Rattle.world_answers.specs.declared.line_form.LineForm.{LineForm}
 use Rattle.tophat.specs.LineForms.{Asking}
-use Rattle.world_answers.specs.Answers.{Answers}
+use Rattle.world_answers.specs.LineAnswers.{Answers}
 
 -- these lines ask for this, one by one
 abbrev pub AskFor : LineForm → List Text → List LineTerm → Type 0
@@ -15,6 +15,6 @@ AskFor form (line ∷ lines) [] = ⊥
 AskFor form (line ∷ lines) (asked ∷ more) = Asking form line asked × AskFor form lines more
 
 -- what is asked for leads from a world to this one, where each is answered in this form
-abbrev pub LeadsTo : LineForm → WorldTerm → List LineTerm → WorldTerm → Type 0
-LeadsTo form w [] v = v ≡ w
-LeadsTo form w (asked ∷ more) v = (text : Text) × (next : WorldTerm) × Answers form w asked text next × LeadsTo form next more v
+abbrev pub LinesLeadTo : LineForm → WorldTerm → List LineTerm → WorldTerm → Type 0
+LinesLeadTo form w [] v = v ≡ w
+LinesLeadTo form w (asked ∷ more) v = (text : Text) × (next : WorldTerm) × Answers form w asked text next × LinesLeadTo form next more v

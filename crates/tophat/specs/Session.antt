@@ -7,7 +7,7 @@ use Rattle.line_frame.specs.declared.finish.Finish.{Finish}
 use Rattle.line_frame.specs.declared.finish.Finish.TheVariants.{Bad}
 use Rattle.input_lines.specs.ScriptLines.{LineTerm}
 use Rattle.world_answers.specs.declared.line_form.LineForm.{LineForm}
-use Rattle.world_answers.specs.Answers.{Answers}
+use Rattle.world_answers.specs.LineAnswers.{Answers}
 use Rattle.tophat.specs.LineForms.{IsAsking, IsOutside}
 
 -- a line in the form is answered, and then what is told of those behind it is told

@@ -9,7 +9,7 @@ use Rattle.world_core.specs.World.{WorldTerm}
 use Rattle.node_rows.specs.TreeNodes.{tree_nodes}
 use Rattle.input_lines.specs.Soak.{soak_next, soak_entry_of}
 use Rattle.tophat.specs.declared.soak.Tally.{Tally}
-use Rattle.world_answers.specs.Answers.{world_after}
+use Rattle.world_answers.specs.LineAnswers.{world_after}
 
 -- how many inputs were taken, refused, and over the budget
 pub record TallyTerm : Type 0 where

@@ -17,7 +17,7 @@ ghost use Rattle.tophat.specs.Promise.{IsCutShort, Promised};
 ghost use Rattle.tophat.specs.Complete.{AnswersAll, IsRunnable, ReportsAll, lines_of};
 ghost use Rattle.tophat.specs.Replay.{AskAgain, IsReplayable, replay_script, replayed};
 ghost use Rattle.world_answers.specs.declared.line_form.LineForm.{LineForm};
-ghost use Rattle.tophat.specs.SameHistory.{AskFor, LeadsTo};
+ghost use Rattle.tophat.specs.SameHistory.{AskFor, LinesLeadTo};
 ghost use Rattle.world_core.specs.World.{WorldTerm};
 ghost use Rattle.input_lines.specs.ScriptLines.{LineTerm};
 ghost use Rattle.line_frame.specs.declared.finish.Finish.{Finish};
@@ -53,9 +53,9 @@ pub fn all_lines_are_answered()
 /// JSON that ask for the same inputs give the same history.
 pub fn forms_lead_alike()
     ensures lead { (form : LineForm) (w : WorldTerm) (lines : List Text) (text : Text) → AnswersAll form w lines text
-        → (asked : List LineTerm) × (v : WorldTerm) × AskFor form lines asked × LeadsTo form w asked v }
-    ensures alike { (one other : LineForm) (w v : WorldTerm) (asked : List LineTerm) → LeadsTo one w asked v → LeadsTo other w asked v }
-    ensures same { (one other : LineForm) (w v u : WorldTerm) (asked : List LineTerm) → LeadsTo one w asked v → LeadsTo other w asked u
+        → (asked : List LineTerm) × (v : WorldTerm) × AskFor form lines asked × LinesLeadTo form w asked v }
+    ensures alike { (one other : LineForm) (w v : WorldTerm) (asked : List LineTerm) → LinesLeadTo one w asked v → LinesLeadTo other w asked v }
+    ensures same { (one other : LineForm) (w v u : WorldTerm) (asked : List LineTerm) → LinesLeadTo one w asked v → LinesLeadTo other w asked u
         → v ≡ u }
 {}
 

@@ -15,7 +15,7 @@ use Rattle.input_lines.specs.ScriptLines.{LineTerm, nothing, shows, gives}
 use Rattle.json_face.specs.JsonPages.{page_data}
 use Rattle.world_answers.specs.declared.line_form.LineForm.{LineForm}
 use Rattle.world_answers.specs.declared.line_form.LineForm.TheVariants.{Script, Json}
-use Rattle.world_answers.specs.Answers.{Answers, AnswersInTurn, IsShown, answer_text, json_line, taken_text, not_offered_text, over_budget_text, world_after}
+use Rattle.world_answers.specs.LineAnswers.{Answers, AnswersInTurn, IsShown, answer_text, json_line, taken_text, not_offered_text, over_budget_text, world_after}
 
 -- ---- what the world replied is the answer
 pub taken_answers : (form : LineForm) (w : WorldTerm) (e : EntryTerm) (new : WorldTerm) (done : Taken) (text : Text) → Replies w e new (Ok done)

@@ -2,7 +2,7 @@ ghost use Rattle.std.specs.Prelude.{◌≡◌, ◌++◌, IfOk, codes, decimal, m
 ghost use Rattle.task_model.specs.Showing.Widget.{widget_term};
 ghost use Rattle.json_face.specs.JsonPages.{page_data};
 ghost use Rattle.json_face.specs.JsonReplies.{reply_data};
-ghost use Rattle.world_answers.specs.Answers as answers;
+ghost use Rattle.world_answers.specs.LineAnswers as answers;
 
 use crate::line_form::LineForm;
 use itoa::Buffer;

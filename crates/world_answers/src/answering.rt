@@ -3,7 +3,7 @@ ghost use Rattle.task_model.specs.Terms.Input.{EntryTerm, entry_term};
 ghost use Rattle.task_model.specs.Running.State.{IsSeat, version_of};
 ghost use Rattle.world_core.specs.World.{WorldTerm, world_term, Replies};
 ghost use Rattle.input_lines.specs.ScriptLines.{HasSeat, gives, shows, line_term};
-ghost use Rattle.world_answers.specs.Answers.{Answers};
+ghost use Rattle.world_answers.specs.LineAnswers.{Answers};
 ghost use Rattle.world_answers.specs.declared.line_form.LineForm.TheVariants as forms;
 
 use crate::answer_texts::{not_offered_line, over_budget_line, page_line, taken_line};

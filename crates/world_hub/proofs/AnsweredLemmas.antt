@@ -7,13 +7,13 @@ use Rattle.task_model.specs.Running.State.{IsLegal}
 use Rattle.task_model.specs.declared.memory.OutOfMemory.{OutOfMemory}
 use Rattle.input_lines.specs.ScriptLines.{LineTerm}
 use Rattle.world_core.specs.World.{SeenWorld, WorldTerm, world_term}
-use Rattle.world_answers.specs.Answers.{AnswersInTurn}
+use Rattle.world_answers.specs.LineAnswers.{AnswersInTurn}
 use Rattle.world_answers.specs.declared.line_form.LineForm.TheVariants.{Script}
 use Rattle.hub_lines.specs.OwnLines.{AddressedTerm, own_lines}
 use Rattle.world_hub.specs.declared.own.Numbered.{Numbered}
 use Rattle.world_hub.specs.declared.own.Share.{Share}
 use Rattle.world_hub.specs.Hubs.{EachAnswersOwn}
-use Rattle.world_hub.specs.Shares.{HasAnswered, HaveAnswered, numbered_from, share_texts}
+use Rattle.world_hub.specs.Shares.{HasAnsweredOwn, HaveAnsweredOwn, numbered_from, share_texts}
 use Rattle.hub_lines.specs.Queues.{AreCounted, StandAtOwn}
 
 -- a line of the world comes first, or another
@@ -29,8 +29,8 @@ came x = Ok x
 
 pub answered_each : (lines : List AddressedTerm) (jobs : List Numbered) (shares : List Share) → length shares ≡ length jobs
     → ((i : ℕ) (d : Numbered) (e : Result Share OutOfMemory) → i < length jobs
-    → IfOk (slice_index_or (map came shares) i e) (λ s. HasAnswered lines (slice_index_or jobs i d) s))
-    → HaveAnswered lines jobs shares
+    → IfOk (slice_index_or (map came shares) i e) (λ s. HasAnsweredOwn lines (slice_index_or jobs i d) s))
+    → HaveAnsweredOwn lines jobs shares
 answered_each lines [] [] same given = tt
 answered_each lines [] (t ∷ ts) same given = absurd (omega (arith, same))
 answered_each lines (s ∷ ss) [] same given = absurd (omega (arith, same))
@@ -55,14 +55,14 @@ in_turn_length w (l ∷ lines) [] next a = absurd a
 in_turn_length w (l ∷ lines) (t ∷ texts) next (m, here, more) = ap suc (in_turn_length m lines texts next more)
 
 pub shares_count : (lines : List AddressedTerm) (k : ℕ) (ws : List SeenWorld) (shares : List Share)
-    → HaveAnswered lines (numbered_from k ws) shares → length shares ≡ length ws
+    → HaveAnsweredOwn lines (numbered_from k ws) shares → length shares ≡ length ws
 shares_count lines k [] [] h = refl
 shares_count lines k [] (s ∷ shares) h = absurd h
 shares_count lines k (w ∷ ws) [] h = absurd h
 shares_count lines k (w ∷ ws) (s ∷ shares) h = ap suc (shares_count lines (k + 1) ws shares h.1)
 
 pub shares_counted : (lines : List AddressedTerm) (k : ℕ) (ws : List SeenWorld) (shares : List Share)
-    → HaveAnswered lines (numbered_from k ws) shares → AreCounted k (map share_texts shares) lines
+    → HaveAnsweredOwn lines (numbered_from k ws) shares → AreCounted k (map share_texts shares) lines
 shares_counted lines k [] [] h = tt
 shares_counted lines k [] (s ∷ shares) h = absurd h
 shares_counted lines k (w ∷ ws) [] h = absurd h
@@ -70,7 +70,7 @@ shares_counted lines k (w ∷ ws) (s ∷ shares) h =
     (in_turn_length (world_term w) (own_lines k lines) (share_texts s) (world_term s.world) h.0.answers, shares_counted lines (k + 1) ws shares h.1)
 
 pub hub_answers : (lines : List AddressedTerm) (k : ℕ) (ws : List SeenWorld) (shares : List Share) (texts : List Text)
-    → HaveAnswered lines (numbered_from k ws) shares → StandAtOwn k (map share_texts shares) lines texts
+    → HaveAnsweredOwn lines (numbered_from k ws) shares → StandAtOwn k (map share_texts shares) lines texts
     → EachAnswersOwn k (map world_term ws) lines texts (map world_term (map (λ s. s.world) shares))
 hub_answers lines k [] [] texts h stand = tt
 hub_answers lines k [] (s ∷ shares) texts h stand = absurd h
@@ -90,7 +90,7 @@ all_cons P x xs here more (suc k) d less = more k d (omega (arith, less))
 all_more : {X : Type 0} (P : X → Type 0) (x : X) (xs : List X) → All P (x ∷ xs) → All P xs
 all_more P x xs all k d less = all (suc k) d (omega (arith, less))
 
-pub shares_rest : (lines : List AddressedTerm) (jobs : List Numbered) (shares : List Share) → HaveAnswered lines jobs shares
+pub shares_rest : (lines : List AddressedTerm) (jobs : List Numbered) (shares : List Share) → HaveAnsweredOwn lines jobs shares
     → All (λ (w : SeenWorld). w.next ≡ None) (map (λ s. s.world) shares)
 shares_rest lines [] [] h = all_none (λ (w : SeenWorld). w.next ≡ None)
 shares_rest lines [] (s ∷ shares) h = absurd h
@@ -98,7 +98,7 @@ shares_rest lines (j ∷ jobs) [] h = absurd h
 shares_rest lines (j ∷ jobs) (s ∷ shares) h =
     all_cons (λ (w : SeenWorld). w.next ≡ None) s.world (map (λ s. s.world) shares) h.0.rest (shares_rest lines jobs shares h.1)
 
-pub shares_legal : (lines : List AddressedTerm) (jobs : List Numbered) (shares : List Share) → HaveAnswered lines jobs shares
+pub shares_legal : (lines : List AddressedTerm) (jobs : List Numbered) (shares : List Share) → HaveAnsweredOwn lines jobs shares
     → All (λ (w : SeenWorld). IsLegal (history_term w.history)) (map (λ s. s.world) shares)
 shares_legal lines [] [] h = all_none (λ (w : SeenWorld). IsLegal (history_term w.history))
 shares_legal lines [] (s ∷ shares) h = absurd h

@@ -6,7 +6,7 @@ use Rattle.task_model.specs.Terms.Item.{ItemTerm, took}
 use Rattle.task_model.specs.Running.Outcome.{Outcome, taken, not_offered, over_budget}
 use Rattle.input_lines.specs.ScriptLines.{LineTerm, nothing, shows, gives}
 use Rattle.world_core.specs.World.{WorldTerm}
-use Rattle.world_answers.specs.Answers.{AnswersInTurn, world_after}
+use Rattle.world_answers.specs.LineAnswers.{AnswersInTurn, world_after}
 use Rattle.world_answers.specs.declared.line_form.LineForm.TheVariants.{Script}
 use Rattle.world_answers.proofs.AnswerLemmas.{in_turn_once}
 use Rattle.hub_lines.specs.OwnLines.{AddressedTerm, own_lines, own_texts}

@@ -2,7 +2,7 @@
 use Rattle.std.proofs.Common.{ℕ, List, [], ◌∷◌, ◌++◌}
 use Rattle.task_model.specs.Running.Checked.{CheckedTerm}
 use Rattle.world_core.specs.World.{WorldTerm}
-use Rattle.world_hub.specs.Openings.{IsOpenedWorld, AreOpenedWorlds}
+use Rattle.world_hub.specs.HubOpenings.{IsOpenedWorld, AreOpenedWorlds}
 
 -- one more
 pub opened_more : (budget : ℕ) (cs : List CheckedTerm) (ws : List WorldTerm) (c : CheckedTerm) (w : WorldTerm) → AreOpenedWorlds budget cs ws

@@ -3,7 +3,7 @@ use Rattle.std.specs.Prelude.{◌≡◌, ℕ, zero, suc, ◌+◌, List, [], ◌�
 use Rattle.std.specs.List.{All}
 use Rattle.task_model.specs.Terms.Text.{Text}
 use Rattle.world_core.specs.World.{SeenWorld, WorldTerm}
-use Rattle.world_answers.specs.Answers.{AnswersInTurn}
+use Rattle.world_answers.specs.LineAnswers.{AnswersInTurn}
 use Rattle.world_answers.specs.declared.line_form.LineForm.TheVariants.{Script}
 use Rattle.hub_lines.specs.HubLines.{IsWorldCount}
 use Rattle.hub_lines.specs.OwnLines.{AddressedTerm, own_lines, own_texts}

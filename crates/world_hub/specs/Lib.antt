@@ -1,4 +1,4 @@
 pub mod Hubs
-pub mod Openings
+pub mod HubOpenings
 pub mod Shares
 pub mod Histories

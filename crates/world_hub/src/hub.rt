@@ -9,7 +9,7 @@ ghost use Rattle.world_core.specs.World.{world_term};
 ghost use Rattle.hub_lines.specs.HubLines.{IsWorldCount, NamesWorld, at_world};
 ghost use Rattle.hub_lines.specs.OwnLines.{addressed};
 ghost use Rattle.world_hub.specs.Hubs.{AreHubTexts, world_numbered};
-ghost use Rattle.world_hub.specs.Openings.{AreOpenedWorlds, IsFirstOver};
+ghost use Rattle.world_hub.specs.HubOpenings.{AreOpenedWorlds, IsFirstOver};
 
 use crate::opening::open_all;
 use crate::run::{Parted, answer_all, number, part};
@@ -66,6 +66,7 @@ impl Hub {
     pub fn open(alloc: Global, programs: Vec<Checked>, budget: u32) -> Result<Hub, HubStop>
         requires count { IsWorldCount (length programs.items) }
         requires budget { IsBudget budget }
+        ensures count { IfOk result (λ h. length h ≡ length programs.items) }
         ensures opened { IfOk result (λ h. AreOpenedWorlds budget (map checked_term programs.items) (map world_term h)) }
         ensures over { IfErr result (λ stop. (number : ℕ) → stop ≡ HubStop.Over number
             → IsFirstOver budget (map checked_term programs.items) number) }

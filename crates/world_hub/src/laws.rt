@@ -4,7 +4,7 @@ ghost use Rattle.task_model.specs.Terms.Input.{EntryTerm};
 ghost use Rattle.task_model.specs.Terms.Item.{took};
 ghost use Rattle.input_lines.specs.ScriptLines.{LineTerm};
 ghost use Rattle.world_core.specs.World.{WorldTerm};
-ghost use Rattle.world_answers.specs.Answers.{AnswersInTurn};
+ghost use Rattle.world_answers.specs.LineAnswers.{AnswersInTurn};
 ghost use Rattle.world_answers.specs.declared.line_form.LineForm.TheVariants as forms;
 ghost use Rattle.hub_lines.specs.OwnLines.{AddressedTerm, own_lines, own_texts};
 ghost use Rattle.world_hub.specs.Hubs.{AreHubTexts};

@@ -5,7 +5,7 @@ ghost use Rattle.task_model.specs.Running.State.{IsBudget};
 ghost use Rattle.world_core.specs.World.{world_term};
 ghost use Rattle.hub_lines.specs.HubLines.{IsWorldCount};
 ghost use Rattle.world_hub.specs.Hubs.{AreWorlds};
-ghost use Rattle.world_hub.specs.Openings.{AreOpenedWorlds, IsFirstOver};
+ghost use Rattle.world_hub.specs.HubOpenings.{AreOpenedWorlds, IsFirstOver};
 
 use crate::stop::HubStop;
 use std::alloc::Global;
@@ -22,6 +22,7 @@ pub(crate) fn open_all(
     requires count { IsWorldCount (length programs.items) }
     requires budget { IsBudget budget }
     ensures worlds { IfOk result (λ w. AreWorlds w.items) }
+    ensures count { IfOk result (λ w. length w.items ≡ length programs.items) }
     ensures opened { IfOk result (λ w. AreOpenedWorlds budget (map checked_term programs.items) (map world_term w.items)) }
     ensures over { IfErr result (λ stop. (number : ℕ) → stop ≡ HubStop.Over number
         → IsFirstOver budget (map checked_term programs.items) number) }

@@ -2,7 +2,7 @@ ghost use Rattle.std.specs.Prelude.{◌≡◌, ◌<◌, IfOk, None, map};
 ghost use Rattle.std.specs.List.{All};
 ghost use Rattle.input_lines.specs.ScriptLines.{HasSeat, line_term};
 ghost use Rattle.hub_lines.specs.OwnLines.{addressed};
-ghost use Rattle.world_hub.specs.Shares.{HasAnswered};
+ghost use Rattle.world_hub.specs.Shares.{HasAnsweredOwn};
 
 use hub_lines::HubLine;
 use input_lines::Line;
@@ -37,7 +37,7 @@ pub(crate) fn answer_own<L: Ledger>(
     requires rest { job.world.next ≡ None }
     requires seats { All (λ l. HasSeat (line_term l.line)) lines.now }
     requires ledger { (blank.name ≡ L.name) × (blank.parts ≡ L.parts) × (0 < blank.parts) }
-    ensures { IfOk result (HasAnswered (map addressed lines.now) job) }
+    ensures { IfOk result (HasAnsweredOwn (map addressed lines.now) job) }
 {
     let Numbered { number, world } = job;
     let mut texts = Vec::new(alloc);
@@ -61,7 +61,7 @@ pub(crate) fn answer_job(
 ) -> Result<Share, OutOfMemory>
     requires rest { job.world.next ≡ None }
     requires seats { All (λ l. HasSeat (line_term l.line)) lines.now }
-    ensures { IfOk result (HasAnswered (map addressed lines.now) job) }
+    ensures { IfOk result (HasAnsweredOwn (map addressed lines.now) job) }
 {
     answer_own::<Brand>(alloc, job, lines, Blank::new(1))
 }

@@ -2,7 +2,7 @@ ghost use Rattle.std.specs.Prelude.{◌≡◌, ◌≤◌, IfOk, None, length, ma
 ghost use Rattle.std.specs.List.{All};
 ghost use Rattle.input_lines.specs.ScriptLines.{HasSeat, line_term};
 ghost use Rattle.hub_lines.specs.OwnLines.{addressed};
-ghost use Rattle.world_hub.specs.Shares.{HasAnswered, HaveAnswered, numbered_from, share_texts};
+ghost use Rattle.world_hub.specs.Shares.{HasAnsweredOwn, HaveAnsweredOwn, numbered_from, share_texts};
 
 use crate::gather::gather;
 use crate::own::{Numbered, Share, answer_job};
@@ -24,7 +24,7 @@ pub(crate) fn answer_all<R: Threads + Sync>(
 ) -> Result<Vec<Share>, OutOfMemory>
     requires rest { All (λ j. j.world.next ≡ None) jobs.items }
     requires seats { All (λ l. HasSeat (line_term l.line)) lines.now }
-    ensures { IfOk result (λ shares. HaveAnswered (map addressed lines.now) jobs.items shares.items) }
+    ensures { IfOk result (λ shares. HaveAnsweredOwn (map addressed lines.now) jobs.items shares.items) }
 {
     // A world may go to another thread, and the lines may be read from each.
     worlds_cross();
@@ -34,7 +34,7 @@ pub(crate) fn answer_all<R: Threads + Sync>(
         jobs,
         &|job: Numbered| -> Result<Share, OutOfMemory>
             requires { (job.world.next ≡ None) × All (λ l. HasSeat (line_term l.line)) lines.now }
-            ensures { IfOk result (HasAnswered (map addressed lines.entry.now) job) }
+            ensures { IfOk result (HasAnsweredOwn (map addressed lines.entry.now) job) }
         { answer_job(alloc, job, lines) },
     )?;
     gather(alloc, answered)

@@ -1,7 +1,7 @@
 use Rattle.std.proofs.Common.{◌≡◌, ℕ, ◌+◌, ◌<◌, ◌≤◌, Some, true, false, IsTrue, get_or, refl, sym, ap, ◌∙◌, subst, arith, rules}
 use Rattle.std.specs.Prelude.{slice_get}
 use Rattle.std.proofs.lemmas.Option.{slice_get-get_or, slice_get_within}
-use Rattle.stride_bound.specs.declared.links.Link.{Link}
+use Rattle.stride_bound.specs.declared.links.TextLink.{TextLink}
 use Rattle.stride_bound.proofs.RankLemmas.{one_more_has}
 use Rattle.stride_bound.proofs.returning.count_of.Goals as goal
 
@@ -10,7 +10,7 @@ loop-link-preserved c =
     let links = c.args.links.now in
     let i = c.loop-link.link-index in
     let most = c.max-most.result in
-    let d : Link = record { from = 0; to = 0; tight = false } in
+    let d : TextLink = record { from = 0; to = 0; tight = false } in
     let a = c.max.ensures in
     let b = c.max-most.ensures in
     let from : (get_or links i d).from ≤ most = omega (arith, a, b) in

@@ -1,9 +1,9 @@
 use Rattle.std.proofs.Common.{◌≡◌, ℕ, ◌<◌, ◌≤◌, Some}
 use Rattle.std.specs.Prelude.{slice_get}
-use Rattle.stride_bound.specs.declared.links.Link.{Link}
+use Rattle.stride_bound.specs.declared.links.TextLink.{TextLink}
 use Rattle.stride_bound.specs.Ranks.{rank_at}
 use Rattle.stride_bound.proofs.returning.never_rise.Given as goal
 
 abbrev pub invariant-loop-link : goal.invariant-loop-link
 invariant-loop-link l =
-    (k : ℕ) (link : Link) → k < l.link-index → slice_get l.links k ≡ Some link → rank_at l.ranks link.to ≤ rank_at l.ranks link.from
+    (k : ℕ) (link : TextLink) → k < l.link-index → slice_get l.links k ≡ Some link → rank_at l.ranks link.to ≤ rank_at l.ranks link.from

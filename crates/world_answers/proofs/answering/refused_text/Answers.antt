@@ -2,8 +2,8 @@ use Rattle.std.proofs.Common.{Err, ◌≡◌, subst}
 use Rattle.std.proofs.lemmas.Result.{IfOk-weaker}
 use Rattle.input_lines.specs.ScriptLines.{gives}
 use Rattle.world_core.specs.World.{Replies}
-use Rattle.world_answers.specs.Answers.{not_offered_text, over_budget_text}
-use Rattle.world_answers.specs.Answers.{Answers}
+use Rattle.world_answers.specs.LineAnswers.{not_offered_text, over_budget_text}
+use Rattle.world_answers.specs.LineAnswers.{Answers}
 use Rattle.world_answers.proofs.AnswerLemmas.{refused_answers, over_answers}
 use Rattle.world_answers.proofs.answering.refused_text.Goals as goal
 

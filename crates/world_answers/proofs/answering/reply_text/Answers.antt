@@ -2,8 +2,8 @@ use Rattle.std.proofs.Common.{◌≡◌, subst}
 use Rattle.std.proofs.lemmas.Result.{IfOk-weaker}
 use Rattle.input_lines.specs.ScriptLines.{gives}
 use Rattle.world_core.specs.World.{Replies}
-use Rattle.world_answers.specs.Answers.{taken_text}
-use Rattle.world_answers.specs.Answers.{Answers}
+use Rattle.world_answers.specs.LineAnswers.{taken_text}
+use Rattle.world_answers.specs.LineAnswers.{Answers}
 use Rattle.world_answers.proofs.AnswerLemmas.{taken_answers}
 use Rattle.world_answers.proofs.answering.reply_text.Goals as goal
 

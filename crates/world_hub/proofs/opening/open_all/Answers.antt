@@ -5,7 +5,7 @@ use Rattle.std.specs.List.{All}
 use Rattle.std.specs.Option.{option_map}
 use Rattle.task_model.specs.Running.Checked.{checked_term}
 use Rattle.world_core.specs.World.{SeenWorld, world_term, next_term}
-use Rattle.world_hub.specs.Openings.{IsOpenedWorld, AreOpenedWorlds}
+use Rattle.world_hub.specs.HubOpenings.{IsOpenedWorld, AreOpenedWorlds}
 use Rattle.world_hub.proofs.OpenedLemmas.{opened_more}
 use Rattle.world_hub.proofs.opening.open_all.Goals as goal
 

@@ -2,7 +2,7 @@ use Rattle.std.proofs.Common.{◌≡◌, ◌+◌, ◌++◌, ◌≤◌, List, Non
 use Rattle.std.specs.List.{All}
 use Rattle.task_model.specs.Running.Checked.{CheckedTerm, checked_term}
 use Rattle.world_core.specs.World.{world_term}
-use Rattle.world_hub.specs.Openings.{AreOpenedWorlds}
+use Rattle.world_hub.specs.HubOpenings.{AreOpenedWorlds}
 use Rattle.world_hub.proofs.opening.open_all.Given as goal
 
 -- Those in front are open.

@@ -3,7 +3,7 @@ use Rattle.std.proofs.lemmas.List.{drop_more, drop_all}
 use Rattle.task_model.specs.Terms.Rowed.{Rowed}
 use Rattle.input_lines.specs.ScriptLines.{LineTerm, line_term}
 use Rattle.world_core.specs.World.{SeenWorld, world_term}
-use Rattle.world_answers.specs.Answers.{Answers, AnswersInTurn}
+use Rattle.world_answers.specs.LineAnswers.{Answers, AnswersInTurn}
 use Rattle.world_answers.specs.declared.line_form.LineForm.{LineForm}
 use Rattle.world_answers.specs.declared.line_form.LineForm.TheVariants.{Script}
 use Rattle.hub_lines.specs.OwnLines.{addressed, own_lines}
@@ -15,11 +15,13 @@ use Rattle.world_hub.proofs.own.answer_own.Goals.{then-line-number+in_ok-asked+i
 pub loop-line-init : goal.loop-line-init
 loop-line-init g c =
     let none : c.new-texts.result.items ≡ [] = search rules in
-    let world : c.new-answering.result.world ≡ c.args.job.world = search rules in
-    (search rules, λ ts next a.
-    subst (λ (done : List (Rowed ℕ)). AnswersInTurn Script (world_term c.args.job.world) (own_lines c.args.job.number (map addressed c.args.lines.now))
-    (map (λ t. t.list) done ++ ts) next) (sym none)
-    (subst (λ (w : SeenWorld). AnswersInTurn Script (world_term w) (own_lines c.args.job.number (map addressed c.args.lines.now)) ts next) world a))
+    let world : c.new-answering.result.world ≡ c.args.job.world = search rules in (
+      search rules,
+      λ ts next a.
+          subst (λ (done : List (Rowed ℕ)). AnswersInTurn Script (world_term c.args.job.world) (own_lines c.args.job.number (map addressed c.args.lines.now))
+          (map (λ t. t.list) done ++ ts) next) (sym none)
+          (subst (λ (w : SeenWorld). AnswersInTurn Script (world_term w) (own_lines c.args.job.number (map addressed c.args.lines.now)) ts next) world a),
+    )
 
 pub loop-line-preserved : goal.loop-line-preserved
 loop-line-preserved g c =
@@ -41,17 +43,23 @@ loop-line-preserved g c =
           w.in_ok-asked.ensures told in
           let same : w.answer.new.self.form ≡ Script = w.in_ok-answer.ensures.form ∙ l.invariant.0 in
           let grown : w.push.new.self.items ≡ l.texts.items ++ t ∷ [] = search rules in
-          rw (w.texts-is, w.answering-is) (same, λ ts next a.
-          let one = l.invariant.1 (t.list ∷ ts) next
-          (subst (λ ls. AnswersInTurn Script (world_term l.answering.world) ls (t.list ∷ ts) next) (sym first)
-          (world_term w.answer.new.self.world, answered, a)) in
-          subst (λ us. AnswersInTurn Script (world_term c.args.job.world) (own_lines k (map addressed xs)) us next)
-          (one_text_more l.texts.items t ts ∙ ap (λ us. map (λ (u : Rowed ℕ). u.list) us ++ ts) (sym grown)) one)
+          rw (w.texts-is, w.answering-is) (
+            same,
+            λ ts next a.
+                let one = l.invariant.1 (t.list ∷ ts) next
+                (subst (λ ls. AnswersInTurn Script (world_term l.answering.world) ls (t.list ∷ ts) next) (sym first)
+                (world_term w.answer.new.self.world, answered, a)) in
+                subst (λ us. AnswersInTurn Script (world_term c.args.job.world) (own_lines k (map addressed xs)) us next)
+                (one_text_more l.texts.items t ts ∙ ap (λ us. map (λ (u : Rowed ℕ). u.list) us ++ ts) (sym grown)) one,
+          )
       | else-line-number w ↦
           let is : (x.world == k) ≡ false = search (rules, w.if-line-number.false) in
           let first = ap (own_lines k) all ∙ own_other k (addressed x) (map addressed (drop (i + 1) xs)) is in
-          rw (w.texts-is, w.answering-is) (l.invariant.0, λ ts next a. l.invariant.1 ts next
-          (subst (λ ls. AnswersInTurn Script (world_term l.answering.world) ls ts next) (sym first) a))
+          rw (w.texts-is, w.answering-is) (
+            l.invariant.0,
+            λ ts next a. l.invariant.1 ts next
+                (subst (λ ls. AnswersInTurn Script (world_term l.answering.world) ls ts next) (sym first) a),
+          )
     ]
 
 pub returns : goal.returns

@@ -1,7 +1,7 @@
 use Rattle.std.proofs.Common.{◌≡◌, List, ◌++◌, drop, map}
 use Rattle.task_model.specs.Terms.Text.{Text}
 use Rattle.world_core.specs.World.{WorldTerm, world_term}
-use Rattle.world_answers.specs.Answers.{AnswersInTurn}
+use Rattle.world_answers.specs.LineAnswers.{AnswersInTurn}
 use Rattle.world_answers.specs.declared.line_form.LineForm.TheVariants.{Script}
 use Rattle.hub_lines.specs.OwnLines.{addressed, own_lines}
 use Rattle.world_hub.proofs.own.answer_own.Given as goal

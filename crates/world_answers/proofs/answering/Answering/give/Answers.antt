@@ -3,7 +3,7 @@ use Rattle.std.specs.Prelude.{IfOk}
 use Rattle.task_model.specs.Terms.Input.{entry_term}
 use Rattle.input_lines.specs.ScriptLines.{gives}
 use Rattle.world_core.specs.World.{world_term}
-use Rattle.world_answers.specs.Answers.{Answers}
+use Rattle.world_answers.specs.LineAnswers.{Answers}
 use Rattle.world_answers.specs.declared.line_form.LineForm.{LineForm}
 use Rattle.world_answers.proofs.answering.Answering.give.Goals as goal
 

@@ -4,8 +4,8 @@ use Rattle.task_model.specs.Showing.Widget.{widget_term}
 use Rattle.input_lines.specs.ScriptLines.{shows}
 use Rattle.world_core.specs.World.{world_term}
 use Rattle.json_face.specs.JsonPages.{page_data}
-use Rattle.world_answers.specs.Answers.{json_line}
-use Rattle.world_answers.specs.Answers.{Answers}
+use Rattle.world_answers.specs.LineAnswers.{json_line}
+use Rattle.world_answers.specs.LineAnswers.{Answers}
 use Rattle.world_answers.specs.declared.line_form.LineForm.TheVariants.{Json}
 use Rattle.world_answers.proofs.answering.Answering.show_json.Goals as goal
 

@@ -1,7 +1,7 @@
 use Rattle.std.proofs.Common.{sym, subst, ap}
 use Rattle.task_model.specs.Terms.Text.{Text}
 use Rattle.world_core.specs.World.{world_term}
-use Rattle.world_answers.specs.Answers.{IsShown}
+use Rattle.world_answers.specs.LineAnswers.{IsShown}
 use Rattle.world_answers.specs.declared.line_form.LineForm.TheVariants.{Script}
 use Rattle.world_answers.proofs.answering.Answering.show_text.Goals as goal
 

@@ -11,7 +11,7 @@ use Rattle.hub_lines.proofs.QueueLemmas.{queue_texts}
 use Rattle.world_hub.specs.declared.own.Numbered.{Numbered}
 use Rattle.world_hub.specs.declared.own.Share.{Share}
 use Rattle.world_hub.specs.Hubs.{EachAnswersOwn}
-use Rattle.world_hub.specs.Shares.{HaveAnswered, numbered_from, share_texts}
+use Rattle.world_hub.specs.Shares.{HaveAnsweredOwn, numbered_from, share_texts}
 use Rattle.world_hub.proofs.AnsweredLemmas.{shares_count, shares_counted, shares_rest, shares_legal, numbered_rest, hub_answers}
 use Rattle.world_hub.proofs.hub.Hub.run.Goals as goal
 
@@ -25,7 +25,7 @@ in_order-requires-clause-names g c = λ k d less.
     let lines = map addressed c.args.lines.now in
     let ws = c.self.inside.worlds.items in
     let shares = c.in_ok-shares.shares.items in
-    let h = subst (λ (js : List Numbered). HaveAnswered lines js shares) c.in_ok-jobs.ensures c.in_ok-shares.ensures in
+    let h = subst (λ (js : List Numbered). HaveAnsweredOwn lines js shares) c.in_ok-jobs.ensures c.in_ok-shares.ensures in
     let count = shares_count lines 1 ws shares h in
     let all = ap length c.in_ok-worlds.ensures.texts in
     let texts = length-map c.in_ok-worlds.field-0.texts.items queue_texts in
@@ -40,7 +40,7 @@ in_order-requires-clause-counts g c =
     let lines = map addressed c.args.lines.now in
     let ws = c.self.inside.worlds.items in
     let shares = c.in_ok-shares.shares.items in
-    let h = subst (λ (js : List Numbered). HaveAnswered lines js shares) c.in_ok-jobs.ensures c.in_ok-shares.ensures in
+    let h = subst (λ (js : List Numbered). HaveAnsweredOwn lines js shares) c.in_ok-jobs.ensures c.in_ok-shares.ensures in
     subst (λ (qs : List (List Text)). AreCounted 1 qs lines) (sym c.in_ok-worlds.ensures.texts) (shares_counted lines 1 ws shares h)
 
 pub invariant_of-result : goal.invariant_of-result
@@ -48,7 +48,7 @@ invariant_of-result g c =
     let lines = map addressed c.args.lines.now in
     let ws = c.self.inside.worlds.items in
     let shares = c.in_ok-shares.shares.items in
-    let h = subst (λ (js : List Numbered). HaveAnswered lines js shares) c.in_ok-jobs.ensures c.in_ok-shares.ensures in
+    let h = subst (λ (js : List Numbered). HaveAnsweredOwn lines js shares) c.in_ok-jobs.ensures c.in_ok-shares.ensures in
     let count = shares_count lines 1 ws shares h in
     let all = ap length c.in_ok-worlds.ensures.worlds in
     let from = length-map shares (λ (s : Share). s.world) in
@@ -65,7 +65,7 @@ returns-clause-texts g c =
     let ws = c.self.inside.worlds.items in
     let shares = c.in_ok-shares.shares.items in
     let texts = map (λ t. t.list) c.in_ok-texts.texts.items in
-    let h = subst (λ (js : List Numbered). HaveAnswered lines js shares) c.in_ok-jobs.ensures c.in_ok-shares.ensures in
+    let h = subst (λ (js : List Numbered). HaveAnsweredOwn lines js shares) c.in_ok-jobs.ensures c.in_ok-shares.ensures in
     let stand = subst (λ (qs : List (List Text)). StandAtOwn 1 qs lines texts) c.in_ok-worlds.ensures.texts c.in_ok-texts.ensures.each in
     let each = hub_answers lines 1 ws shares texts h stand in
     record {
@@ -81,6 +81,6 @@ returns-clause-legal g c =
     let lines = map addressed c.args.lines.now in
     let ws = c.self.inside.worlds.items in
     let shares = c.in_ok-shares.shares.items in
-    let h = subst (λ (js : List Numbered). HaveAnswered lines js shares) c.in_ok-jobs.ensures c.in_ok-shares.ensures in
+    let h = subst (λ (js : List Numbered). HaveAnsweredOwn lines js shares) c.in_ok-jobs.ensures c.in_ok-shares.ensures in
     subst (λ (vs : List SeenWorld). All (λ (w : SeenWorld). IsLegal (history_term w.history)) vs) (sym c.in_ok-worlds.ensures.worlds)
     (shares_legal lines (numbered_from 1 ws) shares h)
