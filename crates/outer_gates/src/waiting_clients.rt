@@ -92,6 +92,14 @@ impl WaitingClients {
         None
     }
 
+    /// How long the client has waited that came first.
+    pub(crate) fn longest_wait(&self, now: Instant) -> Duration {
+        match self.clients.first() {
+            Some(client) => now.saturating_duration_since(client.since()),
+            None => Duration::ZERO,
+        }
+    }
+
     /// How long it is until the first time of a client ends. None: no client's time does.
     pub(crate) fn time_left(&self, now: Instant) -> Option<Duration> {
         let mut first: Option<Instant> = None;
