@@ -4,7 +4,7 @@ ghost use Rattle.http_heads.specs.Checks.{is_end};
 ghost use Rattle.http_heads.specs.Spans.{PassesAsBlock};
 ghost use Rattle.http_requests.specs.Requests.{refusal_of};
 ghost use Rattle.http_requests.specs.RequestReading.{IsProgress, request_term};
-ghost use Rattle.http_requests.specs.Knowledge.{IsFound};
+ghost use Rattle.http_requests.specs.Knowledge.{HasSize, IsFound};
 
 use crate::asking::{asked, refused};
 use crate::found::Found;
@@ -15,7 +15,7 @@ use std::alloc::Global;
 use task_model::OutOfMemory;
 
 /// The most bytes of the blank lines and the block of a request.
-const HEAD_LIMIT: usize = 8192;
+pub(crate) const HEAD_LIMIT: usize = 8192;
 
 /// How far bytes are in which no block ends.
 pub(crate) fn without_head(
@@ -45,6 +45,18 @@ pub(crate) fn behind_head(alloc: Global, bytes: &[u8], end: usize) -> Result<Fou
     match read_block(without_blanks(&bytes[..end])) {
         Ok(facts) => with_body(alloc, bytes, end, &facts),
         Err(check) => Ok(Found::Request(refusal(alloc, check, end)?)),
+    }
+}
+
+/// How many bytes the request has whose head is at the front.
+pub(crate) fn size(bytes: &[u8], end: usize) -> usize
+    requires within { end ≤ length bytes.now }
+    requires head { head_length (take end bytes.now) ≡ Some end }
+    ensures { HasSize result bytes.now }
+{
+    match read_block(without_blanks(&bytes[..end])) {
+        Ok(facts) => end + facts.taken,
+        Err(_) => end,
     }
 }
 

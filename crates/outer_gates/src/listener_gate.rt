@@ -2,7 +2,7 @@ ghost use Rattle.std.specs.Prelude.{◌≡◌, ◌≤◌, [], IfOk, IfSome};
 ghost use Rattle.outer_io.specs.Causes.{Rose};
 ghost use Rattle.outer_io.specs.PlainSource.{left_of};
 ghost use Rattle.outer_io.specs.StreamLinks.{told_over_stream};
-ghost use Rattle.outer_gates.specs.Arrivals.{BeginsWithRequest};
+ghost use Rattle.http_requests.specs.Streams.{BeginsWithRequest};
 ghost use Rattle.outer_gates.specs.Gates.{Accepts, IfLink, faults_after_accept, told_by_listener};
 
 use crate::accept::Accept;

@@ -1,5 +1,5 @@
 ghost use Rattle.std.specs.Prelude.{◌≡◌, ◌<◌, ◌≤◌, ◌-◌, ◌+◌, ◌↔◌, [], IfOk, IfSome, IsTrue, length, vec_capacity};
-ghost use Rattle.outer_gates.specs.Arrivals.{BeginsWithRequest};
+ghost use Rattle.http_requests.specs.Streams.{BeginsWithRequest};
 
 use crate::arrival::Arrival;
 use crate::client::Client;
