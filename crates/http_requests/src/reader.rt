@@ -46,7 +46,7 @@ impl RequestReader {
             return Ok(Progress::More);
         }
         let Some(end) = self.scan.look(bytes) else {
-            return without_head(alloc, bytes, ended);
+            return Ok(without_head(bytes, ended));
         };
         match behind_head(alloc, bytes, end)? {
             Found::Request(request) => Ok(Progress::Request(request)),

@@ -24,9 +24,11 @@ pub returns-in-Some-clause-read : goal.returns-in-Some-clause-read
 returns-in-Some-clause-read c = read_on _ c.args.bytes.now c.in-Some.ensures.looked c.size-self.ensures.wanted
 
 pub returns-in-None-clause-whole : goal.returns-in-None-clause-whole
-returns-in-None-clause-whole c = λ all.
-    (refusal_of ShortHead head_limit, _,
-    endless_front c.args.bytes.now (refusal_of ShortHead head_limit) (sym c.in-None.ensures.end) (leb-true 8192 (length c.args.bytes.now) all) refl)
+returns-in-None-clause-whole c = λ all. (
+  refusal_of ShortHead head_limit,
+  _,
+  endless_front c.args.bytes.now (refusal_of ShortHead head_limit) (sym c.in-None.ensures.end) (leb-true 8192 (length c.args.bytes.now) all) refl,
+)
 
 pub returns-in-None-clause-part : goal.returns-in-None-clause-part
 returns-in-None-clause-part c = λ less.
