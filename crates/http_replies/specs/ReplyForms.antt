@@ -1,5 +1,5 @@
 -- Replies as the code holds them (docs/FORMATS.md, "Replies").
-use Rattle.std.specs.Prelude.{◌≡◌, IsSome}
+use Rattle.std.specs.Prelude.{◌≡◌, ◌≤◌, IsSome, length}
 use Rattle.http_replies.specs.declared.http_reply.HttpReply.{HttpReply}
 use Rattle.http_replies.specs.declared.http_reply.HttpReply.TheVariants as replies
 use Rattle.http_replies.specs.Replies.{ReplyTerm, page_reply, taken_reply, ahead_reply, not_offered_reply, over_reply, refused_reply, memory_reply, phrase_of}
@@ -23,3 +23,13 @@ HasPhrase (not_offered_reply version) = Unit {0}
 HasPhrase (over_reply version) = Unit {0}
 HasPhrase (refused_reply status text) = IsSome (phrase_of status) × (status ≡ 303 → ⊥)
 HasPhrase memory_reply = Unit {0}
+
+-- Its page or its text has at most 48 bytes.
+abbrev pub IsShort : ReplyTerm → Type 0
+IsShort (page_reply face page) = length page ≤ 48
+IsShort (taken_reply version) = Unit {0}
+IsShort (ahead_reply version) = Unit {0}
+IsShort (not_offered_reply version) = Unit {0}
+IsShort (over_reply version) = Unit {0}
+IsShort (refused_reply status text) = length text ≤ 48
+IsShort memory_reply = Unit {0}

@@ -1,8 +1,8 @@
 ghost use Rattle.std.specs.Prelude.{◌≡◌, ◌≤◌, ◌+◌, ◌++◌, ◌∷◌, ◌↔◌, [], IsSome, length, codes, decimal, unwrap_or};
 ghost use Rattle.http_replies.specs.Replies.{phrase_of, head_line, location_line, allow_line, type_line, close_line, reply_head_text};
 
-use crate::head_room::HeadRoom;
 use crate::phrase::phrase;
+use crate::reply_room::ReplyRoom;
 use task_model::Face;
 
 /// Writes the head of a reply, in place of what is in the room (docs/FORMATS.md, "Replies").
@@ -12,11 +12,12 @@ pub fn write_head(
     kind: Option<Face>,
     size: u64,
     closes: bool,
-    room: &mut HeadRoom,
+    room: &mut ReplyRoom,
 )
     requires phrase { IsSome (phrase_of status) }
     requires location { IsSome location ↔ (status ≡ 303) }
-    ensures { room.new ≡ reply_head_text status location kind size closes }
+    ensures text { room.new ≡ reply_head_text status location kind size closes }
+    ensures length { length room.new ≤ 256 }
 {
     room.clear();
     push_status(room, status);
@@ -28,7 +29,7 @@ pub fn write_head(
     room.push(b"\r\n");
 }
 
-fn push_status(room: &mut HeadRoom, status: u16)
+fn push_status(room: &mut ReplyRoom, status: u16)
     requires phrase { IsSome (phrase_of status) }
     requires fits { length room.old + 63 ≤ 256 }
     ensures text { room.new ≡ room.old ++ head_line (codes "HTTP/1.1 " ++ (decimal status ++ (32 ∷ unwrap_or (phrase_of status) []))) }
@@ -41,7 +42,7 @@ fn push_status(room: &mut HeadRoom, status: u16)
     room.push(b"\r\n");
 }
 
-fn push_location(room: &mut HeadRoom, location: Option<u64>)
+fn push_location(room: &mut ReplyRoom, location: Option<u64>)
     requires { length room.old + 36 ≤ 256 }
     ensures text { room.new ≡ room.old ++ location_line location }
     ensures length { length room.new ≤ length room.old + 36 }
@@ -53,7 +54,7 @@ fn push_location(room: &mut HeadRoom, location: Option<u64>)
     }
 }
 
-fn push_allow(room: &mut HeadRoom, status: u16)
+fn push_allow(room: &mut ReplyRoom, status: u16)
     requires { length room.old + 24 ≤ 256 }
     ensures text { room.new ≡ room.old ++ allow_line status }
     ensures length { length room.new ≤ length room.old + 24 }
@@ -63,7 +64,7 @@ fn push_allow(room: &mut HeadRoom, status: u16)
     }
 }
 
-fn push_type(room: &mut HeadRoom, kind: Option<Face>)
+fn push_type(room: &mut ReplyRoom, kind: Option<Face>)
     requires { length room.old + 41 ≤ 256 }
     ensures text { room.new ≡ room.old ++ type_line kind }
     ensures length { length room.new ≤ length room.old + 41 }
@@ -75,7 +76,7 @@ fn push_type(room: &mut HeadRoom, kind: Option<Face>)
     }
 }
 
-fn push_length(room: &mut HeadRoom, size: u64)
+fn push_length(room: &mut ReplyRoom, size: u64)
     requires { length room.old + 38 ≤ 256 }
     ensures text { room.new ≡ room.old ++ head_line (codes "Content-Length: " ++ decimal size) }
     ensures length { length room.new ≤ length room.old + 38 }
@@ -85,7 +86,7 @@ fn push_length(room: &mut HeadRoom, size: u64)
     room.push(b"\r\n");
 }
 
-fn push_close(room: &mut HeadRoom, closes: bool)
+fn push_close(room: &mut ReplyRoom, closes: bool)
     requires { length room.old + 19 ≤ 256 }
     ensures text { room.new ≡ room.old ++ close_line closes }
     ensures length { length room.new ≤ length room.old + 19 }

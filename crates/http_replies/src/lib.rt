@@ -3,12 +3,12 @@
 
 mod body;
 mod head;
-mod head_room;
 mod http_reply;
 mod phrase;
+mod reply_room;
 mod whole;
 
 pub use head::write_head;
-pub use head_room::HeadRoom;
 pub use http_reply::HttpReply;
-pub use whole::whole_reply;
+pub use reply_room::ReplyRoom;
+pub use whole::write_reply;

@@ -13,8 +13,8 @@ use Rattle.http_heads.proofs.CheckLemmas.{taken_within}
 use Rattle.http_requests.specs.Requests.{AskedTerm, RequestTerm, IsAskedBy, refusal_of, request_of, IsRequest, endless, crowded, garbled}
 use Rattle.http_requests.specs.Streams.{BeginsWith}
 use Rattle.http_requests.specs.RequestReading.{IsUnfinished}
-use Rattle.http_requests.specs.Knowledge.{AreWanted}
-use Rattle.http_requests.proofs.SomeRequest.{whole, unfinished_body}
+use Rattle.http_requests.specs.Knowledge.{AreWanted, HasSize}
+use Rattle.http_requests.proofs.SomeRequest.{some_asked, whole, unfinished_body}
 
 -- ---- lists
 pub take_drop : (n : ℕ) (t : Text) → t ≡ take n t ++ drop n t
@@ -122,3 +122,20 @@ fits_body bytes end facts passes ends =
     let taken = passes.says.taken in
     let few = taken_within passes.head in
     omega (arith, most, taken, few)
+
+-- ---- how many bytes a request has
+pub size_of_head : (bytes : Text) (end : ℕ) (facts : HeadFacts) → PassesAsBlock (without_blanks (take end bytes)) facts → end ≤ length bytes
+    → head_length (take end bytes) ≡ Some end → HasSize (end + facts.taken) bytes
+size_of_head bytes end facts passes within ends = record {
+  wanted = wanted_front bytes end facts passes within ends;
+  whole = λ all.
+      let (a, by) = some_asked passes.head (take facts.taken (drop end bytes)) in
+      (_, _, whole_front bytes end facts passes within ends all a by _ refl);
+}
+
+pub size_of_refused : (bytes : Text) (end : ℕ) (check : Check) → end ≤ length bytes → head_length (take end bytes) ≡ Some end
+    → FailsAsBlock (without_blanks (take end bytes)) check → HasSize end bytes
+size_of_refused bytes end check within ends fails = record {
+  wanted = λ more ended short. let size = length-append bytes more in absurd (omega (arith, size, within, short));
+  whole = λ all. (_, _, refused_front bytes end check (refusal_of check end) within ends fails refl);
+}

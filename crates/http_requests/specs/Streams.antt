@@ -13,6 +13,10 @@ pub record BeginsWith (bytes : Text) (r : RequestTerm) (rest : Text) : Type 0 wh
   pub split : bytes ≡ front ++ rest
   pub is : IsRequest front r
 
+-- The bytes begin with a whole request.
+abbrev pub BeginsWithRequest : Text → Type 0
+BeginsWithRequest bytes = (r : RequestTerm) × (rest : Text) × BeginsWith bytes r rest
+
 -- The bytes begin with no whole request.
 abbrev pub HasNoRequest : Text → Type 0
 HasNoRequest bytes = (r : RequestTerm) (rest : Text) → BeginsWith bytes r rest → ⊥

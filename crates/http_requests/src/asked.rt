@@ -1,4 +1,5 @@
-use task_model::{Face, Input, TaskText};
+use crate::refusal_text::RefusalText;
+use task_model::{Face, Input};
 
 /// What a request asks for (docs/FORMATS.md, "HTTP").
 #[derive(Drop)]
@@ -15,7 +16,7 @@ pub enum Asked {
     /// reply has its head alone.
     Refused {
         status: u16,
-        text: TaskText,
+        text: RefusalText,
         ends: bool,
         head_only: bool,
     },

@@ -7,17 +7,18 @@ ghost use Rattle.http_requests.specs.Requests.{refused_by, IsAskedByForm, IsAske
 ghost use Rattle.http_requests.specs.RequestReading.{asked_term};
 
 use crate::asked::Asked;
+use crate::refusal_text::RefusalText;
 use http_forms::{FormStop, QueryStop, read_form, read_query};
 use http_heads::{Check, HeadFacts};
 use std::alloc::Global;
-use task_model::{OutOfMemory, TaskText};
+use task_model::OutOfMemory;
 
 /// What a head with this body asks for.
 pub(crate) fn asked(alloc: Global, facts: &HeadFacts<'_>, body: &[u8]) -> Result<Asked, OutOfMemory>
     ensures { (h : HeadTerm) → SaysOf facts.now h → IfOk result (λ asked. IsAskedBy h body.now (asked_term asked)) }
 {
     if let Some(check) = facts.failed {
-        return refused(alloc, check, facts.head_only);
+        return Ok(refused(check, facts.head_only));
     }
     if facts.posts {
         asked_by_form(alloc, body)
@@ -35,7 +36,7 @@ fn asked_by_query(alloc: Global, query: &[u8], head_only: bool) -> Result<Asked,
             at_least: page.at_least,
             head_only,
         }),
-        Err(QueryStop::Malformed) => refused(alloc, Check::GoodContent, head_only),
+        Err(QueryStop::Malformed) => Ok(refused(Check::GoodContent, head_only)),
         Err(QueryStop::Memory) => Err(OutOfMemory),
     }
 }
@@ -45,34 +46,33 @@ fn asked_by_form(alloc: Global, form: &[u8]) -> Result<Asked, OutOfMemory>
 {
     match read_form(alloc, form) {
         Ok(input) => Ok(Asked::Act(input)),
-        Err(FormStop::Malformed) => refused(alloc, Check::GoodContent, false),
-        Err(FormStop::Bad(bad)) => bad_literal(alloc, bad.place),
+        Err(FormStop::Malformed) => Ok(refused(Check::GoodContent, false)),
+        Err(FormStop::Bad(bad)) => Ok(bad_literal(bad.place)),
         Err(FormStop::Memory) => Err(OutOfMemory),
     }
 }
 
 /// Refused by a check.
-pub(crate) fn refused(alloc: Global, check: Check, head_only: bool) -> Result<Asked, OutOfMemory>
-    ensures { IfOk result (λ asked. asked_term asked ≡ refused_by check head_only) }
+pub(crate) fn refused(check: Check, head_only: bool) -> Asked
+    ensures { asked_term result ≡ refused_by check head_only }
 {
-    Ok(Asked::Refused {
+    Asked::Refused {
         status: check.status(),
-        text: TaskText::of(alloc, check.text())?,
+        text: RefusalText::of_check(check),
         ends: check.ends(),
         head_only,
-    })
+    }
 }
 
 /// Refused for a literal that is bad at this place.
-fn bad_literal(alloc: Global, place: u64) -> Result<Asked, OutOfMemory>
-    ensures { IfOk result (λ asked. asked_term asked
-        ≡ requests.refused (check_status Check.GoodContent) (codes "bad literal at " ++ decimal place) false false) }
+fn bad_literal(place: u64) -> Asked
+    ensures { asked_term result
+        ≡ requests.refused (check_status Check.GoodContent) (codes "bad literal at " ++ decimal place) false false }
 {
-    let text = format!(in alloc; "bad literal at {place}")?;
-    Ok(Asked::Refused {
+    Asked::Refused {
         status: Check::GoodContent.status(),
-        text: TaskText::of_string(text)?,
+        text: RefusalText::bad_literal(place),
         ends: false,
         head_only: false,
-    })
+    }
 }

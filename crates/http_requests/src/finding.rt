@@ -4,7 +4,7 @@ ghost use Rattle.http_heads.specs.Checks.{is_end};
 ghost use Rattle.http_heads.specs.Spans.{PassesAsBlock};
 ghost use Rattle.http_requests.specs.Requests.{refusal_of};
 ghost use Rattle.http_requests.specs.RequestReading.{IsProgress, request_term};
-ghost use Rattle.http_requests.specs.Knowledge.{IsFound};
+ghost use Rattle.http_requests.specs.Knowledge.{HasSize, IsFound};
 
 use crate::asking::{asked, refused};
 use crate::found::Found;
@@ -15,25 +15,20 @@ use std::alloc::Global;
 use task_model::OutOfMemory;
 
 /// The most bytes of the blank lines and the block of a request.
-const HEAD_LIMIT: usize = 8192;
+pub(crate) const HEAD_LIMIT: usize = 8192;
 
 /// How far bytes are in which no block ends.
-pub(crate) fn without_head(
-    alloc: Global,
-    bytes: &[u8],
-    ended: bool,
-) -> Result<Progress, OutOfMemory>
+pub(crate) fn without_head(bytes: &[u8], ended: bool) -> Progress
     requires { head_length bytes.now ≡ None }
-    ensures { IfOk result (IsProgress bytes.now ended) }
+    ensures { IsProgress bytes.now ended result }
 {
     if bytes.len() >= HEAD_LIMIT {
-        let refusal = refusal(alloc, Check::ShortHead, HEAD_LIMIT)?;
-        return Ok(Progress::Request(refusal));
+        return Progress::Request(refusal(Check::ShortHead, HEAD_LIMIT));
     }
     if ended && without_blanks(bytes).is_empty() {
-        return Ok(Progress::Nothing);
+        return Progress::Nothing;
     }
-    Ok(Progress::More)
+    Progress::More
 }
 
 /// What stands behind the head at the front, which has so many bytes.
@@ -44,7 +39,19 @@ pub(crate) fn behind_head(alloc: Global, bytes: &[u8], end: usize) -> Result<Fou
 {
     match read_block(without_blanks(&bytes[..end])) {
         Ok(facts) => with_body(alloc, bytes, end, &facts),
-        Err(check) => Ok(Found::Request(refusal(alloc, check, end)?)),
+        Err(check) => Ok(Found::Request(refusal(check, end))),
+    }
+}
+
+/// How many bytes the request has whose head is at the front.
+pub(crate) fn size(bytes: &[u8], end: usize) -> usize
+    requires within { end ≤ length bytes.now }
+    requires head { head_length (take end bytes.now) ≡ Some end }
+    ensures { HasSize result bytes.now }
+{
+    match read_block(without_blanks(&bytes[..end])) {
+        Ok(facts) => end + facts.taken,
+        Err(_) => end,
     }
 }
 
@@ -80,12 +87,12 @@ fn closes(facts: &HeadFacts<'_>) -> bool
 }
 
 /// A request of so many bytes that check 1 or 2 refuses.
-fn refusal(alloc: Global, check: Check, size: usize) -> Result<Request, OutOfMemory>
-    ensures { IfOk result (λ r. request_term r ≡ refusal_of check size) }
+fn refusal(check: Check, size: usize) -> Request
+    ensures { request_term result ≡ refusal_of check size }
 {
-    Ok(Request {
-        asked: refused(alloc, check, false)?,
+    Request {
+        asked: refused(check, false),
         closes: false,
         length: size as u64,
-    })
+    }
 }

@@ -9,10 +9,12 @@ mod found;
 mod laws;
 mod progress;
 mod reader;
+mod refusal_text;
 mod request;
 
 pub use asked::Asked;
 pub use laws::{each_byte_string, one_first_request, one_list_of_requests, refusals_are_of_checks};
 pub use progress::Progress;
 pub use reader::RequestReader;
+pub use refusal_text::RefusalText;
 pub use request::Request;

@@ -1,9 +1,10 @@
-ghost use Rattle.std.specs.Prelude.{◌≡◌, ◌++◌, IfOk};
+ghost use Rattle.std.specs.Prelude.{◌≡◌, ◌++◌, false, IfOk, IsTrue};
 ghost use Rattle.task_model.specs.Terms.Text.{Text};
-ghost use Rattle.http_requests.specs.RequestReading.{IsProgress};
+ghost use Rattle.http_requests.specs.RequestReading.{IsProgress, IsUnfinished};
+ghost use Rattle.http_requests.specs.Streams.{BeginsWithRequest};
 ghost use Rattle.http_requests.specs.Knowledge.{HasRead};
 
-use crate::finding::{behind_head, without_head};
+use crate::finding::{HEAD_LIMIT, behind_head, size, without_head};
 use crate::found::Found;
 use crate::progress::Progress;
 use http_heads::HeadScan;
@@ -45,7 +46,7 @@ impl RequestReader {
             return Ok(Progress::More);
         }
         let Some(end) = self.scan.look(bytes) else {
-            return without_head(alloc, bytes, ended);
+            return Ok(without_head(bytes, ended));
         };
         match behind_head(alloc, bytes, end)? {
             Found::Request(request) => Ok(Progress::Request(request)),
@@ -53,6 +54,26 @@ impl RequestReader {
                 self.wanted = wanted;
                 Ok(Progress::More)
             }
+        }
+    }
+
+    /// Whether the bytes begin with a whole request, as `read` would give it; else more bytes can make one. It takes no memory
+    /// (docs/FORMATS.md, "HTTP"). They begin with those that were read before, as at `read`.
+    pub fn is_whole(&mut self, bytes: &[u8]) -> bool
+        requires { HasRead self.old bytes.now }
+        ensures whole { IsTrue result → BeginsWithRequest bytes.now }
+        ensures part { result ≡ false → IsUnfinished bytes.now false }
+        ensures read { (more : Text) → HasRead self.new (bytes.now ++ more) }
+    {
+        if bytes.len() < self.wanted {
+            return false;
+        }
+        match self.scan.look(bytes) {
+            Some(end) => {
+                self.wanted = size(bytes, end);
+                self.wanted <= bytes.len()
+            }
+            None => HEAD_LIMIT <= bytes.len(),
         }
     }
 }

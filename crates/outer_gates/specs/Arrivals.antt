@@ -2,18 +2,13 @@
 use Rattle.std.specs.Prelude.{◌≡◌, ℕ, List, [], ◌++◌, Option, false, ⊤}
 use Rattle.std.specs.Io.KnownBytes.{Consumes, IsAtEnd}
 use Rattle.http_requests.specs.RequestReading.{IsUnfinished}
-use Rattle.http_requests.specs.Requests.{RequestTerm}
-use Rattle.http_requests.specs.Streams.{BeginsWith}
+use Rattle.http_requests.specs.Streams.{BeginsWithRequest}
 use Rattle.outer_gates.specs.declared.arrival.Arrival.{Arrival}
 use Rattle.outer_gates.specs.declared.arrival.Arrival.TheVariants.{Part, Whole, Never}
 use Rattle.outer_gates.specs.declared.filling.Filling.{Filling}
 use Rattle.outer_gates.specs.declared.filling.Filling.TheVariants as filling
 use Rattle.outer_gates.specs.declared.standing.Standing.{Standing}
 use Rattle.outer_gates.specs.declared.standing.Standing.TheVariants as standing
-
--- The bytes begin with a whole request.
-abbrev pub BeginsWithRequest : List ℕ → Type 0
-BeginsWithRequest bytes = (r : RequestTerm) × (rest : List ℕ) × BeginsWith bytes r rest
 
 -- How bytes stand: they begin with no whole request, and more can make one; or with a whole one.
 abbrev pub StandsAs : List ℕ → Standing → Type 0

@@ -7,24 +7,26 @@ use mio::net::TcpStream;
 use std::alloc::Global;
 use std::time::{Duration, Instant};
 
-/// A client whose first request isn't there whole yet, with what it has sent of it, and when its time for that ends. None: it has
-/// sent nothing.
+/// A client whose first request isn't there whole yet, with what it has sent of it, since when it waits, and when its time for that
+/// ends. None: it has sent nothing.
 #[derive(Drop)]
 pub(crate) struct Client {
     stream: TcpStream,
     request: FirstRequest,
+    since: Instant,
     end: Option<Instant>,
     ghost within: { length request ≤ 73728 },
 }
 
 impl Client {
-    /// One that has sent nothing.
-    pub(crate) fn new(alloc: Global, stream: TcpStream) -> Client
-        ensures { (result.stream ≡ stream) × (result.request ≡ []) }
+    /// One that has sent nothing, and waits since now.
+    pub(crate) fn new(alloc: Global, stream: TcpStream, now: Instant) -> Client
+        ensures { (result.stream ≡ stream) × (result.request ≡ []) × (result.since ≡ now) }
     {
         Client {
             stream,
             request: FirstRequest::new(alloc),
+            since: now,
             end: None,
         }
     }
@@ -34,6 +36,13 @@ impl Client {
         ensures { result ≡ self.stream }
     {
         self.stream
+    }
+
+    /// Since when it waits.
+    pub(crate) fn since(&self) -> Instant
+        ensures { result ≡ self.now.since }
+    {
+        self.since
     }
 
     /// When its time ends.

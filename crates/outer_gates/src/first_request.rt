@@ -1,11 +1,12 @@
-ghost use Rattle.std.specs.Prelude.{◌≡◌, ◌<◌, ◌≤◌, ◌++◌, ◌↔◌, [], IfOk, IsTrue, length};
-ghost use Rattle.http_requests.specs.RequestReading.{IsProgress};
+ghost use Rattle.std.specs.Prelude.{◌≡◌, ◌<◌, ◌≤◌, ◌↔◌, [], false, IsTrue, length};
+ghost use Rattle.http_requests.specs.RequestReading.{IsUnfinished};
+ghost use Rattle.http_requests.specs.Streams.{BeginsWithRequest};
 ghost use Rattle.outer_gates.specs.Arrivals.{HasArrived, IsReceived, StandsAs};
 
 use crate::arrival::Arrival;
 use crate::filling::Filling;
 use crate::standing::Standing;
-use http_requests::{Progress, RequestReader};
+use http_requests::RequestReader;
 use std::alloc::Global;
 use std::io::{ErrorKind, Read};
 use std::marker::Model;
@@ -62,7 +63,7 @@ impl FirstRequest {
     {
         let mut ended = false;
         for _ in 0..u64::MAX {
-            match self.standing(alloc, ended) {
+            match self.standing(ended) {
                 Standing::Part => {}
                 Standing::Whole => return Arrival::Whole(self.take(alloc)),
                 Standing::Never => return Arrival::Never,
@@ -77,27 +78,27 @@ impl FirstRequest {
         Arrival::Never
     }
 
-    // How the bytes stand, which may have ended. Where memory runs out a request never comes.
-    fn standing(&mut self, alloc: Global, ended: bool) -> Standing
+    // How the bytes stand, which may have ended.
+    fn standing(&mut self, ended: bool) -> Standing
         ensures same { self.new ≡ self.old }
         ensures standing { StandsAs self.old result }
     {
-        match self.progress(alloc, ended) {
-            Ok(Progress::Request(request)) => {
-                drop(request);
-                Standing::Whole
-            }
-            Ok(Progress::More) if !ended => Standing::Part,
-            Ok(Progress::More | Progress::Nothing) | Err(OutOfMemory) => Standing::Never,
+        if self.is_whole() {
+            Standing::Whole
+        } else if ended {
+            Standing::Never
+        } else {
+            Standing::Part
         }
     }
 
-    // How far the bytes are, which may have ended.
-    fn progress(&mut self, alloc: Global, ended: bool) -> Result<Progress, OutOfMemory>
+    // Whether they begin with a whole request.
+    fn is_whole(&mut self) -> bool
         ensures same { self.new ≡ self.old }
-        ensures progress { IfOk result (IsProgress self.old ended) }
+        ensures whole { IsTrue result → BeginsWithRequest self.old }
+        ensures part { result ≡ false → IsUnfinished self.old false }
     {
-        self.reader.read(alloc, self.bytes.as_slice(), ended)
+        self.reader.is_whole(self.bytes.as_slice())
     }
 
     // The bytes, of which none are left behind.

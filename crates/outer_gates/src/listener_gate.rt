@@ -2,7 +2,7 @@ ghost use Rattle.std.specs.Prelude.{◌≡◌, ◌≤◌, [], IfOk, IfSome};
 ghost use Rattle.outer_io.specs.Causes.{Rose};
 ghost use Rattle.outer_io.specs.PlainSource.{left_of};
 ghost use Rattle.outer_io.specs.StreamLinks.{told_over_stream};
-ghost use Rattle.outer_gates.specs.Arrivals.{BeginsWithRequest};
+ghost use Rattle.http_requests.specs.Streams.{BeginsWithRequest};
 ghost use Rattle.outer_gates.specs.Gates.{Accepts, IfLink, faults_after_accept, told_by_listener};
 
 use crate::accept::Accept;
@@ -26,8 +26,14 @@ const ABORTS: u32 = 1000;
 // How many events one wait tells at most. Nothing hangs on it.
 const EVENTS: usize = 64;
 
-// How long it waits in milliseconds until it tries again to open a connection, where too many files are open.
+// How long in milliseconds a client has at least to send its first request, where too many files are open, before it is closed for
+// another one.
 const PAUSE: u64 = 50;
+
+// The socket that listens, and a client, in what waits tell.
+const LISTENER: Token = Token(0);
+
+const CLIENT: Token = Token(1);
 
 // The numbers of the system's errors: the system has too many open files (ENFILE), and the process has (EMFILE).
 const FILES_OF_ALL: i32 = 23;
@@ -53,9 +59,9 @@ impl From<OutOfMemory> for GateStop {
 ///
 /// A link is handed out once its first request is there whole. Until then its client costs a place among 256 and the memory of what
 /// it has sent, and no more. It is closed where that never comes: it goes, its time for a request is over, or there is no memory for
-/// it. Where all places are taken and another client comes, or too many files are open, the client that has waited for longest is
-/// closed. None of these is a link or a fault, nor is a client that goes before it was accepted, up to 1,000 in a row. All else that
-/// the system refuses is a fault.
+/// it. Where all places are taken and another client comes, the client that has waited for longest is closed; and so it is where too
+/// many files are open, once it has waited for 50 milliseconds. None of these is a link or a fault, nor is a client that goes before it
+/// was accepted, up to 1,000 in a row. All else that the system refuses is a fault.
 #[derive(Drop)]
 pub struct ListenerGate<'r, R: Clock> {
     listener: TcpListener,
@@ -130,7 +136,7 @@ impl<'r, R: Clock> ListenerGate<'r, R> {
     }
 
     // Takes in the clients that wait to be accepted, as long as there is room.
-    fn admit(&mut self) -> Admitted
+    fn admit(&mut self, now: Instant) -> Admitted
         ensures { (self.new.faults ≡ self.old.faults) × (self.new.first ≡ self.old.first) × (self.new.times ≡ self.old.times) }
     {
         for _ in 0..u64::MAX {
@@ -142,7 +148,7 @@ impl<'r, R: Clock> ListenerGate<'r, R> {
                     if self.watch_client(&mut stream).is_err() {
                         return Admitted::Failed;
                     }
-                    self.waiting.keep(Client::new(self.alloc, stream));
+                    self.waiting.keep(Client::new(self.alloc, stream, now));
                 }
                 Ok(None) => return Admitted::All,
                 Err(error) if are_too_many_files(&error) => return Admitted::NoFile,
@@ -156,7 +162,7 @@ impl<'r, R: Clock> ListenerGate<'r, R> {
     fn watch_client(&self, stream: &mut TcpStream) -> io::Result<()> {
         self.poll
             .registry()
-            .register(stream, Token(1), Interest::READABLE)
+            .register(stream, CLIENT, Interest::READABLE)
     }
 
     // The first client whose first request is there whole. It waits for one. None: the system refused something.
@@ -165,8 +171,8 @@ impl<'r, R: Clock> ListenerGate<'r, R> {
         ensures ready { IfSome result (λ ready. BeginsWithRequest ready.received.list) }
     {
         for _ in 0..u64::MAX {
-            let admitted = self.admit();
             let now = Instant::now(self.clock).ok()?;
+            let admitted = self.admit(now);
             if let Some(ready) = self.waiting.take_ready(self.alloc, now, self.first) {
                 return Some(ready);
             }
@@ -184,13 +190,11 @@ impl<'r, R: Clock> ListenerGate<'r, R> {
                 let time = self.waiting.time_left(now);
                 self.wait(time)
             }
-            Admitted::NoFile if self.waiting.is_empty() => {
-                self.wait(Some(Duration::from_millis(PAUSE)))
-            }
-            Admitted::Full | Admitted::NoFile => {
+            Admitted::Full => {
                 self.waiting.close_oldest();
                 Some(())
             }
+            Admitted::NoFile => self.wait_for_file(now),
             Admitted::Failed => None,
         }
     }
@@ -202,9 +206,43 @@ impl<'r, R: Clock> ListenerGate<'r, R> {
         self.poll.poll(&mut self.events, time).ok()
     }
 
+    // Waits for a file, where too many are open; or closes the client that has waited for longest, where it had some time and another
+    // one waits to be accepted. None: the system refused something.
+    fn wait_for_file(&mut self, now: Instant) -> Option<()>
+        ensures { (self.new.faults ≡ self.old.faults) × (self.new.first ≡ self.old.first) × (self.new.times ≡ self.old.times) }
+    {
+        let pause = Duration::from_millis(PAUSE);
+        let left = pause.saturating_sub(self.waiting.longest_wait(now));
+        if !left.is_zero() {
+            return self.wait(Some(left));
+        }
+        if self.is_asked()? {
+            self.waiting.close_oldest();
+            return Some(());
+        }
+        if self.events.is_empty() {
+            self.wait(Some(pause))
+        } else {
+            Some(())
+        }
+    }
+
+    // Whether a client waits to be accepted. None: the system refused something.
+    fn is_asked(&mut self) -> Option<bool>
+        ensures { (self.new.faults ≡ self.old.faults) × (self.new.first ≡ self.old.first) × (self.new.times ≡ self.old.times) }
+    {
+        // A socket that is registered anew is told where a client waits now, not only where another one comes.
+        self.poll
+            .registry()
+            .reregister(&mut self.listener, LISTENER, Interest::READABLE)
+            .ok()?;
+        self.wait(Some(Duration::ZERO))?;
+        Some(self.events.iter().any(|event| event.token() == LISTENER))
+    }
+
     // The link of a client, of which no wait tells any more. None: the system refused it.
     fn link(&self, ready: ReadyClient) -> Option<ReceivedLink<'r, R>>
-        ensures { IfSome result (λ l. (left_of l.received ≡ ready.received.list) × (l.link.read_faults ≡ 0) × (l.link.write_faults ≡ 0)) }
+        ensures { IfSome result (λ l. (left_of l.received ≡ ready.received.list) × (l.read_faults ≡ 0) × (l.write_faults ≡ 0)) }
     {
         let ReadyClient {
             mut stream,
@@ -220,7 +258,7 @@ impl<'r, R: Clock> ListenerGate<'r, R> {
     // The link of the first client whose first request is there whole. None: the system refused something.
     fn next_link(&mut self) -> Option<ReceivedLink<'r, R>>
         ensures stays { (self.new.faults ≡ self.old.faults) × (self.new.first ≡ self.old.first) × (self.new.times ≡ self.old.times) }
-        ensures link { IfSome result (λ l. BeginsWithRequest (left_of l.received) × (l.link.read_faults ≡ 0) × (l.link.write_faults ≡ 0)) }
+        ensures link { IfSome result (λ l. BeginsWithRequest (left_of l.received) × (l.read_faults ≡ 0) × (l.write_faults ≡ 0)) }
     {
         let ready = self.next_ready()?;
         self.link(ready)
@@ -238,7 +276,7 @@ fn watch<N: Net>(net: &N, listener: net::TcpListener) -> io::Result<(TcpListener
     let mut listener = TcpListener::from_std(listener);
     let poll = Poll::new(net)?;
     poll.registry()
-        .register(&mut listener, Token(0), Interest::READABLE)?;
+        .register(&mut listener, LISTENER, Interest::READABLE)?;
     Ok((listener, poll))
 }
 
@@ -249,10 +287,10 @@ impl<'r, R: Clock + Sync> Gate for ListenerGate<'r, R> {
 
     ghost told = { λ g. told_by_listener g.faults };
 
-    ghost tells = { λ l. told_over_stream l.link.read_faults l.link.write_faults };
+    ghost tells = { λ l. told_over_stream l.read_faults l.write_faults };
 
     fn accept(&mut self) -> Accept<ReceivedLink<'r, R>>
-        ensures links { Accepts (λ l. told_over_stream l.link.read_faults l.link.write_faults) (told_by_listener self.old.faults)
+        ensures links { Accepts (λ l. told_over_stream l.read_faults l.write_faults) (told_by_listener self.old.faults)
             (told_by_listener self.new.faults) result }
         ensures count { self.old.faults ≤ self.new.faults }
         ensures failed { result ≡ Accept.Failed → Rose self.old.faults self.new.faults }

@@ -5,6 +5,6 @@ pub(crate) enum Standing {
     Part,
     /// They begin with a whole request.
     Whole,
-    /// No request comes of them: they have ended, or memory ran out.
+    /// No request comes of them: they have ended.
     Never,
 }

@@ -1,5 +1,5 @@
 ghost use Rattle.std.specs.Prelude.{◌≡◌, ◌<◌, ◌≤◌, ◌-◌, ◌+◌, ◌↔◌, [], IfOk, IfSome, IsTrue, length, vec_capacity};
-ghost use Rattle.outer_gates.specs.Arrivals.{BeginsWithRequest};
+ghost use Rattle.http_requests.specs.Streams.{BeginsWithRequest};
 
 use crate::arrival::Arrival;
 use crate::client::Client;
@@ -90,6 +90,14 @@ impl WaitingClients {
             }
         }
         None
+    }
+
+    /// How long the client has waited that came first.
+    pub(crate) fn longest_wait(&self, now: Instant) -> Duration {
+        match self.clients.first() {
+            Some(client) => now.saturating_duration_since(client.since()),
+            None => Duration::ZERO,
+        }
     }
 
     /// How long it is until the first time of a client ends. None: no client's time does.

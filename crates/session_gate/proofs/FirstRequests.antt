@@ -1,10 +1,10 @@
 -- The requests that bytes hold are the first of those that they begin with, whatever follows.
-use Rattle.std.proofs.Common.{◌≡◌, ℕ, zero, suc, ◌<◌, ◌≤◌, Bool, true, false, true≢false, List, [], ◌∷◌, ◌++◌, length, refl, ap, sym, subst, ◌∙◌, arith, append_assoc, append-nil}
+use Rattle.std.proofs.Common.{◌≡◌, ℕ, ◌<◌, ◌≤◌, true, true≢false, List, [], ◌∷◌, ◌++◌, length, refl, ap, sym, subst, ◌∙◌, arith, append_assoc, append-nil}
 use Rattle.task_model.specs.Terms.Text.{Text}
 use Rattle.http_requests.specs.Requests.{RequestTerm, IsRequest}
 use Rattle.http_requests.specs.Streams.{BeginsWith, HasNoRequest, is_last, AreRequests, no_more, no_whole, last, further}
 use Rattle.http_requests.proofs.OneRequest.{one_request}
-use Rattle.session_gate.specs.Connections.{HoldsRequests, AllGoOn, MayEndLast, IsLastOf}
+use Rattle.session_gate.specs.Connections.{HoldsRequests, AllGoOn, MayEndLast}
 
 -- the first of them
 pub front_request : (bytes rest one behind : Text) (r : RequestTerm) → bytes ≡ one ++ rest → IsRequest one r

@@ -1,7 +1,6 @@
 pub mod CompleteLemmas
 pub mod ExchangeLemmas
 pub mod FirstRequests
-pub mod HeadLemmas
 pub mod ListLemmas
 pub mod PartLemmas
 pub mod PhraseLemmas

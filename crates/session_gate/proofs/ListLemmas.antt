@@ -1,9 +1,8 @@
 -- Requests with their notes, behind others, and at histories that go on.
-use Rattle.std.proofs.Common.{◌≡◌, ◌≢◌, ℕ, zero, suc, ◌+◌, ◌-◌, ◌<◌, ◌≤◌, Bool, true, false, List, [], ◌∷◌, ◌++◌, length, Option, Some, None, refl, ap, sym, subst, ◌∙◌, arith, append_assoc, append-nil}
+use Rattle.std.proofs.Common.{◌≡◌, ℕ, ◌+◌, ◌-◌, ◌≤◌, List, [], ◌∷◌, ◌++◌, length, Option, Some, None, refl, ap, sym, subst, ◌∙◌, arith, append_assoc, append-nil}
 use mathlib.Core.List.{IsPrefix}
 use Rattle.std.specs.Io.KnownBytes.{Consumes}
 use Rattle.task_model.specs.Terms.Text.{Text}
-use Rattle.task_model.specs.Terms.Input.{EntryTerm}
 use Rattle.task_model.specs.Terms.Item.{ItemTerm}
 use Rattle.task_model.specs.Running.State.{IsLegal, history_prefix, version_of}
 use Rattle.task_laws.proofs.BeginningLemmas.{begins_same}

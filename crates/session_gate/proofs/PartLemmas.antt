@@ -1,9 +1,9 @@
 -- The parts of a round as exchanges.
-use Rattle.std.proofs.Common.{◌≡◌, ◌≢◌, ℕ, ◌+◌, ◌-◌, ◌^◌, ◌<◌, ◌≤◌, ◌||◌, ◌==◌, Bool, true, false, List, [], ◌∷◌, ◌++◌, length, drop, Option, Some, None, refl, ap, sym, subst, ◌∙◌, arith, append_assoc, append-nil}
+use Rattle.std.proofs.Common.{◌≡◌, ℕ, ◌≤◌, true, false, List, [], ◌∷◌, ◌++◌, Option, refl, ap, sym, subst, ◌∙◌, arith, append-nil}
 use Rattle.std.specs.Io.KnownBytes.{Appends, Consumes}
 use Rattle.std.proofs.KnownBytes.{Appends-nil, Consumes-nil}
 use Rattle.outer_io.specs.Links.{LinkTold}
-use Rattle.outer_io.specs.Sink.{IsStart, Wrote}
+use Rattle.outer_io.specs.Sink.{IsStart}
 use Rattle.outer_io.specs.declared.sink.Written.{Written}
 use Rattle.outer_io.specs.declared.sink.Written.TheVariants as written
 use Rattle.task_model.specs.Terms.Text.{Text}
@@ -11,16 +11,15 @@ use Rattle.task_model.specs.Terms.Item.{ItemTerm}
 use Rattle.task_model.specs.Running.State.{IsLegal, history_prefix, version_of}
 use Rattle.task_laws.proofs.HistoryLemmas.{prefix_whole}
 use Rattle.task_laws.proofs.BeginningLemmas.{version_later}
-use Rattle.http_requests.specs.Requests.{RequestTerm, AskedTerm, IsRequest}
+use Rattle.http_requests.specs.Requests.{RequestTerm, IsRequest}
 use Rattle.http_replies.specs.Replies.{ReplyTerm, memory_reply, reply_bytes}
-use Rattle.session_desk.specs.Desks.{DeskTerm, GoesOn}
-use Rattle.session_gate.specs.Notes.{SuitsAt, Suits, IsReply, IsReplyAt, IsJoined, AllSuit, taken_entry, taken_entries, names_version, closes_after, wants_head}
+use Rattle.session_desk.specs.Desks.{DeskTerm}
+use Rattle.session_gate.specs.Notes.{SuitsAt, IsReplyAt, taken_entry, closes_after, wants_head}
 use Rattle.session_gate.specs.DeskAnswers.{IsDeskAnswer, memory_note}
 use Rattle.session_gate.specs.Connections.{Exchange}
 use Rattle.session_gate.specs.Readings.{Reading}
 use Rattle.session_gate.specs.Sendings.{Sending}
 use Rattle.session_gate.specs.declared.note.Note.{Note}
-use Rattle.session_gate.specs.declared.note_kind.NoteKind.TheVariants as kind
 use Rattle.session_gate.proofs.ExchangeLemmas.{goes_on_refl}
 
 appends_same : (a b : Option Text) → b ≡ a → Appends a b []

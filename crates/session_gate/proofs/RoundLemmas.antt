@@ -168,6 +168,13 @@ ReadyReply asked old new note closes bytes =
     (reply : ReplyTerm) × IsDeskAnswer asked old new note reply
     × (bytes ≡ reply_bytes reply (wants_head asked) (closes || is_memory note.kind))
 
+-- the note of a page is of no input that was taken
+kinds_differ : kind.Page ≡ kind.Taken → ⊥
+kinds_differ e = cc
+
+page_untaken : {k : NoteKind} → k ≡ kind.Page → k ≢ kind.Taken
+page_untaken is taken = kinds_differ (sym is ∙ taken)
+
 ready_reply : (asked : AskedTerm) (old new : DeskTerm) (a : Answer) (closes : Bool) (note : Note) (bytes : Text)
     → IsDeskAnswer asked old new (note_of a) (reply_of a) → IsReady a (wants_head asked) closes note bytes
     → ReadyReply asked old new note closes bytes
@@ -175,7 +182,7 @@ ready_reply asked old new a closes note bytes p (as_answered n e) =
     (reply_of a, subst (λ (z : Note). IsDeskAnswer asked old new z (reply_of a)) (sym n) p, e)
 ready_reply asked old new a closes note bytes p (out_of_memory k n e) = (
   memory_reply,
-  subst (λ (z : Note). IsDeskAnswer asked old new z memory_reply) (sym n) (memory_answers asked old new (note_of a) (reply_of a) k p),
+  subst (λ (z : Note). IsDeskAnswer asked old new z memory_reply) (sym n) (memory_answers asked old new (note_of a) (reply_of a) (page_untaken k) p),
   e ∙ memory_head (wants_head asked) true
       ∙ ap (λ (z : Bool). reply_bytes memory_reply (wants_head asked) z)
       (sym (or_true closes) ∙ ap (λ (z : Note). closes || is_memory z.kind) (sym n)),

@@ -1,5 +1,5 @@
 -- Where a connection stands between two requests, and where it ends.
-use Rattle.std.proofs.Common.{◌≡◌, ℕ, ◌+◌, ◌-◌, ◌<◌, ◌≤◌, Bool, true, false, List, [], ◌∷◌, ◌++◌, length, Option, Some, None, refl, ap, sym, subst, ◌∙◌, arith, append_assoc, append-nil, length-append}
+use Rattle.std.proofs.Common.{◌≡◌, ℕ, ◌+◌, ◌-◌, ◌<◌, List, [], ◌∷◌, ◌++◌, length, Option, refl, ap, sym, subst, ◌∙◌, arith, append_assoc, append-nil, length-append}
 use Rattle.std.specs.Io.KnownBytes.{Consumes}
 use Rattle.std.proofs.KnownBytes.{Appends-nil, Consumes-nil}
 use Rattle.outer_io.specs.Links.{LinkTold}
@@ -9,7 +9,7 @@ use Rattle.http_requests.specs.Requests.{RequestTerm}
 use Rattle.session_desk.specs.Desks.{DeskTerm}
 use Rattle.session_gate.specs.Connections.{AllGoOn, AreWritten, Exchange, HasAnswered, IsEnding, IsLastOf, Served, read_faults_after, write_faults_after}
 use Rattle.session_gate.specs.Notes.{NoneIsMemory}
-use Rattle.session_gate.specs.Rounds.{AnswersAtMostOne, EndsAfter, GoesOnAfter, IsRoundEnd, IsRound}
+use Rattle.session_gate.specs.Rounds.{AnswersAtMostOne, EndsAfter, GoesOnAfter, IsRound}
 use Rattle.session_gate.specs.declared.note.Note.{Note}
 use Rattle.session_gate.specs.declared.ending.Ending.{Ending}
 use Rattle.session_gate.specs.declared.ending.Ending.TheVariants as ending

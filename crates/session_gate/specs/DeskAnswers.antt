@@ -1,5 +1,5 @@
 -- What a desk answers to a request, and what is written for it.
-use Rattle.std.specs.Prelude.{◌≡◌, ◌≢◌, ℕ, ◌+◌, ◌-◌, ◌^◌, ◌<◌, ◌≤◌, ◌||◌, Bool, true, false, List, ◌++◌}
+use Rattle.std.specs.Prelude.{◌≡◌, ℕ, ◌+◌, ◌-◌, ◌^◌, ◌<◌, ◌≤◌, ◌||◌, Bool, true, false, ◌++◌}
 use Rattle.task_model.specs.Terms.Text.{Text}
 use Rattle.task_model.specs.Running.State.{version_of}
 use Rattle.http_requests.specs.Requests.{AskedTerm}
@@ -31,6 +31,16 @@ reply_of (answer.Ahead version) = ahead_reply version
 reply_of (answer.Refused status text version) = refused_reply status text
 reply_of (answer.Memory version) = memory_reply
 
+-- It shows no page.
+abbrev pub ShowsNoPage : Answer → Type 0
+ShowsNoPage (answer.Page face page) = ⊥
+ShowsNoPage (answer.Taken version) = Unit {0}
+ShowsNoPage (answer.NotOffered version) = Unit {0}
+ShowsNoPage (answer.Over version) = Unit {0}
+ShowsNoPage (answer.Ahead version) = Unit {0}
+ShowsNoPage (answer.Refused status text version) = Unit {0}
+ShowsNoPage (answer.Memory version) = Unit {0}
+
 -- The note on want of memory at a version.
 abbrev pub memory_note : ℕ → Note
 memory_note version = record { kind = kind.Memory; version = version }
@@ -45,9 +55,9 @@ pub record IsDeskAnswer (asked : AskedTerm) (old new : DeskTerm) (note : Note) (
   pub own : new.own ≡ old.own ++ taken_entry old.seat note.kind asked
   pub calls : new.refusals < 2 ^ 64 - 1 → new.page_at_calls + old.refusals ≤ old.page_at_calls + new.refusals + names_version asked
 
--- The bytes of a reply are ready: they are the answer's with its note, or there was no memory for them, and the note says so.
+-- The bytes of a reply are ready: they are the answer's with its note, or there was no memory for a page, and the note says so.
 pub data IsReady (a : Answer) (head_only closes : Bool) (note : Note) (bytes : Text) : Type 0 where
   as_answered : note ≡ note_of a → bytes ≡ reply_bytes (reply_of a) head_only (closes || is_memory note.kind)
       → IsReady a head_only closes note bytes
-  out_of_memory : (note_of a).kind ≢ kind.Taken → note ≡ memory_note (note_of a).version
+  out_of_memory : (note_of a).kind ≡ kind.Page → note ≡ memory_note (note_of a).version
       → bytes ≡ reply_bytes memory_reply false true → IsReady a head_only closes note bytes

@@ -1,5 +1,5 @@
 -- What the reading of a request does to a link and to the bytes that are kept.
-use Rattle.std.specs.Prelude.{◌≡◌, ℕ, ◌<◌, Bool, true, ◌++◌, length, drop}
+use Rattle.std.specs.Prelude.{◌≡◌, ℕ, ◌<◌, ◌++◌, length, drop}
 use Rattle.std.specs.Io.KnownBytes.{Consumes}
 use Rattle.outer_io.specs.Causes.{next_count}
 use Rattle.outer_io.specs.Links.{LinkTold}

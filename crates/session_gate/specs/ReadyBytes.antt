@@ -3,8 +3,7 @@ use Rattle.task_model.specs.Terms.Text.{Text}
 use Rattle.session_gate.specs.declared.ready_bytes.ReadyBytes.{ReadyBytes}
 use Rattle.session_gate.specs.declared.ready_bytes.ReadyBytes.TheVariants as ready
 
--- Those of its head alone, of its head with a page behind it, or of the whole reply.
+-- Those in its room, or of its head with a page behind it.
 abbrev pub ready_bytes : ReadyBytes → Text
-ready_bytes (ready.Head head) = head
+ready_bytes (ready.Room room) = room
 ready_bytes (ready.Page bytes) = bytes
-ready_bytes (ready.Whole bytes) = bytes.items

@@ -1,12 +1,13 @@
 ghost use Rattle.std.specs.Prelude.{◌≡◌};
-ghost use Rattle.http_replies.specs.ReplyForms.{reply_term};
-ghost use Rattle.session_gate.specs.DeskAnswers.{note_of, reply_of};
+ghost use Rattle.http_replies.specs.ReplyForms.{IsShort, reply_term};
+ghost use Rattle.session_gate.specs.DeskAnswers.{ShowsNoPage, note_of, reply_of};
 
 use crate::note::Note;
 use crate::note_kind::NoteKind;
 use html_pages::Page;
 use http_replies::HttpReply;
-use task_model::{Face, TaskText};
+use http_requests::RefusalText;
+use task_model::Face;
 
 /// What a desk answered to a request, with what the reply shows.
 #[derive(Drop)]
@@ -29,7 +30,7 @@ pub(crate) enum Answer {
     },
     Refused {
         status: u16,
-        text: TaskText,
+        text: RefusalText,
         version: u64,
     },
     Memory {
@@ -60,7 +61,8 @@ impl Answer {
 
     /// Its reply.
     pub(crate) fn reply(&self) -> HttpReply<'_>
-        ensures { reply_term result ≡ reply_of self.now }
+        ensures reply { reply_term result ≡ reply_of self.now }
+        ensures short { ShowsNoPage self.now → IsShort (reply_term result) }
     {
         match self {
             Answer::Page { face, page } => HttpReply::Page {

@@ -1,4 +1,4 @@
-//! The top call over files, sinks, ports and links in memory: tests alone.
+//! The top call over files, sinks, ports and links in memory, and over a port of this machine: tests alone.
 #![tactic(auto)]
 
 #[cfg(test)]

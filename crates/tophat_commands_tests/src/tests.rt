@@ -1,6 +1,7 @@
 mod case;
 mod requests;
 mod rows;
+mod sockets;
 
 use case::{Case, SERVE, put_difference};
 use std::alloc::Global;

@@ -1,6 +1,6 @@
 use outer_gates::{Accept, Gate, GateStop, ListenerGate};
 use outer_io::{Got, Link, LinkTimes, Source};
-use std::io::{Read, Write};
+use std::io::{ErrorKind, Read, Write};
 use std::net::{Shutdown, SocketAddr, TcpListener, TcpStream};
 use std::test::Fail;
 use std::thread;
@@ -200,6 +200,41 @@ fn in_a_crowd<G: Gate>(rt: &HostRuntime, gate: &mut G, addr: SocketAddr) -> Resu
     gives(gate, POST)
 }
 
+// Whether a client whose sending is held up can send nothing for so long. Else its link is closed.
+fn is_held_up(sends: &mut TcpStream, time: Duration) -> Result<bool, Fail> {
+    sends.set_write_timeout(Some(time))?;
+    for _ in 0..100_000 {
+        match sends.write(&[b'a'; 4096]) {
+            Ok(_) => {}
+            Err(error) => return Ok(is_over(error.kind())),
+        }
+    }
+    Err(Fail::from("everything was taken"))
+}
+
+// Whether an error says that a time was over.
+fn is_over(kind: ErrorKind) -> bool {
+    matches!(kind, ErrorKind::WouldBlock | ErrorKind::TimedOut)
+}
+
+// A link is closed as soon as it is shut, though its gate doesn't have it back: a client that sends what nobody takes is held up no more.
+fn shut<G: Gate>(rt: &HostRuntime, gate: &mut G, addr: SocketAddr) -> Result<(), Fail> {
+    let mut sends = client(rt, addr, ASK)?;
+    match gate.accept() {
+        Accept::Link(mut link) => {
+            let before = is_held_up(&mut sends, first())?;
+            link.shut();
+            let behind = is_held_up(&mut sends, Duration::from_secs(5))?;
+            gate.finish(link);
+            match (before, behind) {
+                (true, false) => Ok(()),
+                _ => Err(Fail::from("the link wasn't closed, or too early")),
+            }
+        }
+        Accept::Closed | Accept::Failed => Err(Fail::from("no link")),
+    }
+}
+
 /// What is tried at a gate of its own.
 #[derive(Clone, Copy)]
 enum Trial {
@@ -209,6 +244,7 @@ enum Trial {
     OfNoRequest,
     TooLate,
     InACrowd,
+    Shut,
 }
 
 fn tried<G: Gate>(
@@ -224,6 +260,7 @@ fn tried<G: Gate>(
         Trial::OfNoRequest => of_no_request(rt, gate, addr),
         Trial::TooLate => too_late(rt, gate, addr),
         Trial::InACrowd => in_a_crowd(rt, gate, addr),
+        Trial::Shut => shut(rt, gate, addr),
     }
 }
 
@@ -236,6 +273,7 @@ fn links_of_a_listener(rt: HostRuntime) -> Result<(), Fail> {
         Trial::OfNoRequest,
         Trial::TooLate,
         Trial::InACrowd,
+        Trial::Shut,
     ] {
         let (mut gate, addr) = gate(&rt)?;
         tried(&rt, &mut gate, addr, trial)?;

@@ -78,6 +78,23 @@ fn a_free_port_of_this_machine_has_a_gate(rt: HostRuntime) -> Result<(), Fail> {
     }
 }
 
+// Whether somebody listens at this port of another address of this machine.
+fn is_heard_elsewhere(rt: &HostRuntime, port: u16) -> bool {
+    TcpStream::connect(rt, ("127.0.0.2", port)).is_ok()
+}
+
+#[test]
+fn a_gate_listens_at_one_address(rt: HostRuntime) -> Result<(), Fail> {
+    let port = free_port(&rt)?;
+    match listen_at(&rt, rt.alloc(), port) {
+        Listening::Gate(mut gate) => {
+            assert!(rt; !is_heard_elsewhere(&rt, port));
+            asks_at(&rt, &mut gate, port)
+        }
+        _ => Err(Fail::from("no gate")),
+    }
+}
+
 #[test]
 fn a_port_that_is_taken_has_none(rt: HostRuntime) -> Result<(), Fail> {
     let taken = TcpListener::bind(&rt, "127.0.0.1:0")?;

@@ -39,7 +39,7 @@ pub(super) const SERVE: Case<'static> = Case {
     want: "",
 };
 
-fn bytes(alloc: Global, text: &str) -> Result<Row<u8>, OutOfMemory> {
+pub(super) fn bytes(alloc: Global, text: &str) -> Result<Row<u8>, OutOfMemory> {
     let mut row = Row::new(alloc);
     row.extend(text.as_bytes())?;
     Ok(row)
@@ -51,7 +51,7 @@ fn one<T: Drop>(alloc: Global, item: T) -> Result<Row<T>, OutOfMemory> {
     Ok(row)
 }
 
-fn words(alloc: Global, text: &str) -> Result<Row<TaskText>, OutOfMemory> {
+pub(super) fn words(alloc: Global, text: &str) -> Result<Row<TaskText>, OutOfMemory> {
     let mut row = Row::new(alloc);
     for word in text.split(' ') {
         row.push(TaskText::of(alloc, word)?)?;
@@ -59,7 +59,7 @@ fn words(alloc: Global, text: &str) -> Result<Row<TaskText>, OutOfMemory> {
     Ok(row)
 }
 
-fn files(alloc: Global, program: &str) -> Result<MemFiles, OutOfMemory> {
+pub(super) fn files(alloc: Global, program: &str) -> Result<MemFiles, OutOfMemory> {
     let names = one(alloc, TaskText::of(alloc, "p.th")?)?;
     let contents = one(alloc, bytes(alloc, program)?)?;
     Ok(MemFiles::new(names, contents, Row::new(alloc)))
@@ -94,8 +94,8 @@ fn ports(alloc: Global, case: &Case<'_>, piece: usize) -> Result<MemPorts, OutOf
     Ok(MemPorts::new(8080, Some(gate)))
 }
 
-// What comes of a case in pieces of this size, as one text.
-fn told(
+/// What comes of a case in pieces of this size, as one text.
+pub(super) fn told(
     rt: &(impl Threads + Wait + Copy + Send + Sync),
     alloc: Global,
     case: &Case<'_>,

@@ -3,8 +3,7 @@ use Rattle.http_requests.proofs.AskLemmas.{refused_ask, form_ask, query_ask}
 use Rattle.http_requests.proofs.asking.asked.Goals as goal
 
 pub returns-in-Some : goal.returns-in-Some
-returns-in-Some c = λ h says. IfOk-weaker c.refused.result _ _
-    (λ a e. refused_ask h c.args.facts.now c.args.body.now c.in-Some.check _ says c.in-Some.is e) c.refused.ensures
+returns-in-Some c = λ h says. refused_ask h c.args.facts.now c.args.body.now c.in-Some.check _ says c.in-Some.is c.refused.ensures
 
 pub returns-then-facts : goal.returns-then-facts
 returns-then-facts c = λ h says. IfOk-weaker c.asked_by_form.result _ _

@@ -6,7 +6,7 @@ use Rattle.http_requests.proofs.finding.without_head.Goals as goal
 
 pub returns-then-bytes-ge-HEAD_LIMIT : goal.returns-then-bytes-ge-HEAD_LIMIT
 returns-then-bytes-ge-HEAD_LIMIT c =
-    endless_front c.args.bytes.now _ c.requires c.if-bytes-ge-HEAD_LIMIT.true c.in_ok-refusal.ensures
+    endless_front c.args.bytes.now _ c.requires c.if-bytes-ge-HEAD_LIMIT.true c.refusal.ensures
 
 pub returns : goal.returns
 returns c = unfinished_head c.args.bytes.now c.args.ended c.if-bytes-ge-HEAD_LIMIT.false c.requires

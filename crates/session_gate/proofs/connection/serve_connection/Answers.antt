@@ -1,6 +1,3 @@
-use Rattle.std.proofs.Common.{List, sym, subst, ◌∙◌}
-use Rattle.task_model.specs.Terms.Text.{Text}
-use Rattle.session_gate.specs.declared.note.Note.{Note}
 use Rattle.session_gate.proofs.StandingLemmas.{stands_first, stands_on, served_by}
 use Rattle.session_gate.proofs.connection.serve_connection.Goals as goal
 

@@ -1,4 +1,3 @@
-use Rattle.std.proofs.Common.{refl}
 use Rattle.session_gate.proofs.PhraseLemmas.{request_refuses, reply_phrase}
 use Rattle.session_gate.proofs.RoundLemmas.{round_answers, round_cut}
 use Rattle.session_gate.proofs.connection.serve_request.Goals as goal

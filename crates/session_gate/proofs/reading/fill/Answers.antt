@@ -1,6 +1,4 @@
-use Rattle.std.proofs.Common.{ℕ, List, length, ◌+◌, ◌-◌, take, ap, subst, sym, ◌∙◌}
-use Rattle.session_gate.specs.Readings.{IsFilled, bytes_given}
-use Rattle.session_gate.specs.declared.filled.Filled.{Filled}
+use Rattle.std.proofs.Common.{ℕ, length, ◌+◌, take, ap, ◌∙◌}
 use Rattle.session_gate.proofs.ReadingLemmas.{in_front, written_over, fill_reading, fill_filled}
 use Rattle.session_gate.proofs.reading.fill.Goals as goal
 

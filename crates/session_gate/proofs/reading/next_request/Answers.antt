@@ -1,4 +1,4 @@
-use Rattle.std.proofs.Common.{◌≡◌, ◌++◌, refl, ap, sym, subst, ◌∙◌}
+use Rattle.std.proofs.Common.{◌++◌, refl, ap, sym, subst, ◌∙◌}
 use Rattle.outer_io.specs.Causes.{next_count}
 use Rattle.task_model.specs.Terms.Text.{Text}
 use Rattle.http_requests.specs.Knowledge.{HasRead}

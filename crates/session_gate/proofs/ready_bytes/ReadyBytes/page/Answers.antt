@@ -1,6 +1,5 @@
-use Rattle.std.proofs.Common.{◌≡◌, ◌≤◌, ◌<◌, ◌^◌, length, false, true, sym, ◌∙◌, subst, arith}
+use Rattle.std.proofs.Common.{◌≡◌, ◌≤◌, length, false, true, sym, subst, arith}
 use Rattle.task_model.specs.Terms.Text.{Text}
-use Rattle.session_gate.proofs.HeadLemmas.{page_head_fits}
 use Rattle.session_gate.proofs.ready_bytes.ReadyBytes.page.Goals as goal
 
 never : false ≡ true → ⊥
@@ -8,7 +7,5 @@ never e = cc
 
 pub returns-in_err-behind-clause-room : goal.returns-in_err-behind-clause-room
 returns-in_err-behind-clause-room c = λ roomy.
-    let small : length c.text.result.now < 2 ^ 64 = omega arith in
-    let fits : length c.bytes.result.now ≤ 256 = subst (λ (l : Text). length l ≤ 256) (sym (c.bytes.ensures ∙ c.write_head.ensures))
-    (page_head_fits c.args.face (length c.text.result.now) c.args.closes small) in
+    let fits : length c.bytes.result.now ≤ 256 = subst (λ (l : Text). length l ≤ 256) (sym c.bytes.ensures) c.write_head.ensures.length in
     absurd (never (c.in_err-behind.ensures.room (omega (arith, fits, roomy))))

@@ -4,16 +4,16 @@ use arrayvec::ArrayVec;
 use itoa::Buffer;
 use std::marker::Model;
 
-/// The bytes that a head may have.
-const HEAD_BYTE_LIMIT: usize = 256;
+/// The bytes that a head may have, and a short body behind it.
+const BYTE_LIMIT: usize = 320;
 
-/// Room for the head of a reply, which takes no memory. Contracts see it as the bytes in it.
+/// Room for the head of a reply and for a short body behind it, which takes no memory. Contracts see it as the bytes in it.
 #[derive(Drop)]
-pub struct HeadRoom {
-    bytes: ArrayVec<u8, HEAD_BYTE_LIMIT>,
+pub struct ReplyRoom {
+    bytes: ArrayVec<u8, BYTE_LIMIT>,
 }
 
-impl Model for HeadRoom {
+impl Model for ReplyRoom {
     ghost use Rattle.std.specs.Prelude.{List, ℕ};
 
     ghost Value = { List ℕ };
@@ -21,12 +21,12 @@ impl Model for HeadRoom {
     ghost view = { λ room. room.bytes.items };
 }
 
-impl HeadRoom {
+impl ReplyRoom {
     /// Room with nothing in it (docs/FORMATS.md, "Replies").
-    pub fn new() -> HeadRoom
+    pub fn new() -> ReplyRoom
         ensures { result ≡ [] }
     {
-        HeadRoom {
+        ReplyRoom {
             bytes: ArrayVec::new(),
         }
     }
@@ -47,7 +47,7 @@ impl HeadRoom {
 
     /// Appends these bytes.
     pub(crate) fn push(&mut self, bytes: &[u8])
-        requires { length self.old + length bytes.now ≤ 256 }
+        requires { length self.old + length bytes.now ≤ 320 }
         ensures { self.new ≡ self.old ++ bytes.now }
     {
         if self.bytes.try_extend_from_slice(bytes).is_err() {
@@ -57,7 +57,7 @@ impl HeadRoom {
 
     /// Appends a number.
     pub(crate) fn push_number(&mut self, number: u64)
-        requires { length self.old + 20 ≤ 256 }
+        requires { length self.old + 20 ≤ 320 }
         ensures text { self.new ≡ self.old ++ decimal number }
         ensures length { length self.new ≤ length self.old + 20 }
     {
