@@ -1,4 +1,5 @@
 mod block;
+mod bounds;
 mod budgets;
 mod case;
 mod json;
@@ -27,6 +28,7 @@ fn put_rows_of_programs(found: &mut String, alloc: Global) -> Result<(), OutOfMe
     put_table(found, alloc, tutorial::TUTORIAL, 4_096)?;
     put_table(found, alloc, tutorial::REFUSED, 4_096)?;
     put_table(found, alloc, programs::PROGRAMS, 4_096)?;
+    put_table(found, alloc, bounds::BOUNDS, 4_096)?;
     put_table(found, alloc, budgets::BUDGETS, 4_096)?;
     put_table(found, alloc, budgets::HEIGHTS, 4_096)?;
     put_table(found, alloc, refusals::REFUSALS, 4_096)

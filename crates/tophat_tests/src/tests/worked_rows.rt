@@ -307,6 +307,9 @@ soak 100001 3
 soak 1 18446744073709551616
 soak 000000000000000000001 3
 soak 1 3 4
+bound
+bound p.th q.th
+bound p.th --budget 4
 soak one 3
 soak 1 -3
 soak +1 3
