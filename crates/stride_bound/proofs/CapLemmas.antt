@@ -1,12 +1,12 @@
 -- No number is above 1,000,001.
-use Rattle.std.proofs.Common.{◌≡◌, ℕ, suc, ◌+◌, ◌*◌, ◌<◌, ◌≤◌, min, max, List, [], ◌∷◌, refl, sym, ap, ◌∙◌, arith}
+use Rattle.std.proofs.Common.{ℕ, ◌+◌, ◌*◌, ◌≤◌, max, arith}
 use Rattle.task_model.specs.Terms.Text.{Text}
 use Rattle.task_model.specs.Terms.Host.{HostTerm, unit_expr, bool_expr, int_expr, text_expr, name_expr, read_expr, call_expr, pair_expr, list_expr, nil_expr, neg_expr, not_expr, fst_expr, snd_expr, len_expr, op_expr, let_expr, if_expr, case_expr, HostTerms, no_exprs, more_exprs, as_exprs}
 use Rattle.task_model.specs.Terms.Task.{TaskTerm, edit, enter, share, fail, call_task, then_task, next_task, and_task, or_task, xor_task, let_task, if_task, case_task, new_task, put_task}
 use Rattle.task_model.specs.Terms.Program.{DefBodyTerm, fun_body, task_body}
 use Rattle.stride_bound.specs.declared.bounds.Bound.{Bound}
 use Rattle.stride_bound.specs.declared.figures.Figures.{Figures}
-use Rattle.stride_bound.specs.Sums.{cut, plus, times, higher, single_rule, naught, beside, either, over_parts, once, nothing, plain, still, called, after_first, greater, pair, choice, then, next, strides, normal, test_bound, sides}
+use Rattle.stride_bound.specs.Sums.{cut, plus, higher, single_rule, naught, beside, either, over_parts, once, plain, still, called, after_first, greater, pair, choice, then, next, test_bound, sides}
 use Rattle.stride_bound.specs.Figures.{Tables, IsNoMore, AtMost, expression_bound, expressions_bound, task_figures, text_figures}
 
 -- the greatest bound, and the greatest figures

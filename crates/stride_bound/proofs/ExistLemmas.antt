@@ -1,6 +1,6 @@
 -- Each program has a bound, or none.
-use Rattle.std.proofs.Common.{◌≡◌, ℕ, suc, zero, ◌+◌, ◌-◌, ◌<◌, ◌≤◌, ◌^◌, max, Bool, true, false, List, [], ◌∷◌, length, get_or, set, replicate, Option, None, Some, unwrap_or, ◌⊎◌, inl, inr, refl, sym, ap, ◌∙◌, subst, arith}
-use Rattle.std.specs.Prelude.{slice_get, sum_by}
+use Rattle.std.proofs.Common.{◌≡◌, ℕ, suc, zero, ◌+◌, ◌-◌, ◌<◌, ◌≤◌, ◌^◌, max, Bool, true, false, List, [], ◌∷◌, length, get_or, set, replicate, Option, None, Some, ◌⊎◌, inl, inr, refl, sym, ap, ◌∙◌, subst, arith}
+use Rattle.std.specs.Prelude.{slice_get}
 use Rattle.std.proofs.lemmas.Option.{unwrap_or-slice_get, slice_get_within}
 use Rattle.std.proofs.lemmas.List.Sums.{sum_by-set}
 use Rattle.std.proofs.lemmas.List.{length-set}
@@ -9,18 +9,17 @@ use Rattle.task_model.specs.Checking.Names.{Numbered, first_named}
 use Rattle.stride_bound.specs.declared.bounds.Bound.{Bound}
 use Rattle.stride_bound.specs.declared.figures.Figures.{Figures}
 use Rattle.stride_bound.specs.declared.links.TextLink.{TextLink}
-use Rattle.stride_bound.specs.Sums.{naught, nothing, either, greater}
+use Rattle.stride_bound.specs.Sums.{nothing, greater}
 use Rattle.stride_bound.specs.Figures.{IsNoMore, AtMost, IsAmple, IsLeast, figures_of_number, tables_of, text_figures, texts_of, program_bound}
 use Rattle.stride_bound.specs.TextLinks.{LeadsTo, LeadsBack, links_of}
-use Rattle.stride_bound.specs.Bounds.{IsBound, HasBound}
-use Rattle.stride_bound.specs.TextMarks.{mark_at, unmarked, LinksAreInside, IsSound, MarksAreClosed}
+use Rattle.stride_bound.specs.Bounds.{IsBound}
+use Rattle.stride_bound.specs.TextMarks.{mark_at, unmarked, LinksAreInside, MarksAreClosed}
 use Rattle.stride_bound.specs.BoundTerms.{figures_at}
 use Rattle.stride_bound.specs.Least.{IsBelow, ComesTo, room, room_of}
 use Rattle.stride_bound.proofs.ListLemmas.{same_or_not}
 use Rattle.stride_bound.proofs.MarkLemmas.{Reaches, reaches_first, reaches_along, reaches_all, mark_one_less}
-use Rattle.stride_bound.proofs.RankLemmas.{one_more_has}
 use Rattle.stride_bound.proofs.LeastLemmas.{Climbs, climbs_first, climbs_least, raised_below}
-use Rattle.stride_bound.proofs.CapLemmas.{most, most_figures, Capped, text_cap}
+use Rattle.stride_bound.proofs.CapLemmas.{most_figures, Capped, text_cap}
 
 -- ---- what goes on until it is done
 -- each state is done, or has a next one with less room

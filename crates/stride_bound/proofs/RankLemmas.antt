@@ -1,5 +1,5 @@
 -- Ranks that no link raises.
-use Rattle.std.proofs.Common.{◌≡◌, ℕ, ◌+◌, ◌<◌, ◌≤◌, List, Some, inl, inr, refl, sym, ap, ◌∙◌, subst, arith}
+use Rattle.std.proofs.Common.{◌≡◌, ℕ, ◌+◌, ◌<◌, ◌≤◌, List, Some, inl, inr, sym, ap, ◌∙◌, subst, arith}
 use Rattle.std.specs.Prelude.{slice_get}
 use Rattle.stride_bound.specs.declared.links.TextLink.{TextLink}
 use Rattle.stride_bound.specs.TextLinks.{LeadsTo, here, along}

@@ -1,6 +1,6 @@
 -- Numbers of units and heights, summed up in any order.
-use Rattle.std.proofs.Common.{◌≡◌, ℕ, suc, ◌+◌, ◌<◌, ◌≤◌, min, max, List, [], ◌∷◌, length, get_or, drop, map, refl, sym, ap, ◌∙◌, arith, add-one, drop-cons}
-use Rattle.task_model.specs.Terms.Host.{host_term, HostTerm, HostTerms, no_exprs, more_exprs, as_exprs}
+use Rattle.std.proofs.Common.{◌≡◌, ℕ, suc, ◌+◌, ◌<◌, ◌≤◌, max, List, ◌∷◌, length, get_or, drop, map, sym, ap, ◌∙◌, arith, add-one, drop-cons}
+use Rattle.task_model.specs.Terms.Host.{host_term, HostTerms, no_exprs, more_exprs, as_exprs}
 use Rattle.task_model.specs.declared.host.Host.{Host}
 use Rattle.stride_bound.specs.declared.bounds.Bound.{Bound}
 use Rattle.stride_bound.specs.Sums.{cut, plus, naught, beside}

@@ -1,5 +1,5 @@
 -- What expressions and tasks come to at most, a line for each form (docs/RULES.md, "A printed bound on work").
-use Rattle.std.specs.Prelude.{◌≡◌, ℕ, ◌+◌, ◌<◌, ◌≤◌, List, [], ◌∷◌, ◌++◌, length, map, Option, Some, None, slice_get, unwrap_or}
+use Rattle.std.specs.Prelude.{◌≡◌, ℕ, ◌+◌, ◌≤◌, List, [], ◌∷◌, ◌++◌, length, map, Option, Some, None, slice_get}
 use Rattle.task_model.specs.Terms.Text.{Text}
 use Rattle.task_model.specs.Terms.Host.{HostTerm, unit_expr, bool_expr, int_expr, text_expr, name_expr, read_expr, call_expr, pair_expr, list_expr, nil_expr, neg_expr, not_expr, fst_expr, snd_expr, len_expr, op_expr, let_expr, if_expr, case_expr, HostTerms, no_exprs, more_exprs, as_exprs}
 use Rattle.task_model.specs.Terms.Task.{TaskTerm, edit, enter, share, fail, call_task, then_task, next_task, and_task, or_task, xor_task, let_task, if_task, case_task, new_task, put_task}
@@ -7,7 +7,7 @@ use Rattle.task_model.specs.Terms.Program.{DefBodyTerm, fun_body, task_body, Pro
 use Rattle.task_model.specs.Checking.Names.{Numbered, first_named}
 use Rattle.stride_bound.specs.declared.bounds.Bound.{Bound}
 use Rattle.stride_bound.specs.declared.figures.Figures.{Figures}
-use Rattle.stride_bound.specs.Sums.{plus, higher, single_rule, naught, beside, either, over_parts, once, nothing, plain, still, called, after_first, greater, pair, choice, then, next, strides, normal, test_bound, sides}
+use Rattle.stride_bound.specs.Sums.{plus, single_rule, naught, beside, either, over_parts, once, nothing, plain, still, called, after_first, greater, pair, choice, then, next, strides, normal, test_bound, sides}
 
 -- what each definition comes to, by its name, and each body, by its number
 pub record Tables : Type 0 where

@@ -1,6 +1,6 @@
 -- Numbers of units and heights, and how those of a form come of its parts' (docs/RULES.md, "A printed bound on work"). Each number above
 -- 1,000,000 is 1,000,001.
-use Rattle.std.specs.Prelude.{ℕ, suc, ◌+◌, ◌*◌, min, max}
+use Rattle.std.specs.Prelude.{ℕ, ◌+◌, ◌*◌, min, max}
 use Rattle.stride_bound.specs.declared.bounds.Bound.{Bound}
 use Rattle.stride_bound.specs.declared.figures.Figures.{Figures}
 

@@ -37,7 +37,7 @@ task a(x : int) : int = edit x >>? y . b(y)
 task b(x : int) : int = edit x >>? y . if y > 0 then a(y) else let z = y in b(z)
 task main() : int = a(0)
 = 0
-units 3 height 6
+units 3 height 7
 
 $ bound p.th
 task a(x : int) : int = edit x >>? y . a(y)

@@ -1,4 +1,4 @@
-use Rattle.std.proofs.Common.{◌≡◌, ◌+◌, drop, map, sym, ap, ◌∙◌, arith}
+use Rattle.std.proofs.Common.{◌+◌, drop, map, sym, ap, ◌∙◌, arith}
 use Rattle.stride_bound.specs.declared.bounds.Bound.{Bound}
 use Rattle.std.proofs.lemmas.List.{at_drop_all}
 use Rattle.task_model.specs.Terms.Host.{host_term, as_exprs, call_expr, list_expr}

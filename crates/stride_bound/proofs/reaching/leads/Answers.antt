@@ -1,4 +1,4 @@
-use Rattle.std.proofs.Common.{◌≡◌, ◌<◌, get_or, length, Bool, true, false, subst, sym, ap, refl, ◌∙◌, arith, IsTrue, Vec, Global, rules}
+use Rattle.std.proofs.Common.{◌≡◌, ◌<◌, get_or, length, Bool, true, subst, sym, ap, refl, ◌∙◌, IsTrue, Vec, Global, rules}
 use Rattle.stride_bound.specs.TextMarks.{mark_at}
 use Rattle.stride_bound.proofs.MarkLemmas.{Reaches, reaches_first, reaches_more, reaches_spread, reaches_all}
 use Rattle.std.proofs.lemmas.Option.{slice_get_read}

@@ -1,4 +1,4 @@
-use Rattle.std.proofs.Common.{◌≡◌, ◌+◌, Bool, true, false, subst, sym, ap, refl, ◌∙◌, arith}
+use Rattle.std.proofs.Common.{◌+◌, subst, sym, arith}
 use Rattle.std.proofs.lemmas.Option.{slice_get-get_or, slice_get_within}
 use Rattle.stride_bound.proofs.MarkLemmas.{Spreads, none_spread, spread_more, spread_same}
 use Rattle.stride_bound.proofs.reaching.spread_all.Goals.{then-spread, else-spread}

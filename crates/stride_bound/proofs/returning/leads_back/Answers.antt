@@ -1,8 +1,6 @@
-use Rattle.std.proofs.Common.{◌≡◌, ℕ, ◌+◌, ◌<◌, ◌≤◌, Some, Bool, true, false, IsTrue, refl, sym, ap, ◌∙◌, subst, arith, rules}
-use Rattle.std.specs.Prelude.{slice_get}
+use Rattle.std.proofs.Common.{◌≡◌, Bool, true, false, IsTrue, arith, rules}
 use Rattle.std.proofs.lemmas.Option.{slice_get-get_or, slice_get_within}
-use Rattle.stride_bound.specs.declared.links.TextLink.{TextLink}
-use Rattle.stride_bound.specs.TextLinks.{LeadsTo, LeadsBack}
+use Rattle.stride_bound.specs.TextLinks.{LeadsTo}
 use Rattle.stride_bound.proofs.RankLemmas.{one_more_has}
 use Rattle.stride_bound.proofs.returning.leads_back.Goals as goal
 

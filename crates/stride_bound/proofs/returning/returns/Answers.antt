@@ -1,4 +1,4 @@
-use Rattle.std.proofs.Common.{◌≡◌, true, IsTrue, List, ℕ, sym, ap, ◌∙◌, arith, rules, subst}
+use Rattle.std.proofs.Common.{IsTrue, List, ℕ, sym, ap, arith, rules, subst}
 use Rattle.stride_bound.specs.Ranks.{rank_at}
 use Rattle.stride_bound.proofs.RankLemmas.{ranks_fall}
 use Rattle.stride_bound.proofs.returning.returns.Goals as goal

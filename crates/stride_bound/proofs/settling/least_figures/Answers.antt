@@ -1,4 +1,4 @@
-use Rattle.std.proofs.Common.{◌≡◌, length, Vec, Global, true, false, subst, sym, ap, ◌∙◌}
+use Rattle.std.proofs.Common.{length, Vec, Global, subst, sym}
 use Rattle.task_model.specs.Terms.Program.{program_term}
 use Rattle.stride_bound.specs.declared.figures.Figures.{Figures}
 use Rattle.stride_bound.proofs.LeastLemmas.{Climbs, climbs_first, climbs_more, climbs_least}

@@ -4,7 +4,7 @@ use Rattle.std.proofs.lemmas.Option.{slice_get_read}
 use Rattle.task_model.specs.Terms.Program.{program_term}
 use Rattle.stride_bound.specs.declared.figures.Figures.{Figures}
 use Rattle.stride_bound.specs.Sums.{nothing}
-use Rattle.stride_bound.specs.Figures.{texts_of, tables_of, text_figures}
+use Rattle.stride_bound.specs.Figures.{tables_of, text_figures}
 use Rattle.stride_bound.specs.BoundTerms.{figures_at, piece_term}
 use Rattle.stride_bound.specs.Least.{IsBelow}
 use Rattle.stride_bound.proofs.ListLemmas.{get_map}
