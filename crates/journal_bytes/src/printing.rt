@@ -1,25 +1,21 @@
-ghost use Rattle.std.specs.Prelude.{◌≡◌, IfOk};
-ghost use Rattle.task_model.specs.Terms.Program.{program_term};
+ghost use Rattle.std.specs.Prelude.{◌≡◌, ◌++◌, ◌∷◌, IfOk, decimal};
 ghost use Rattle.task_model.specs.Terms.Input.{entry_term};
 ghost use Rattle.input_lines.specs.EntryText.{entry_line};
-ghost use Rattle.journal_bytes.specs.HistoryRecords.{opening_record};
 
 use input_lines::print_entry;
 use itoa::Buffer;
 use std::alloc::Global;
-use task_model::{Entry, OutOfMemory, Program, Row};
-use task_reader::print_program;
+use task_model::{Entry, OutOfMemory, Row};
 
 /// The record of an opening: the budget in decimal, an LF, and the text of the program.
-pub fn print_opening(alloc: Global, program: &Program, budget: u32) -> Result<Row<u8>, OutOfMemory>
-    ensures { IfOk result (λ r. r.list ≡ opening_record (program_term program.now) budget) }
+pub fn print_opening(alloc: Global, budget: u32, text: &[u8]) -> Result<Row<u8>, OutOfMemory>
+    ensures { IfOk result (λ r. r.list ≡ decimal budget ++ (10 ∷ text.now)) }
 {
-    let text = print_program(alloc, program)?;
     let mut digits = Buffer::new();
     let mut record = Vec::new(alloc);
     record.extend_from_slice(digits.format(budget).as_bytes())?;
     record.push(b'\n')?;
-    record.extend_from_slice(text.as_str().as_bytes())?;
+    record.extend_from_slice(text)?;
     Ok(Row::of_vec(record))
 }
 
