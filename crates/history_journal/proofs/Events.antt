@@ -16,11 +16,11 @@ use Rattle.journal_bytes.specs.HistoryRecords.{item_record, records_of, IsShort,
 use Rattle.world_core.specs.World.{WorldTerm, NextTerm, with_prepared, at_rest, with_entry, Prepares, Commits}
 use Rattle.world_core.specs.declared.answers.Taken.{Taken}
 use Rattle.world_core.proofs.RunLemmas.{replies_taken}
-use Rattle.history_journal.specs.Appending.{IsSettled, IsBeforeOrAfter, Appends}
+use Rattle.history_journal.specs.Appending.{IsSettled, IsNoneOrAll, AppendsAll}
 use Rattle.history_journal.specs.Journals.{WouldTake, IsBeforeOrTaken, TakesOn, IsKeptJournal}
 use Rattle.history_journal.specs.NotTaken.{IsNotTaken}
 use Rattle.history_journal.specs.declared.stops.KeepStop.TheVariants as keeps
-use Rattle.history_journal.proofs.Bytes.{open-push}
+use Rattle.history_journal.proofs.Bytes.{open-append}
 use Rattle.history_journal.proofs.Moments.{started}
 
 pub records_push : (h : List ItemTerm) (e : EntryTerm) → records_of (h ++ took e ∷ []) ≡ records_of h ++ entry_line e ∷ []
@@ -40,7 +40,7 @@ pub is_journal : (h : List ItemTerm) (c : List ℕ) → AllByRecursion IsShort h
 is_journal h c short image = record { short = short; image = image }
 
 pub before_or_taken : (w : WorldTerm) (e : EntryTerm) → AllByRecursion IsShort w.history → length (entry_line e) ≤ 1048576 → WouldTake w e
-    → (c : List ℕ) → IsBeforeOrAfter (records_of w.history) (entry_line e) c → IsBeforeOrTaken w e c
+    → (c : List ℕ) → IsNoneOrAll (records_of w.history) (entry_line e) [] c → IsBeforeOrTaken w e c
 before_or_taken w e all short takes c left = ⊎_elim
     (λ before. inl (record { short = all; image = before }))
     (λ after. inr (
@@ -63,7 +63,7 @@ weaker old new P Q run all = record {
 -- where the closed gate stands behind one record more
 place_next : (h : List (List ℕ)) (r : List ℕ) (gate next : ℕ) → gate ≡ length (open_records h) → next ≡ gate + length r + 5 → next ≡ length (open_records (h ++ r ∷ []))
 place_next h r gate next is more =
-    omega (arith, is, more, ap length (open-push h r []), length-append (open_records (h ++ r ∷ [])) [], length-append (open_records h) (1 ∷ (record_bytes r ++ [])), length-append (record_bytes r) [])
+    omega (arith, is, more, ap length (open-append h r [] []), length-append (open_records (h ++ r ∷ [])) [], length-append (open_records h) (1 ∷ (record_bytes r ++ [])), length-append (record_bytes r) [])
 
 module _ (d0 d1 : DiskTold) (w : WorldTerm) (e : EntryTerm) (gate : ℕ) (closed : Bool) (kept : IsKeptJournal d0 w gate closed) (r : List ℕ) (r_is : r ≡ entry_line e) (short : length r ≤ 1048576) where
   fits : length (entry_line e) ≤ 1048576
@@ -74,7 +74,7 @@ module _ (d0 d1 : DiskTold) (w : WorldTerm) (e : EntryTerm) (gate : ℕ) (closed
 
   -- what a journal keeps once its entry is committed
   pub kept_on : (new : WorldTerm) (t : State) (next : ℕ) → new ≡ with_entry w e t → next ≡ gate + length r + 5 → d1.honest ≡ d0.honest
-      → ((h : List (List ℕ)) → IsHonest d0 → IsSettled d0 h → gate ≡ length (open_records h) → Appends d0 h r d1 done.Done)
+      → ((h : List (List ℕ)) → IsHonest d0 → IsSettled d0 h → gate ≡ length (open_records h) → AppendsAll d0 h r [] d1 done.Done)
       → IsKeptJournal d1 new next closed
   kept_on new t next is more same appends = record {
     rest = ap (λ (x : WorldTerm). x.next) is;
@@ -87,19 +87,19 @@ module _ (d0 d1 : DiskTold) (w : WorldTerm) (e : EntryTerm) (gate : ℕ) (closed
 
   -- a crash at any moment of the calls that appended it, or that failed
   pub any_appended : (answer : DiskDone) → closed ≡ false → IsHonest d0 → WouldTake w e
-      → ((h : List (List ℕ)) → IsHonest d0 → IsSettled d0 h → gate ≡ length (open_records h) → Appends d0 h r d1 answer)
+      → ((h : List (List ℕ)) → IsHonest d0 → IsSettled d0 h → gate ≡ length (open_records h) → AppendsAll d0 h r [] d1 answer)
       → LeavesOnly d0 d1 (IsBeforeOrTaken w e)
   any_appended answer free honest takes appends =
-      weaker d0 d1 (IsBeforeOrAfter (records_of w.history) r) (IsBeforeOrTaken w e)
+      weaker d0 d1 (IsNoneOrAll (records_of w.history) r []) (IsBeforeOrTaken w e)
       (appends (records_of w.history) honest (kept.settled free honest) kept.place).any_moment
-      (λ c left. before_or_taken w e kept.short fits takes c (subst (λ (l : List ℕ). IsBeforeOrAfter (records_of w.history) l c) r_is left))
+      (λ c left. before_or_taken w e kept.short fits takes c (subst (λ (l : List ℕ). IsNoneOrAll (records_of w.history) l [] c) r_is left))
 
   -- and after them
   pub now_appended : (answer : DiskDone) → closed ≡ false → IsHonest d0 → WouldTake w e
-      → ((h : List (List ℕ)) → IsHonest d0 → IsSettled d0 h → gate ≡ length (open_records h) → Appends d0 h r d1 answer)
+      → ((h : List (List ℕ)) → IsHonest d0 → IsSettled d0 h → gate ≡ length (open_records h) → AppendsAll d0 h r [] d1 answer)
       → (c : List ℕ) → d1.may_leave c → IsBeforeOrTaken w e c
   now_appended answer free honest takes appends c left =
-      before_or_taken w e kept.short fits takes c (subst (λ (l : List ℕ). IsBeforeOrAfter (records_of w.history) l c) r_is
+      before_or_taken w e kept.short fits takes c (subst (λ (l : List ℕ). IsNoneOrAll (records_of w.history) l [] c) r_is
       ((appends (records_of w.history) honest (kept.settled free honest) kept.place).now c left))
 
 -- a crash at any moment of a call that doesn't touch the disk

@@ -1,18 +1,19 @@
-ghost use Rattle.std.specs.Prelude.{◌≡◌, ◌+◌, ◌^◌, ◌<◌, ◌≤◌, ◌++◌, ◌∷◌, [], List, ℕ, length};
+ghost use Rattle.std.specs.Prelude.{◌≡◌, ◌+◌, ◌^◌, ◌<◌, ◌≤◌, List, ℕ, length};
 ghost use Rattle.outer_io.specs.Causes.{Rose};
 ghost use Rattle.outer_disks.specs.Disks.{IsHonest};
-ghost use Rattle.journal_bytes.specs.Records.{open_records, record_bytes, FitsRecord};
-ghost use Rattle.history_journal.specs.Appending.{IsSettled, Appends};
+ghost use Rattle.journal_bytes.specs.Records.{open_records};
+ghost use Rattle.history_journal.specs.Appending.{group_piece, AllFit, IsSettled, AppendsAll};
 
 use outer_disks::{Disk, DiskDone};
 
-/// Appends a record: its piece goes behind the closed gate at `gate`, with a closed gate at its end, and once that is sure the gate is opened.
-pub(crate) fn append<D: Disk>(disk: &mut D, gate: u64, piece: &[u8]) -> DiskDone
+/// Appends records that count at once: the first one, open gates with the others, and a closed gate go behind the closed gate at `gate`, and
+/// once they are sure it is opened. A crash at any moment leaves all of them or none.
+pub fn append_all<D: Disk>(disk: &mut D, gate: u64, piece: &[u8]) -> DiskDone
     requires gate { IsHonest (D.told disk.old) → gate < length (D.told disk.old).seen }
     requires some { 0 < length piece.now }
     requires room { gate + 1 + length piece.now < 2 ^ 63 }
-    ensures appends { (h : List (List ℕ)) (r : List ℕ) → IsHonest (D.told disk.old) → IsSettled (D.told disk.old) h → gate ≡ length (open_records h)
-        → FitsRecord r → piece.now ≡ record_bytes r ++ 0 ∷ [] → Appends (D.told disk.old) h r (D.told disk.new) result }
+    ensures appends { (h : List (List ℕ)) (r : List ℕ) (more : List (List ℕ)) → IsHonest (D.told disk.old) → IsSettled (D.told disk.old) h → gate ≡ length (open_records h)
+        → AllFit r more → piece.now ≡ group_piece r more → AppendsAll (D.told disk.old) h r more (D.told disk.new) result }
     ensures honest { (D.told disk.new).honest ≡ (D.told disk.old).honest }
     ensures count { (D.told disk.old).faults ≤ (D.told disk.new).faults }
     ensures failed { result ≡ DiskDone.Failed → Rose (D.told disk.old).faults (D.told disk.new).faults }

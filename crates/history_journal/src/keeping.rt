@@ -3,7 +3,7 @@ ghost use Rattle.outer_disks.specs.Disks.{IsHonest};
 ghost use Rattle.journal_bytes.specs.Records.{open_records};
 ghost use Rattle.history_journal.specs.Appending.{IsSettled, KeepsRecord, LeavesDisk, IsKeptWhen};
 
-use crate::appending::append;
+use crate::appending::append_all;
 use journal_bytes::behind_gate;
 use outer_disks::{Disk, DiskDone};
 use std::alloc::Global;
@@ -44,7 +44,7 @@ pub fn keep<D: Disk>(alloc: Global, disk: &mut D, gate: u64, entry: &[u8]) -> Ke
     let Ok(piece) = behind_gate(alloc, entry) else {
         return Kept::Memory;
     };
-    match append(disk, gate, &piece) {
+    match append_all(disk, gate, &piece) {
         DiskDone::Done => Kept::Done(gate + piece.len() as u64),
         DiskDone::Failed => Kept::Fault,
     }

@@ -8,6 +8,7 @@ mod making;
 mod staging;
 mod stops;
 
+pub use appending::append_all;
 pub use journal::Journal;
 pub use keeping::{Kept, keep};
 pub use making::create;
