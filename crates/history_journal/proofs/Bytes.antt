@@ -5,7 +5,7 @@ use Rattle.std.proofs.lemmas.List.{take_at, drop_at, drop_more, take_all}
 use Rattle.std.proofs.lemmas.Bool.{cases_eq}
 use Rattle.outer_disks.specs.Writing.{IsWithPiece, IsTorn}
 use Rattle.journal_bytes.specs.Records.{record_bytes, open_records, FitsRecord, IsImageOf}
-use Rattle.history_journal.specs.Appending.{group_piece, AllFit, IsNoneOrAll}
+use Rattle.history_journal.specs.Appending.{group_piece, FitTogether, IsNoneOrAll}
 
 pub open-append : (h : List (List ℕ)) (r : List ℕ) (more : List (List ℕ)) (rest : List ℕ)
     → open_records (h ++ r ∷ more) ++ rest ≡ open_records h ++ 1 ∷ (record_bytes r ++ (open_records more ++ rest))
@@ -14,7 +14,7 @@ open-append (q ∷ h) r more rest = ap (λ (l : List ℕ). 1 ∷ l)
     (append_assoc (record_bytes q) (open_records (h ++ r ∷ more)) rest ∙ (ap (λ (l : List ℕ). record_bytes q ++ l) (open-append h r more rest)
     ∙ sym (append_assoc (record_bytes q) (open_records h) (1 ∷ (record_bytes r ++ (open_records more ++ rest))))))
 
-pub fits-append : (h : List (List ℕ)) (r : List ℕ) (more : List (List ℕ)) → AllByRecursion FitsRecord h → AllFit r more → AllByRecursion FitsRecord (h ++ r ∷ more)
+pub fits-append : (h : List (List ℕ)) (r : List ℕ) (more : List (List ℕ)) → AllByRecursion FitsRecord h → FitTogether r more → AllByRecursion FitsRecord (h ++ r ∷ more)
 fits-append [] r more all fits = fits
 fits-append (q ∷ h) r more all fits = (all.0, fits-append h r more all.1 fits)
 
@@ -23,7 +23,7 @@ abbrev pub staged : List (List ℕ) → ℕ → List ℕ → List (List ℕ) →
 staged rs g r more rest = open_records rs ++ g ∷ (record_bytes r ++ (open_records more ++ 0 ∷ rest))
 
 -- whatever the gate is, they count or they don't
-pub staged_image : (rs : List (List ℕ)) (g : ℕ) (r : List ℕ) (more : List (List ℕ)) (rest : List ℕ) → AllByRecursion FitsRecord rs → AllFit r more
+pub staged_image : (rs : List (List ℕ)) (g : ℕ) (r : List ℕ) (more : List (List ℕ)) (rest : List ℕ) → AllByRecursion FitsRecord rs → FitTogether r more
     → IsNoneOrAll rs r more (staged rs g r more rest)
 staged_image rs g r more rest all fits = elim (cases_eq g 1) [
   | inl open_gate ↦ inr (record {
@@ -101,7 +101,7 @@ module _ (rs : List (List ℕ)) (g : ℕ) (r : List ℕ) (more : List (List ℕ)
       ∙ drop_at (open_records rs ++ g ∷ []) tail (at + 1) (length-append (open_records rs) (g ∷ []))
 
   -- the records stand whole in each outcome of a write of their gate
-  pub torn_gate : (c : List ℕ) → AllByRecursion FitsRecord rs → AllFit r more → IsTorn at 1 (staged rs g r more end) c → IsNoneOrAll rs r more c
+  pub torn_gate : (c : List ℕ) → AllByRecursion FitsRecord rs → FitTogether r more → IsTorn at 1 (staged rs g r more end) c → IsNoneOrAll rs r more c
   torn_gate c all fits torn =
       let least : min at (length now) ≡ at = omega (arith, staged_long) in
       let start : take at c ≡ open_records rs = sym (ap (λ (k : ℕ). take k c) least) ∙ (torn.before ∙ (ap (λ (k : ℕ). take k now) least ∙ front_is)) in
@@ -113,7 +113,7 @@ module _ (rs : List (List ℕ)) (g : ℕ) (r : List ℕ) (more : List (List ℕ)
       subst (λ (l : List ℕ). IsNoneOrAll rs r more l) (sym is) (staged_image rs (get_or c at 0) r more end all fits)
 
   -- with their gate open they count
-  pub written_gate : (e : List ℕ) → AllByRecursion FitsRecord rs → AllFit r more → IsWithPiece (staged rs g r more end) at (1 ∷ []) e → IsImageOf e (rs ++ r ∷ more)
+  pub written_gate : (e : List ℕ) → AllByRecursion FitsRecord rs → FitTogether r more → IsWithPiece (staged rs g r more end) at (1 ∷ []) e → IsImageOf e (rs ++ r ∷ more)
   written_gate e all fits written = record {
     fit = fits-append rs r more all fits;
     gate = 0;

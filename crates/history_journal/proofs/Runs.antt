@@ -4,10 +4,10 @@ use Rattle.outer_disks.specs.Disks.{DiskTold, IsHonest, KeepsTime, WritesAt, Syn
 use Rattle.outer_disks.specs.declared.disk.DiskDone.{DiskDone}
 use Rattle.outer_disks.specs.declared.disk.DiskDone.TheVariants as done
 use Rattle.journal_bytes.specs.Records.{open_records}
-use Rattle.history_journal.specs.Appending.{group_piece, AllFit, IsSettled, AppendsAll}
+use Rattle.history_journal.specs.Appending.{group_piece, FitTogether, IsSettled, AppendsAll}
 use Rattle.history_journal.proofs.Steps.{still_honest, IsBehind, HasStaged, IsOpening, first_write, first_written, first_sync, still_staged, second_write, second_written, second_sync, behind_appends, opening_appends}
 
-module _ (h : List (List ℕ)) (r : List ℕ) (more : List (List ℕ)) (gate : ℕ) (piece : List ℕ) (gate_is : gate ≡ length (open_records h)) (fits : AllFit r more)
+module _ (h : List (List ℕ)) (r : List ℕ) (more : List (List ℕ)) (gate : ℕ) (piece : List ℕ) (gate_is : gate ≡ length (open_records h)) (fits : FitTogether r more)
     (piece_is : piece ≡ group_piece r more) (d0 : DiskTold) (time : KeepsTime d0) (honest : IsHonest d0) (settled : IsSettled d0 h) where
   wrote : (d1 : DiskTold) (a : DiskDone) → WritesAt d0 (gate + 1) piece d1 a → WritesAt d0 (length (open_records h) + 1) piece d1 a
   wrote d1 a w = subst (λ (k : ℕ). WritesAt d0 (k + 1) piece d1 a) gate_is w

@@ -6,14 +6,14 @@ use Rattle.outer_disks.specs.Disks.{DiskTold, IsHonest, KeepsTime, LeavesOnly, W
 use Rattle.outer_disks.specs.declared.disk.DiskDone.{DiskDone}
 use Rattle.outer_disks.specs.declared.disk.DiskDone.TheVariants as done
 use Rattle.journal_bytes.specs.Records.{open_records, FitsRecord, IsImageOf}
-use Rattle.history_journal.specs.Appending.{group_piece, AllFit, IsSettled, IsNoneOrAll, AppendsAll}
+use Rattle.history_journal.specs.Appending.{group_piece, FitTogether, IsSettled, IsNoneOrAll, AppendsAll}
 use Rattle.history_journal.proofs.Bytes.{staged, torn_behind, written_behind, torn_gate, written_gate}
 use Rattle.history_journal.proofs.Moments.{started, goes_on}
 
 pub still_honest : (old new : DiskTold) → new.honest ≡ old.honest → IsHonest old → IsHonest new
 still_honest old new same h = subst IsTrue (sym same) h
 
-module _ (h : List (List ℕ)) (r : List ℕ) (more : List (List ℕ)) (all : AllByRecursion FitsRecord h) (fits : AllFit r more) where
+module _ (h : List (List ℕ)) (r : List ℕ) (more : List (List ℕ)) (all : AllByRecursion FitsRecord h) (fits : FitTogether r more) where
   -- the gate is closed still, whatever stands behind it
   pub record IsBehind (old new : DiskTold) : Type 0 where
     pub any : LeavesOnly old new (IsNoneOrAll h r more)

@@ -20,8 +20,8 @@ abbrev pub group_piece : List ℕ → List (List ℕ) → List ℕ
 group_piece r more = record_bytes r ++ (open_records more ++ 0 ∷ [])
 
 -- each of them is short enough
-abbrev pub AllFit : List ℕ → List (List ℕ) → Type 0
-AllFit r more = AllByRecursion FitsRecord (r ∷ more)
+abbrev pub FitTogether : List ℕ → List (List ℕ) → Type 0
+FitTogether r more = AllByRecursion FitsRecord (r ∷ more)
 
 -- an image of these records, or of these with all of those behind them
 abbrev pub IsNoneOrAll : List (List ℕ) → List ℕ → List (List ℕ) → List ℕ → Type 0

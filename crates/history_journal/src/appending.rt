@@ -2,7 +2,7 @@ ghost use Rattle.std.specs.Prelude.{◌≡◌, ◌+◌, ◌^◌, ◌<◌, ◌≤
 ghost use Rattle.outer_io.specs.Causes.{Rose};
 ghost use Rattle.outer_disks.specs.Disks.{IsHonest};
 ghost use Rattle.journal_bytes.specs.Records.{open_records};
-ghost use Rattle.history_journal.specs.Appending.{group_piece, AllFit, IsSettled, AppendsAll};
+ghost use Rattle.history_journal.specs.Appending.{group_piece, FitTogether, IsSettled, AppendsAll};
 
 use outer_disks::{Disk, DiskDone};
 
@@ -13,7 +13,7 @@ pub fn append_all<D: Disk>(disk: &mut D, gate: u64, piece: &[u8]) -> DiskDone
     requires some { 0 < length piece.now }
     requires room { gate + 1 + length piece.now < 2 ^ 63 }
     ensures appends { (h : List (List ℕ)) (r : List ℕ) (more : List (List ℕ)) → IsHonest (D.told disk.old) → IsSettled (D.told disk.old) h → gate ≡ length (open_records h)
-        → AllFit r more → piece.now ≡ group_piece r more → AppendsAll (D.told disk.old) h r more (D.told disk.new) result }
+        → FitTogether r more → piece.now ≡ group_piece r more → AppendsAll (D.told disk.old) h r more (D.told disk.new) result }
     ensures honest { (D.told disk.new).honest ≡ (D.told disk.old).honest }
     ensures count { (D.told disk.old).faults ≤ (D.told disk.new).faults }
     ensures failed { result ≡ DiskDone.Failed → Rose (D.told disk.old).faults (D.told disk.new).faults }
