@@ -1,0 +1,5 @@
+pub mod Appending
+pub mod Staging
+pub mod Journals
+pub mod NotTaken
+pub mod Making

@@ -1,0 +1,3 @@
+pub mod Records
+pub mod HistoryRecords
+pub mod ReadRecords

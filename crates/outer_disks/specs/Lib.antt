@@ -1,0 +1,4 @@
+pub mod Writing
+pub mod Disks
+pub mod OpenDisks
+pub mod MemDisks
