@@ -19,7 +19,7 @@ returns-in-Ok-clause-ran g c =
       c.in-Ok.ensures.opened,
       subst (λ (f : LineForm). RanScript (Tells f limits.line (world_term c.in-Ok.world) 1) limits.script left_old left_new taken_old taken_new
           c.run_script.result) c.new-runner.ensures.form
-          (subst (λ (w : SeenWorld). RanScript (Tells runner.form limits.line (world_term w) 1) limits.script left_old left_new taken_old taken_new
+          (subst (λ (w : SeenWorld). RanScript (Tells runner.answering.form limits.line (world_term w) 1) limits.script left_old left_new taken_old taken_new
           c.run_script.result) c.new-runner.ensures.world c.run_script.ensures.ran),
     )
 
