@@ -46,7 +46,7 @@ pub trait Disk {
         ensures failed { result ≡ DiskGot.Failed → Rose (told self.old).faults (told self.new).faults }
         ensures exact { (told self.new).faults ≡ faults_after_got (told self.old).faults result };
 
-    /// WritesAt a whole piece over what is there, and past the end. Until a sync a crash may leave any bytes in its range. A write
+    /// Writes a whole piece over what is there, and past the end. Until a sync a crash may leave any bytes in its range. A write
     /// that failed leaves the bytes outside, too.
     fn write_at(&mut self, at: u64, piece: &[u8]) -> DiskDone
         requires some { 0 < length piece.now }

@@ -25,8 +25,9 @@ use tophat::{CommandEnding, perform};
 /// Does what the words of a command line ask for, without the program's own name.
 ///
 /// `run FILE` reads the program in FILE, opens it, and runs the script on the input; `check FILE` writes the program's text again;
-/// `soak N SEED` runs inputs of its own; `bound FILE` writes what the program costs at most; `drill SEATS N` lets seats act at once; `serve FILE` opens the program in FILE, and serves it over HTTP
-/// at a port (docs/FORMATS.md, "Words" and "Statuses"). A fault of `err` changes no status. A gate that was had comes back in each case.
+/// `bound FILE` writes what the program costs at most; `soak N SEED` runs inputs of its own; `drill SEATS N` lets seats act at once;
+/// `serve FILE` opens the program in FILE, and serves it over HTTP at a port (docs/FORMATS.md, "Words" and "Statuses"). A fault of
+/// `err` changes no status. A gate that was had comes back in each case.
 pub fn tophat<
     F: Files,
     I: Source,
