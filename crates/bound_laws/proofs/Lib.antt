@@ -1,0 +1,11 @@
+pub mod CutLemmas
+pub mod Does
+pub mod Holds
+pub mod ValueCosts
+pub mod TaskCosts
+pub mod StrideCosts
+pub mod TreeCosts
+pub mod TableLemmas
+pub mod HandlingCosts
+pub mod HistoryBounds
+pub mod PromiseLemmas
