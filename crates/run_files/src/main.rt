@@ -1,7 +1,12 @@
-//! Asks for files of the system, each within a limit, and says what comes of each.
+//! Asks for files of the system, each within a limit, and then for disks, and says what comes of each.
 #![tactic(auto)]
 
-use outer_io::{FileAnswer, Files, Sink, SystemFiles, WriterSink, Written, write_all};
+mod disk_tries;
+mod lines;
+
+use crate::disk_tries::try_disks;
+use crate::lines::{Unsaid, say};
+use outer_io::{FileAnswer, Files, Sink, SystemFiles, WriterSink};
 use std::process::ExitCode;
 use task_model::{OutOfMemory, TaskText};
 
@@ -21,19 +26,31 @@ const TRIES: &[(&str, u64)] = &[
     ("/root", 26),
 ];
 
+/// Names that are asked for once more when disks were tried: one that was only looked at, and those that were written.
+const LATER_TRIES: &[(&str, u64)] = &[("none", 26), ("new", 26), ("twice", 26), ("gone", 26)];
+
 fn main(rt: HostRuntime) -> ExitCode {
     let mut out = WriterSink::new(rt.stdout());
-    let mut files = SystemFiles::new(&rt);
-    for (name, limit) in TRIES {
+    let said = try_files(&rt, &mut out, TRIES)
+        .and_then(|()| try_disks(&rt, &mut out))
+        .and_then(|()| try_files(&rt, &mut out, LATER_TRIES));
+    match said {
+        Ok(()) => ExitCode::SUCCESS,
+        Err(Unsaid) => ExitCode::FAILURE,
+    }
+}
+
+/// Asks for each of these files within its limit, and says what comes of it.
+fn try_files<O: Sink>(rt: &HostRuntime, out: &mut O, tries: &[(&str, u64)]) -> Result<(), Unsaid> {
+    let mut files = SystemFiles::new(rt);
+    for (name, limit) in tries {
         let answer = match TaskText::of(rt.alloc(), name) {
             Ok(text) => files.read_whole(rt.alloc(), &text, *limit),
             Err(OutOfMemory) => FileAnswer::Memory,
         };
-        if !says(&mut out, name, *limit, &answer) {
-            return ExitCode::FAILURE;
-        }
+        says(out, name, *limit, &answer)?;
     }
-    ExitCode::SUCCESS
+    Ok(())
 }
 
 /// What came of a request.
@@ -47,21 +64,19 @@ fn shown(answer: &FileAnswer) -> &[u8] {
     }
 }
 
-/// Whether a line that says what came of a request was written whole.
-fn says<O: Sink>(out: &mut O, name: &str, limit: u64, answer: &FileAnswer) -> bool {
+/// Says what came of a request.
+fn says<O: Sink>(out: &mut O, name: &str, limit: u64, answer: &FileAnswer) -> Result<(), Unsaid> {
     let mut number = itoa::Buffer::new();
-    for text in [
-        b"[".as_slice(),
-        name.as_bytes(),
-        b"] within ",
-        number.format(limit).as_bytes(),
-        b": ",
-        shown(answer),
-        b"\n",
-    ] {
-        if write_all(out, text) == Written::Failed {
-            return false;
-        }
-    }
-    true
+    say(
+        out,
+        &[
+            b"[",
+            name.as_bytes(),
+            b"] within ",
+            number.format(limit).as_bytes(),
+            b": ",
+            shown(answer),
+            b"\n",
+        ],
+    )
 }
