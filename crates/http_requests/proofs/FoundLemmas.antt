@@ -10,8 +10,8 @@ use Rattle.http_heads.specs.Checks.{is_end, ends_connection, body_taken}
 use Rattle.http_heads.specs.Spans.{FailsAsBlock, PassesAsBlock}
 use Rattle.http_heads.proofs.EndLemmas.{take_short, length_take, head_within}
 use Rattle.http_heads.proofs.CheckLemmas.{taken_within}
-use Rattle.http_requests.specs.Requests.{AskedTerm, RequestTerm, IsAskedBy, refusal_of, request_of, IsRequest, endless, crowded, garbled}
-use Rattle.http_requests.specs.Streams.{BeginsWith}
+use Rattle.http_requests.specs.Requests.{AskedTerm, RequestTerm, IsAskedBy, refusal_of, request_of, IsRequest, endless, crowded, garbled, headed}
+use Rattle.http_requests.specs.Streams.{BeginsWith, BeginsWithRequest}
 use Rattle.http_requests.specs.RequestReading.{IsUnfinished}
 use Rattle.http_requests.specs.Knowledge.{AreWanted, HasSize}
 use Rattle.http_requests.proofs.SomeRequest.{some_asked, whole, unfinished_body}
@@ -124,18 +124,59 @@ fits_body bytes end facts passes ends =
     omega (arith, most, taken, few)
 
 -- ---- how many bytes a request has
+-- the front of bytes is that of all that follow
+take_front : (n : ℕ) (t more : Text) → n ≤ length t → take n (t ++ more) ≡ take n t
+take_front zero t more le = refl
+take_front (suc n) [] more le = absurd (omega arith)
+take_front (suc n) (b ∷ t) more le = ap (λ l. b ∷ l) (take_front n t more (omega arith))
+
+-- all bytes of the body are there
+whole_there : (bytes : Text) (end : ℕ) (facts : HeadFacts) → PassesAsBlock (without_blanks (take end bytes)) facts → end ≤ length bytes
+    → head_length (take end bytes) ≡ Some end → end + facts.taken ≤ length bytes → BeginsWithRequest bytes
+whole_there bytes end facts passes within ends all =
+    let (a, by) = some_asked passes.head (take facts.taken (drop end bytes)) in
+    (_, _, whole_front bytes end facts passes within ends all a by _ refl)
+
 pub size_of_head : (bytes : Text) (end : ℕ) (facts : HeadFacts) → PassesAsBlock (without_blanks (take end bytes)) facts → end ≤ length bytes
     → head_length (take end bytes) ≡ Some end → HasSize (end + facts.taken) bytes
 size_of_head bytes end facts passes within ends = record {
   wanted = wanted_front bytes end facts passes within ends;
-  whole = λ all.
-      let (a, by) = some_asked passes.head (take facts.taken (drop end bytes)) in
-      (_, _, whole_front bytes end facts passes within ends all a by _ refl);
+  enough = λ more all.
+      let same = take_front end bytes more within in
+      let sizes = length-append bytes more in
+      whole_there (bytes ++ more) end facts (subst (λ t. PassesAsBlock (without_blanks t) facts) (sym same) passes)
+      (omega (arith, within, sizes)) (ap head_length same ∙ ends) all;
 }
 
 pub size_of_refused : (bytes : Text) (end : ℕ) (check : Check) → end ≤ length bytes → head_length (take end bytes) ≡ Some end
     → FailsAsBlock (without_blanks (take end bytes)) check → HasSize end bytes
 size_of_refused bytes end check within ends fails = record {
   wanted = λ more ended short. let size = length-append bytes more in absurd (omega (arith, size, within, short));
-  whole = λ all. (_, _, refused_front bytes end check (refusal_of check end) within ends fails refl);
+  enough = λ more all.
+      let same = take_front end bytes more within in
+      let fails' = subst (λ t. FailsAsBlock (without_blanks t) check) (sym same) fails in
+      (_, _, refused_front (bytes ++ more) end check (refusal_of check end) all (ap head_length same ∙ ends) fails' refl);
+}
+
+-- a request has the bytes that it is
+request_length : (front : Text) (r : RequestTerm) → IsRequest front r → r.length ≡ length front
+request_length front r (endless n l e) = ap (λ z. z.length) e
+request_length front r (crowded n l e) = ap (λ z. z.length) e
+request_length front r (garbled n l o e) = ap (λ z. z.length) e
+request_length front r (headed head body split n l h is p a by e) = ap (λ z. z.length) e
+
+-- a request that is whole has its length as its size
+pub size_of_whole : (bytes rest : Text) (r : RequestTerm) → BeginsWith bytes r rest → HasSize r.length bytes
+size_of_whole bytes rest r b = record {
+  wanted = λ more ended short.
+      let size = length-append bytes more in
+      let parts = ap length b.split in
+      let sum = length-append b.front rest in
+      let front = request_length b.front r b.is in
+      absurd (omega (arith, size, parts, sum, front, short));
+  enough = λ more all. (
+    r,
+    rest ++ more,
+    record { front = b.front; split = ap (λ z. z ++ more) b.split ∙ append_assoc b.front rest more; is = b.is },
+  );
 }

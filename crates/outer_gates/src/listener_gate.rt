@@ -30,10 +30,8 @@ const EVENTS: usize = 64;
 // another one.
 const PAUSE: u64 = 50;
 
-// The socket that listens, and a client, in what waits tell.
+// The socket that listens, in what waits tell.
 const LISTENER: Token = Token(0);
-
-const CLIENT: Token = Token(1);
 
 // The numbers of the system's errors: the system has too many open files (ENFILE), and the process has (EMFILE).
 const FILES_OF_ALL: i32 = 23;
@@ -58,8 +56,8 @@ impl From<OutOfMemory> for GateStop {
 /// A gate over a socket of the system that listens. It tells its count alone, and never answers `Closed`.
 ///
 /// A link is handed out once its first request is there whole. Until then its client costs a place among 256 and the memory of what
-/// it has sent, and no more. It is closed where that never comes: it goes, its time for a request is over, or there is no memory for
-/// it. Where all places are taken and another client comes, the client that has waited for longest is closed; and so it is where too
+/// it has sent, and no more. It is read when it comes, and when a wait tells of it. It is closed where that request never comes: it goes,
+/// its time for it is over, or there is no memory for it. Where all places are taken and another client comes, the client that has waited for longest is closed; and so it is where too
 /// many files are open, once it has waited for 50 milliseconds. None of these is a link or a fault, nor is a client that goes before it
 /// was accepted, up to 1,000 in a row. All else that the system refuses is a fault.
 #[derive(Drop)]
@@ -145,10 +143,12 @@ impl<'r, R: Clock> ListenerGate<'r, R> {
             }
             match self.next_client() {
                 Ok(Some(mut stream)) => {
-                    if self.watch_client(&mut stream).is_err() {
+                    let token = self.waiting.next_token();
+                    if self.watch_client(&mut stream, token).is_err() {
                         return Admitted::Failed;
                     }
-                    self.waiting.keep(Client::new(self.alloc, stream, now));
+                    self.waiting
+                        .keep(Client::new(self.alloc, stream, token, now));
                 }
                 Ok(None) => return Admitted::All,
                 Err(error) if are_too_many_files(&error) => return Admitted::NoFile,
@@ -158,11 +158,11 @@ impl<'r, R: Clock> ListenerGate<'r, R> {
         Admitted::Failed
     }
 
-    // Has waits end when this client sends something, or goes.
-    fn watch_client(&self, stream: &mut TcpStream) -> io::Result<()> {
+    // Has waits end, and tell this token, when this client sends something or goes.
+    fn watch_client(&self, stream: &mut TcpStream, token: Token) -> io::Result<()> {
         self.poll
             .registry()
-            .register(stream, CLIENT, Interest::READABLE)
+            .register(stream, token, Interest::READABLE)
     }
 
     // The first client whose first request is there whole. It waits for one. None: the system refused something.
@@ -203,7 +203,9 @@ impl<'r, R: Clock> ListenerGate<'r, R> {
     fn wait(&mut self, time: Option<Duration>) -> Option<()>
         ensures { (self.new.faults ≡ self.old.faults) × (self.new.first ≡ self.old.first) × (self.new.times ≡ self.old.times) }
     {
-        self.poll.poll(&mut self.events, time).ok()
+        self.poll.poll(&mut self.events, time).ok()?;
+        tell_all(&self.events, &mut self.waiting);
+        Some(())
     }
 
     // Waits for a file, where too many are open; or closes the client that has waited for longest, where it had some time and another
@@ -262,6 +264,13 @@ impl<'r, R: Clock> ListenerGate<'r, R> {
     {
         let ready = self.next_ready()?;
         self.link(ready)
+    }
+}
+
+// Tells the clients of which a wait told that they have sent something, or gone.
+fn tell_all(events: &Events, waiting: &mut WaitingClients) {
+    for event in events.iter() {
+        waiting.tell(event.token());
     }
 }
 

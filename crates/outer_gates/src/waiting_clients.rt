@@ -3,6 +3,7 @@ ghost use Rattle.http_requests.specs.Streams.{BeginsWithRequest};
 
 use crate::arrival::Arrival;
 use crate::client::Client;
+use mio::Token;
 use mio::net::TcpStream;
 use std::alloc::Global;
 use std::time::{Duration, Instant};
@@ -15,6 +16,8 @@ const MOST: usize = 256;
 #[derive(Drop)]
 pub(crate) struct WaitingClients {
     clients: Vec<Client>,
+    // how many were told apart so far
+    count: usize,
     ghost room: { 256 ≤ vec_capacity clients },
 }
 
@@ -32,7 +35,7 @@ impl WaitingClients {
     {
         let mut clients = Vec::new(alloc);
         clients.reserve(MOST)?;
-        Ok(WaitingClients { clients })
+        Ok(WaitingClients { clients, count: 0 })
     }
 
     /// Whether no client waits.
@@ -47,6 +50,27 @@ impl WaitingClients {
         ensures { IsTrue result ↔ (256 ≤ length self.now.clients.items) }
     {
         self.clients.len() >= MOST
+    }
+
+    /// What waits tell the next one by, which isn't 0.
+    pub(crate) fn next_token(&mut self) -> Token
+        ensures { self.new.clients ≡ self.old.clients }
+    {
+        self.count = self.count.checked_add(1).unwrap_or(1);
+        Token(self.count)
+    }
+
+    /// A wait told that the client of this token has sent something, or gone.
+    pub(crate) fn tell(&mut self, token: Token)
+        ensures { length self.new.clients.items ≡ length self.old.clients.items }
+    {
+        let mut at = 0;
+        while at < self.clients.len() {
+            if self.clients[at].token() == token {
+                self.clients[at].tell();
+            }
+            at += 1;
+        }
     }
 
     /// Keeps another one. It takes no memory.
@@ -66,8 +90,8 @@ impl WaitingClients {
         }
     }
 
-    /// Takes in what the clients have sent, up to the first one whose request is there whole. Those whose requests never come are closed,
-    /// and so are those whose time is over.
+    /// Takes in what those clients have sent of which a wait told, up to the first one whose request is there whole. Those whose requests
+    /// never come are closed, and so are those whose time is over.
     pub(crate) fn take_ready(
         &mut self,
         alloc: Global,

@@ -3,6 +3,7 @@
 //! their streams tell, which for those of the system is nothing.
 #![tactic(auto)]
 
+mod call_limits;
 mod failing_calls;
 mod files;
 mod link;

@@ -5,6 +5,7 @@ ghost use Rattle.outer_io.specs.Sink.{Took, faults_after_write};
 ghost use Rattle.outer_io.specs.Source.{Gave, faults_after_read};
 ghost use Rattle.outer_io.specs.StreamLinks.{IsLinkRead, IsLinkWrite, count_beside, told_over_stream};
 
+use crate::call_limits::CallLimits;
 use crate::link::Link;
 use crate::link_times::LinkTimes;
 use crate::phase::Phase;
@@ -20,11 +21,12 @@ use std::time::{Clock, Duration, Instant};
 ///
 /// A client has so long to begin a request, so long for the rest of it, and so long to take what is
 /// written until it asks again (docs/FORMATS.md, "Times"). A call for which no time is left, or no
-/// clock tells how much, is a fault. Calls that a signal interrupts are tried again, as at
+/// clock tells how much, is a fault. The system is told of another limit only where it changes. Calls that a signal interrupts are tried again, as at
 /// `ReaderSource` and `WriterSink`. After `shut` a read answers `End`, and a write `Failed`.
 #[derive(Drop)]
 pub struct StreamLink<'r, R: Clock> {
     calls: SystemStream<TcpStream>,
+    limits: CallLimits,
     clock: &'r R,
     times: LinkTimes,
     phase: Phase,
@@ -46,6 +48,7 @@ impl<'r, R: Clock> StreamLink<'r, R> {
         let _ = stream.set_nodelay(true);
         StreamLink {
             calls: SystemStream::new(stream),
+            limits: CallLimits::new(),
             clock,
             times,
             phase: Phase::Idle,
@@ -78,18 +81,30 @@ impl<'r, R: Clock> StreamLink<'r, R> {
         }
     }
 
-    // Tells the system how long the next read may wait. False: there is no time for it.
-    fn set_read_time(&self) -> bool {
-        match self.time_to_read() {
-            Some(left) => self.calls.stream.set_read_timeout(Some(left)).is_ok(),
+    // How long a write may wait, where the time for what is written ends then. None: no time is left, or no clock tells it.
+    fn time_to_write(&self, end: Option<Instant>) -> Option<Duration> {
+        match self.phase {
+            Phase::Replying(_) => self.left_until(end),
+            Phase::Idle | Phase::Asking(_) => end.and(Some(self.times.reply)),
+        }
+    }
+
+    // Has the next read wait so long at most. False: there is no time for it.
+    fn set_read_time(&mut self, time: Option<Duration>) -> bool
+        ensures { self.new ≡ record self.old { limits = self.new.limits } }
+    {
+        match time {
+            Some(left) => self.limits.limit_reads(&self.calls.stream, left),
             None => false,
         }
     }
 
-    // Tells the system how long the next write may wait. False: there is no time for it.
-    fn set_write_time(&self, end: Option<Instant>) -> bool {
-        match self.left_until(end) {
-            Some(left) => self.calls.stream.set_write_timeout(Some(left)).is_ok(),
+    // Has the next write wait so long at most. False: there is no time for it.
+    fn set_write_time(&mut self, time: Option<Duration>) -> bool
+        ensures { self.new ≡ record self.old { limits = self.new.limits } }
+    {
+        match time {
+            Some(left) => self.limits.limit_writes(&self.calls.stream, left),
             None => false,
         }
     }
@@ -102,7 +117,8 @@ impl<'r, R: Clock> StreamLink<'r, R> {
         ensures counts { (self.new.read_faults ≡ self.old.read_faults) × (self.new.write_faults ≡ self.old.write_faults) }
         ensures told { IsLinkRead false self.new.had_time self.new.calls.last self.new.calls.interruptions result }
     {
-        self.had_time = self.set_read_time();
+        let time = self.time_to_read();
+        self.had_time = self.set_read_time(time);
         if !self.had_time {
             return Got::Failed;
         }
@@ -128,8 +144,9 @@ impl<'r, R: Clock> StreamLink<'r, R> {
             Phase::Replying(end) => end,
             Phase::Idle | Phase::Asking(_) => self.end_of(self.times.reply),
         };
+        let time = self.time_to_write(end);
         self.phase = Phase::Replying(end);
-        self.had_time = self.set_write_time(end);
+        self.had_time = self.set_write_time(time);
         if !self.had_time {
             return Put::Failed;
         }
