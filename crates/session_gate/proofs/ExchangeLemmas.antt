@@ -48,6 +48,13 @@ module _ {left : ℕ} {o m n : DeskTerm} {a b c : LinkTold} {kept mid last : Tex
       let all = versions_append rs qs in
       omega (arith, late, early, all)
 
+  both_asks : n.page_at_calls < 2 ^ 64 - 1 → o.page_at_calls + version_requests (rs ++ qs) ≤ n.page_at_calls
+  both_asks few =
+      let late = y.asks few in
+      let early = x.asks (omega (arith, few, late)) in
+      let all = versions_append rs qs in
+      omega (arith, late, early, all)
+
   pub exchange_then : Exchange left o n a c kept last (rs ++ qs) (notes ++ more) (replies ++ behind) (replies ++ written)
   exchange_then =
       let suited = suits_later rs notes m.seat (version_of o.seen) m.seen n.seen x.on.legal y.on.legal y.on.later x.rising x.suits in
@@ -75,4 +82,5 @@ module _ {left : ℕ} {o m n : DeskTerm} {a b c : LinkTold} {kept mid last : Tex
         );
         took = Appends-trans a.taken b.taken c.taken replies written x.took y.took;
         calls = both_calls;
+        asks = both_asks;
       }

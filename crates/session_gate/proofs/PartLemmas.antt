@@ -48,6 +48,7 @@ reading_exchange left d a b kept now legal r = record {
   starts = ([], refl);
   took = appends_same a.taken b.taken r.taken;
   calls = λ few. omega arith;
+  asks = λ few. omega arith;
 }
 
 -- what was written of a reply
@@ -84,6 +85,7 @@ memory_exchange left d b c kept bytes note w legal n e s = record {
   starts = part_starts b c bytes w s;
   took = part_took b c bytes w s;
   calls = λ few. omega arith;
+  asks = λ few. omega arith;
 }
 
 -- a request that is answered
@@ -118,4 +120,5 @@ answer_exchange left old new b c kept front rest bytes r note reply w split is a
       starts = part_starts b c bytes w s;
       took = part_took b c bytes w s;
       calls = λ few. let h = a.calls few in omega (arith, h);
+      asks = λ few. let h = a.asks few in omega (arith, h);
     }

@@ -14,7 +14,7 @@ use Rattle.session_desk.specs.Desks.{DeskTerm}
 use Rattle.session_gate.specs.Notes.{closes_after, is_memory, taken_entry, wants_head}
 use Rattle.session_gate.specs.Plans.{closing_status, asked_ending, ending_after}
 use Rattle.session_gate.specs.Readings.{Reading}
-use Rattle.session_gate.specs.Rounds.{AnswersAtMostOne, IsRound, IsRoundEnd}
+use Rattle.session_gate.specs.Rounds.{AnswersAtMostOne, IsOneCut, IsRound, IsRoundEnd}
 use Rattle.session_gate.specs.Sendings.{Sending}
 use Rattle.session_gate.specs.declared.answer.Answer.{Answer}
 use Rattle.session_gate.specs.declared.ending.Ending.{Ending}
@@ -51,6 +51,7 @@ module _ {left : ℕ} {old new : DeskTerm} {a b c : LinkTold} {kept mid last : T
     ending = ending_behind end [] t.requests last [] t.notes a.left b.left c.left r.bytes r.consumed tt tt e.ending;
     answered = e.answered;
     all = e.all;
+    cut = e.cut;
     read_faults = e.read_faults ∙ ap (read_faults_after end) reads;
     write_faults = e.write_faults ∙ ap (write_faults_after end) r.write_faults;
   }
@@ -68,10 +69,10 @@ module _ {left : ℕ} {old new : DeskTerm} {a b c : LinkTold} {kept mid last : T
 
 -- a round that read alone
 pub round_stops : {left : ℕ} {old : DeskTerm} {a b : LinkTold} {kept last : Text} {notes : List Note} (end : Ending) → IsLegal old.seen
-    → Reading a b kept last → IsEnding end [] last [] a.left b.left → AnswersAtMostOne end 0 → AreWritten end [] []
+    → Reading a b kept last → IsEnding end [] last [] a.left b.left → AnswersAtMostOne end 0 → AreWritten end [] [] → IsOneCut end []
     → b.read_faults ≡ read_faults_after end a.read_faults → write_faults_after end a.write_faults ≡ a.write_faults
     → IsRound left old old a b kept last notes notes (Some end)
-round_stops {left} {old} {a} {b} {kept} {last} {notes} end legal r is one written reads writes = record {
+round_stops {left} {old} {a} {b} {kept} {last} {notes} end legal r is one written cut reads writes = record {
   requests = [];
   notes = [];
   replies = [];
@@ -82,6 +83,7 @@ round_stops {left} {old} {a} {b} {kept} {last} {notes} end legal r is one writte
     ending = is;
     answered = one;
     all = written;
+    cut = cut;
     read_faults = reads;
     write_faults = r.write_faults ∙ sym writes;
   };
@@ -102,6 +104,7 @@ round_memory {left} {d} {b} {c} {kept} {bytes} {notes} {all} {note} legal n e ad
     ending = (note, ([], refl), ap (λ (z : Note). z.kind) n);
     answered = omega arith;
     all = refl;
+    cut = tt;
     read_faults = s.read_faults;
     write_faults = s.write_faults;
   };
@@ -121,6 +124,7 @@ round_memory_cut {left} {d} {b} {c} {kept} {bytes} {notes} {all} {note} legal n 
     ending = tt;
     answered = omega arith;
     all = tt;
+    cut = (note, refl);
     read_faults = s.read_faults;
     write_faults = s.write_faults;
   };
@@ -150,6 +154,7 @@ memory_answers asked old new note reply n a = record {
   on = a.on;
   own = a.own ∙ ap (λ z. old.own ++ z) (untaken old.seat note.kind asked n);
   calls = a.calls;
+  asks = a.asks;
 }
 
 or_true : (b : Bool) → (b || true) ≡ true
@@ -203,6 +208,7 @@ module _ (b c : LinkTold) (rest : Text) (note : Note) (bytes : Text) (reads : c.
     ending = (r, ([], refl), p, q, (m, tt));
     answered = omega arith;
     all = refl;
+    cut = tt;
     read_faults = reads;
     write_faults = writes;
   }
@@ -229,6 +235,7 @@ module _ (b c : LinkTold) (rest : Text) (note : Note) (bytes : Text) (reads : c.
     ending = (record { asked = refused status text true head_only; closes = closes; length = size }, ([], refl), text, head_only, refl, (m, tt));
     answered = omega arith;
     all = refl;
+    cut = tt;
     read_faults = reads;
     write_faults = writes;
   }
@@ -240,6 +247,7 @@ module _ (b c : LinkTold) (rest : Text) (note : Note) (bytes : Text) (reads : c.
     ending = (note, ([], refl), m);
     answered = omega arith;
     all = refl;
+    cut = tt;
     read_faults = reads;
     write_faults = writes;
   }
@@ -327,6 +335,7 @@ round_cut {bytes = bytes} {note = note} {r = r} begins advanced answer ready sam
     ending = tt;
     answered = omega arith;
     all = tt;
+    cut = (note, refl);
     read_faults = sent.read_faults;
     write_faults = sent.write_faults;
   };

@@ -4,16 +4,16 @@ use Rattle.std.specs.Io.KnownBytes.{Consumes}
 use Rattle.std.proofs.KnownBytes.{Appends-nil, Consumes-nil}
 use Rattle.outer_io.specs.Links.{LinkTold}
 use Rattle.task_model.specs.Terms.Text.{Text}
-use Rattle.task_model.specs.Running.State.{IsLegal}
+use Rattle.task_model.specs.Running.State.{IsLegal, version_of}
 use Rattle.http_requests.specs.Requests.{RequestTerm}
 use Rattle.session_desk.specs.Desks.{DeskTerm}
-use Rattle.session_gate.specs.Connections.{AllGoOn, AreWritten, Exchange, HasAnswered, IsEnding, IsLastOf, Served, read_faults_after, write_faults_after}
-use Rattle.session_gate.specs.Notes.{NoneIsMemory}
-use Rattle.session_gate.specs.Rounds.{AnswersAtMostOne, EndsAfter, GoesOnAfter, IsRound}
+use Rattle.session_gate.specs.Connections.{AllGoOn, AreWritten, Exchange, HasAnswered, IsCutAtLast, IsEnding, IsLastOf, Served, read_faults_after, write_faults_after}
+use Rattle.session_gate.specs.Notes.{IsJoined, NoneIsMemory}
+use Rattle.session_gate.specs.Rounds.{AnswersAtMostOne, EndsAfter, GoesOnAfter, IsOneCut, IsRound}
 use Rattle.session_gate.specs.declared.note.Note.{Note}
 use Rattle.session_gate.specs.declared.ending.Ending.{Ending}
 use Rattle.session_gate.specs.declared.ending.Ending.TheVariants as ending
-use Rattle.session_gate.proofs.ListLemmas.{gives_all, none_append, open_append}
+use Rattle.session_gate.proofs.ListLemmas.{gives_all, joined_later, none_append, open_append}
 use Rattle.session_gate.proofs.ExchangeLemmas.{exchange_then, goes_on_refl}
 
 -- So many requests were answered, all replies were written, and the connection goes on.
@@ -49,6 +49,7 @@ stands_empty d link legal = record {
     starts = ([], refl);
     took = Appends-nil link.taken;
     calls = λ few. omega arith;
+    asks = λ few. omega arith;
   };
   none_ends = tt;
   count = refl;
@@ -142,6 +143,30 @@ module _ {old now next : DeskTerm} {before mid after : LinkTold} {kept last : Te
       write_faults = g.write_faults ∙ s.write_faults;
     }
 
+    -- the replies to the requests before the round were written whole
+    cut_at_last : (end : Ending) → IsOneCut end t.notes
+        → IsCutAtLast end (s.requests ++ t.requests) all next.seat next.seen (s.replies ++ t.written)
+    cut_at_last ending.WriteFault one = record {
+      first = s.requests;
+      others = t.requests;
+      split = refl;
+      before = notes;
+      last = one.0;
+      noted = t.added ∙ ap (λ z. notes ++ z) one.1;
+      whole = s.replies;
+      joined = subst (λ (seat : ℕ). IsJoined 100 s.requests notes seat next.seen s.replies) (sym t.exchange.on.seat)
+          (joined_later 100 s.requests notes now.seat (version_of old.seen) now.seen next.seen s.replies s.exchange.on.legal
+          t.exchange.on.legal t.exchange.on.later s.exchange.rising s.exchange.joined);
+      begins = (t.written, refl);
+    }
+    cut_at_last ending.Ended one = tt
+    cut_at_last ending.Cut one = tt
+    cut_at_last ending.Parted one = tt
+    cut_at_last (ending.Refused status) one = tt
+    cut_at_last ending.Spent one = tt
+    cut_at_last ending.ReadFault one = tt
+    cut_at_last ending.Memory one = tt
+
     pub served_by : (end : Ending) → EndsAfter end mid after t.requests last t.notes t.replies t.written
         → Served old next before after all end
     served_by end e = record {
@@ -156,6 +181,7 @@ module _ {old now next : DeskTerm} {before mid after : LinkTold} {kept last : Te
       answered = answered_behind end round (length t.requests) (length (s.requests ++ t.requests)) less
           (omega (arith, length-append s.requests t.requests, s.count)) e.answered;
       all = written_behind end s.replies t.replies t.written e.all;
+      cut = cut_at_last end e.cut;
       read_faults = e.read_faults ∙ ap (read_faults_after end) s.read_faults;
       write_faults = e.write_faults ∙ ap (write_faults_after end) s.write_faults;
     }
@@ -171,6 +197,7 @@ served_spent old now before after kept notes round s full = record {
   ending = (s.none_ends, s.no_memory);
   answered = s.count ∙ full;
   all = refl;
+  cut = tt;
   read_faults = s.read_faults;
   write_faults = s.write_faults;
 }

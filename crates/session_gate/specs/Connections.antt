@@ -5,6 +5,7 @@ use Rattle.outer_io.specs.Causes.{next_count}
 use Rattle.outer_io.specs.Links.{LinkTold}
 use Rattle.outer_io.specs.Sink.{IsStart}
 use Rattle.task_model.specs.Terms.Text.{Text}
+use Rattle.task_model.specs.Terms.Item.{ItemTerm}
 use Rattle.task_model.specs.Running.State.{version_of}
 use Rattle.http_requests.specs.Requests.{RequestTerm, refused, IsRequest}
 use Rattle.http_requests.specs.Streams.{is_last, ends_asked, HasNoRequest, IsIdle}
@@ -40,7 +41,7 @@ IsLastOf {A} items item = (before : List A) × (items ≡ before ++ item ∷ [])
 -- ---- one exchange
 -- Bytes were read behind those that were kept. They hold these requests, and what is kept now. Each has its note, which suits it at what
 -- the desk has seen in the end, and the replies of the notes were written, or the first part of them. The desk's own entries grew by
--- those that were taken, and `page_at` was called no more often than versions were asked for or entries were refused.
+-- those that were taken, and `page_at` was called for each version that was asked for, and no more often than that or entries were refused.
 pub record Exchange (left : ℕ) (old new : DeskTerm) (before after : LinkTold) (kept_old kept_new : Text) (requests : List RequestTerm)
     (notes : List Note) (replies written : Text) : Type 0 where
   pub bytes : Text
@@ -60,6 +61,7 @@ pub record Exchange (left : ℕ) (old new : DeskTerm) (before after : LinkTold) 
   pub took : Appends before.taken after.taken written
   pub calls : new.refusals < 2 ^ 64 - 1
       → new.page_at_calls + old.refusals ≤ old.page_at_calls + new.refusals + version_requests requests
+  pub asks : new.page_at_calls < 2 ^ 64 - 1 → old.page_at_calls + version_requests requests ≤ new.page_at_calls
 
 -- ---- endings
 -- Where a link told what is left of it at first, it tells at last that nothing is.
@@ -112,6 +114,23 @@ abbrev pub AreWritten : Ending → (replies written : Text) → Type 0
 AreWritten ending.WriteFault replies written = ⊤
 AreWritten end replies written = written ≡ replies
 
+-- All replies but that of the last note were written whole: of the others, at the history, a text is written, and more behind it.
+pub record IsCut (requests : List RequestTerm) (notes : List Note) (seat : ℕ) (history : List ItemTerm) (written : Text) : Type 0 where
+  pub first : List RequestTerm
+  pub others : List RequestTerm
+  pub split : requests ≡ first ++ others
+  pub before : List Note
+  pub last : Note
+  pub noted : notes ≡ before ++ last ∷ []
+  pub whole : Text
+  pub joined : IsJoined 100 first before seat history whole
+  pub begins : IsStart whole written
+
+-- At most one note has a reply that isn't whole: where a write failed, the last one.
+abbrev pub IsCutAtLast : Ending → List RequestTerm → List Note → (seat : ℕ) → List ItemTerm → (written : Text) → Type 0
+IsCutAtLast ending.WriteFault requests notes seat history written = IsCut requests notes seat history written
+IsCutAtLast end requests notes seat history written = ⊤
+
 -- What a connection did from its beginning to its end.
 pub record Served (old new : DeskTerm) (before after : LinkTold) (notes : List Note) (end : Ending) : Type 0 where
   pub requests : List RequestTerm
@@ -122,5 +141,6 @@ pub record Served (old new : DeskTerm) (before after : LinkTold) (notes : List N
   pub ending : IsEnding end requests kept notes before.left after.left
   pub answered : HasAnswered end (length requests)
   pub all : AreWritten end replies written
+  pub cut : IsCutAtLast end requests notes new.seat new.seen written
   pub read_faults : after.read_faults ≡ read_faults_after end before.read_faults
   pub write_faults : after.write_faults ≡ write_faults_after end before.write_faults

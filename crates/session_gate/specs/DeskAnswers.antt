@@ -46,7 +46,7 @@ abbrev pub memory_note : ℕ → Note
 memory_note version = record { kind = kind.Memory; version = version }
 
 -- A desk answered what was asked: the note suits at what is then seen, whose version it has, the reply is the note's, and the own entries
--- grew by the input if it was taken. `page_at` was called no more often than a version was asked for or an entry was refused.
+-- grew by the input if it was taken. `page_at` was called where a version was asked for, and no more often than that or an entry was refused.
 pub record IsDeskAnswer (asked : AskedTerm) (old new : DeskTerm) (note : Note) (reply : ReplyTerm) : Type 0 where
   pub suits : SuitsAt note.kind asked note.version new.seat new.seen
   pub replies : IsReplyAt note.kind asked note.version new.seat new.seen reply
@@ -54,6 +54,7 @@ pub record IsDeskAnswer (asked : AskedTerm) (old new : DeskTerm) (note : Note) (
   pub on : GoesOn old new
   pub own : new.own ≡ old.own ++ taken_entry old.seat note.kind asked
   pub calls : new.refusals < 2 ^ 64 - 1 → new.page_at_calls + old.refusals ≤ old.page_at_calls + new.refusals + names_version asked
+  pub asks : new.page_at_calls < 2 ^ 64 - 1 → old.page_at_calls + names_version asked ≤ new.page_at_calls
 
 -- The bytes of a reply are ready: they are the answer's with its note, or there was no memory for a page, and the note says so.
 pub data IsReady (a : Answer) (head_only closes : Bool) (note : Note) (bytes : Text) : Type 0 where

@@ -1,5 +1,5 @@
 -- What one round of a connection does.
-use Rattle.std.specs.Prelude.{◌≡◌, ℕ, ◌≤◌, List, ◌++◌, length, Option, None, Some}
+use Rattle.std.specs.Prelude.{◌≡◌, ℕ, ◌≤◌, List, [], ◌∷◌, ◌++◌, length, Option, None, Some, ⊤}
 use Rattle.outer_io.specs.Links.{LinkTold}
 use Rattle.task_model.specs.Terms.Text.{Text}
 use Rattle.http_requests.specs.Requests.{RequestTerm}
@@ -28,12 +28,18 @@ pub record GoesOnAfter (before after : LinkTold) (requests : List RequestTerm) (
   pub read_faults : after.read_faults ≡ before.read_faults
   pub write_faults : after.write_faults ≡ before.write_faults
 
+-- Where a write failed it was that of the one reply.
+abbrev pub IsOneCut : Ending → List Note → Type 0
+IsOneCut ending.WriteFault notes = (note : Note) × (notes ≡ note ∷ [])
+IsOneCut end notes = ⊤
+
 -- A round that ended the connection.
 pub record EndsAfter (end : Ending) (before after : LinkTold) (requests : List RequestTerm) (kept : Text) (notes : List Note)
     (replies written : Text) : Type 0 where
   pub ending : IsEnding end requests kept notes before.left after.left
   pub answered : AnswersAtMostOne end (length requests)
   pub all : AreWritten end replies written
+  pub cut : IsOneCut end notes
   pub read_faults : after.read_faults ≡ read_faults_after end before.read_faults
   pub write_faults : after.write_faults ≡ write_faults_after end before.write_faults
 
