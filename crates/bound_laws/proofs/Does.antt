@@ -26,6 +26,30 @@ pub record Led {A : Type 0} (w : Work A) : Type 0 where
   pub height : ℕ
   pub by : w to units height
 
+led_rule : {A : Type 0} {w : Work A} → Led w → Led (rule w)
+led_rule m = record { to = m.to; units = m.units; height = suc m.height; by = record { below = m.height; part = m.by; height = refl } }
+
+led_unit : {A : Type 0} {w : Work A} → Led w → Led (unit_and w)
+led_unit m = record { to = m.to; units = suc m.units; height = m.height; by = record { less = m.units; part = m.by; units = refl } }
+
+led_then : {A B : Type 0} {w : Work A} {f : A → Work B} (m : Led w) → Led (f m.to) → Led (then_on w f)
+led_then m m' = record {
+  to = m'.to;
+  units = m.units + m'.units;
+  height = max m.height m'.height;
+  by = record {
+    middle = m.to;
+    n1 = m.units;
+    h1 = m.height;
+    n2 = m'.units;
+    h2 = m'.height;
+    one = m.by;
+    two = m'.by;
+    units = refl;
+    height = refl;
+  };
+}
+
 pub record Does {A : Type 0} (k : ℕ) (w : Work A) (P : A → Type 0) (b : Bound) : Type 0 where
   pub result : (v : A) (n h : ℕ) → w v n h → P v
   pub cheap : (v : A) (n h : ℕ) → w v n h → cut n ≤ b.units
@@ -65,9 +89,7 @@ does_rule {k = k} {b = b} r = record {
   result = λ v n h d. r.result v n d.below d.part;
   cheap = λ v n h d. r.cheap v n d.below d.part;
   low = λ v n h d. subst (λ z. cut z ≤ (over_parts b).height) (sym d.height) (cut_suc _ _ (r.low v n d.below d.part));
-  made = λ u g l.
-      let m = r.made u (omega (arith, g, l)) (omega (arith, l)) in
-      record { to = m.to; units = m.units; height = suc m.height; by = record { below = m.height; part = m.by; height = refl } };
+  made = λ u g l. led_rule (r.made u (omega (arith, g, l)) (omega (arith, l)));
 }
 
 pub does_give : {A : Type 0} {k : ℕ} (x : A) (P : A → Type 0) → P x → Does k (gives x) P naught
@@ -83,9 +105,7 @@ does_unit {b = b} r = record {
   result = λ v n h d. r.result v d.less h d.part;
   cheap = λ v n h d. subst (λ z. cut z ≤ (once b).units) (sym d.units) (cut_suc _ _ (r.cheap v d.less h d.part));
   low = λ v n h d. r.low v d.less h d.part;
-  made = λ u g l.
-      let m = r.made (omega (arith, u)) g l in
-      record { to = m.to; units = suc m.units; height = m.height; by = record { less = m.units; part = m.by; units = refl } };
+  made = λ u g l. led_unit (r.made (omega (arith, u)) g l);
 }
 
 -- work, and then what follows each thing that it leads to
@@ -99,23 +119,7 @@ does_then {B = B} {k = k} {w = w} {f = f} Q a b r s = record {
       (cut_max _ _ _ _ (r.low d.middle d.n1 d.h1 d.one) ((rest d).low v d.n2 d.h2 d.two));
   made = λ u g l.
       let m = r.made (omega (arith, u)) (omega (arith, g)) (omega (arith, l)) in
-      let m' = (s m.to m.units m.height m.by (r.result m.to m.units m.height m.by)).made (omega (arith, u)) (omega (arith, g)) (omega (arith, l)) in
-      record {
-        to = m'.to;
-        units = m.units + m'.units;
-        height = max m.height m'.height;
-        by = record {
-          middle = m.to;
-          n1 = m.units;
-          h1 = m.height;
-          n2 = m'.units;
-          h2 = m'.height;
-          one = m.by;
-          two = m'.by;
-          units = refl;
-          height = refl;
-        };
-      };
+      led_then m ((s m.to m.units m.height m.by (r.result m.to m.units m.height m.by)).made (omega (arith, u)) (omega (arith, g)) (omega (arith, l)));
 }
   where
     rest : {v : B} {n h : ℕ} (d : then_on w f v n h) → Does k (f d.middle) Q b
