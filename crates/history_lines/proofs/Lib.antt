@@ -1,1 +1,3 @@
 mod EntryWriting
+mod SmallTypes
+pub mod SmallTrees

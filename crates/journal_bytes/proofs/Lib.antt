@@ -1,3 +1,4 @@
 pub mod Lengths
 pub mod Images
 pub mod LineEnds
+pub mod OpeningLines

@@ -4,12 +4,14 @@
 
 mod entries;
 mod laws;
+mod opening;
 mod printing;
 mod reading;
 mod writing;
 
 pub use entries::{NoEntryRecord, read_record};
 pub use laws::one_image;
+pub use opening::read_opening;
 pub use printing::{print_opening, print_record};
 pub use reading::{NoRecord, first_record};
 pub use writing::{behind_gate, whole_journal};

@@ -11,7 +11,5 @@ mod CompleteLemmas
 mod FulfilLemmas
 mod StatusLemmas
 mod EntryLines
-mod SmallTypes
-pub mod SmallTrees
 pub mod ReplayLemmas
 pub mod SameHistories

@@ -30,8 +30,9 @@ use Rattle.world_answers.specs.LineAnswers.{answer_text}
 use Rattle.tophat.specs.Session.{Tells}
 use Rattle.tophat.specs.Top.{limits, world, world_at, Reports}
 use Rattle.history_lines.specs.EntryLines.{entries_text}
-use Rattle.tophat.specs.Replay.{show_line, replay_script, taken_lines, replayed, AreShort, AskAgain, IsReplayable}
-use Rattle.tophat.proofs.SmallTrees.{legal_again}
+use Rattle.tophat.specs.Replay.{show_line, replay_script, taken_lines, replayed, AreShort, IsReplayable}
+use Rattle.history_lines.specs.AskAgain.{AskAgain}
+use Rattle.history_lines.proofs.SmallTrees.{legal_again}
 use Rattle.tophat.proofs.EntryLines.{entry_is_line, show_is_line}
 
 -- ---- the script's lines

@@ -6,7 +6,6 @@ use Rattle.task_model.specs.Terms.Program.{ProgramTerm}
 use Rattle.task_model.specs.Syntax.Printed.{program_text}
 use Rattle.task_model.specs.Running.State.{IsSeat, IsLegal, version_of}
 use Rattle.line_frame.specs.declared.finish.Finish.TheVariants.{Done}
-use Rattle.input_lines.specs.ScriptLines.{IsScriptLine, gives}
 use Rattle.input_lines.specs.EntryText.{entry_line}
 use Rattle.history_lines.specs.EntryLines.{entries_text}
 use Rattle.tophat.specs.declared.ending.CommandEnding.TheVariants.{Ran}
@@ -34,12 +33,6 @@ abbrev pub AreShort : ℕ → List ItemTerm → Type 0
 AreShort longest [] = Unit {0}
 AreShort longest (opened p budget ∷ items) = AreShort longest items
 AreShort longest (took e ∷ items) = (length (entry_line e) ≤ longest) × AreShort longest items
-
--- the printed line of each entry asks for that entry
-abbrev pub AskAgain : List ItemTerm → Type 0
-AskAgain [] = Unit {0}
-AskAgain (opened p budget ∷ items) = AskAgain items
-AskAgain (took e ∷ items) = IsScriptLine (entry_line e) (gives e) × AskAgain items
 
 -- A legal history whose printed program, printed lines and script are within their limits, and a seat.
 pub record IsReplayable (l : Limits) (p : ProgramTerm) (budget : ℕ) (items : List ItemTerm) (seat : ℕ) : Type 0 where

@@ -15,7 +15,8 @@ ghost use Rattle.tophat.specs.Top.{Limits, NeedsMore, Report, Reports, ReportsLi
 ghost use Rattle.tophat.specs.Worked.{IfSilent};
 ghost use Rattle.tophat.specs.Promise.{IsCutShort, Promised};
 ghost use Rattle.tophat.specs.Complete.{AnswersAll, IsRunnable, ReportsAll, lines_of};
-ghost use Rattle.tophat.specs.Replay.{AskAgain, IsReplayable, replay_script, replayed};
+ghost use Rattle.history_lines.specs.AskAgain.{AskAgain};
+ghost use Rattle.tophat.specs.Replay.{IsReplayable, replay_script, replayed};
 ghost use Rattle.world_answers.specs.declared.line_form.LineForm.{LineForm};
 ghost use Rattle.tophat.specs.SameHistory.{AskFor, LinesLeadTo};
 ghost use Rattle.world_core.specs.World.{WorldTerm};

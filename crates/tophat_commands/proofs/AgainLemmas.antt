@@ -20,7 +20,7 @@ use Rattle.tophat.specs.Session.{Tells}
 use Rattle.tophat.specs.Top.{Reports, limits, world, world_at}
 use Rattle.tophat.specs.Verdict.{IsVerdict, accepted}
 use Rattle.tophat.proofs.ReplayLemmas.{script_taken}
-use Rattle.tophat.proofs.SmallTrees.{legal_again}
+use Rattle.history_lines.proofs.SmallTrees.{legal_again}
 use Rattle.tophat_commands.specs.Again.{IsWithinRun, IsRunAgain}
 use Rattle.tophat_commands.specs.ServedFiles.{IsOpenedOf}
 

@@ -1,4 +1,4 @@
-use Rattle.tophat.proofs.SmallTrees.{legal_again}
+use Rattle.history_lines.proofs.SmallTrees.{legal_again}
 use Rattle.tophat.proofs.ReplayLemmas.{program_again, history_replayed}
 use Rattle.tophat.proofs.laws.histories_are_replayed.Goals as goal
 

@@ -30,8 +30,8 @@ use Rattle.input_lines.specs.EntryText.{HasLiteral}
 use Rattle.input_lines.proofs.EntryLemmas.{entry_again}
 use Rattle.typing_laws.specs.Assumed.{task_in_place}
 use Rattle.typing_laws.proofs.ProgramLemmas.{facts_of}
-use Rattle.tophat.specs.Replay.{AskAgain}
-use Rattle.tophat.proofs.SmallTypes.{SmallTask, SmallParts, parts_small, small_at}
+use Rattle.history_lines.specs.AskAgain.{AskAgain}
+use Rattle.history_lines.proofs.SmallTypes.{SmallTask, SmallParts, parts_small, small_at}
 
 -- ---- acts
 -- the value that an act sets, if it sets one, has a type of at most 64 symbols
