@@ -3,13 +3,14 @@
 #![tactic(auto)]
 
 use outer_io::{
-    FileAnswer, Files, MemSink, PlainSource, Sink, SystemFiles, WriterSink, Written, write_all,
+    FileAnswer, Files, MemSink, PlainSource, ReaderSource, Sink, SystemFiles, WriterSink, Written,
+    write_all,
 };
 use std::alloc::Global;
 use std::process::ExitCode;
 use task_model::{OutOfMemory, Row, TaskText};
 use tophat::plain;
-use tophat_process::run_process;
+use tophat_process::{exit_code, ports_of_machine, words};
 
 /// The examples: NAME.th, with its script NAME.script and what it writes, NAME.out.
 const EXAMPLES: &[&str] = &[
@@ -63,7 +64,16 @@ fn main(rt: HostRuntime) -> ExitCode {
             return ExitCode::from(1);
         }
     }
-    run_process(&rt, rt.alloc(), rt.stdin(), rt.stdout(), rt.stdout())
+    exit_code(
+        &rt,
+        rt.alloc(),
+        &words(&rt, rt.alloc()),
+        &mut files,
+        &mut ReaderSource::new(rt.stdin()),
+        &mut out,
+        &mut WriterSink::new(rt.stdout()),
+        &mut ports_of_machine(&rt),
+    )
 }
 
 /// Whether both texts were written.

@@ -1,9 +1,20 @@
-//! The program `tophat`: its process over the standard streams.
+//! The program `tophat`: the exit code of its words over the system's files, ports and standard streams.
 #![tactic(auto)]
 
+use outer_io::{ReaderSource, SystemFiles, WriterSink};
 use std::process::ExitCode;
-use tophat_process::run_process;
+use tophat_process::{exit_code, ports_of_machine, words};
 
 fn main(rt: HostRuntime) -> ExitCode {
-    run_process(&rt, rt.alloc(), rt.stdin(), rt.stdout(), rt.stderr())
+    let alloc = rt.alloc();
+    exit_code(
+        &rt,
+        alloc,
+        &words(&rt, alloc),
+        &mut SystemFiles::new(&rt),
+        &mut ReaderSource::new(rt.stdin()),
+        &mut WriterSink::new(rt.stdout()),
+        &mut WriterSink::new(rt.stderr()),
+        &mut ports_of_machine(&rt),
+    )
 }

@@ -1,8 +1,11 @@
-//! The process of the program: the words of its command line, the top call over the system's files and the streams that it is handed,
-//! and its exit code.
+//! The process of the program: the words of its command line, the ports of the machine with their times, and the exit code, which is the
+//! status of the top call.
 #![tactic(auto)]
 
-mod process;
-mod words;
+mod command_line;
+mod ending;
+mod ports;
 
-pub use process::run_process;
+pub use command_line::{words, words_of};
+pub use ending::exit_code;
+pub use ports::ports_of_machine;

@@ -6,57 +6,17 @@ ghost use Rattle.tophat.specs.Top.{limits};
 ghost use Rattle.tophat.specs.Objects.{around};
 ghost use Rattle.tophat_commands.specs.FulfilsCommand.{FulfilsCommand};
 
-use crate::words::words;
-use outer_io::{Files, LinkTimes, ReaderSource, Sink, Source, SystemFiles, WriterSink, write_all};
-use outer_ports::{Ports, SystemPorts};
+use outer_io::{Files, Sink, Source, write_all};
+use outer_ports::Ports;
 use std::alloc::Global;
-use std::io::{Read, Write};
-use std::net::Net;
 use std::process::ExitCode;
 use std::sync::Wait;
 use std::thread::Threads;
-use std::time::{Clock, Duration};
 use task_model::{OutOfMemory, Row, TaskText};
 use tophat_commands::tophat;
 
-/// Calls `tophat` with the words of the command line, over the system's files and ports and these streams, and gives its status as the exit
-/// code.
-pub fn run_process<R, I, O, E>(rt: &R, alloc: Global, input: I, out: O, err: E) -> ExitCode
-where
-    R: std::rt::Env + std::rt::Files + Net + Clock + Threads + Wait + Alloc + Copy + Send + Sync,
-    I: Read + Drop,
-    O: Write + Drop,
-    E: Write + Drop,
-{
-    let words = words(rt, alloc);
-    exit_code(
-        rt,
-        alloc,
-        &words,
-        &mut SystemFiles::new(rt),
-        &mut ReaderSource::new(input),
-        &mut WriterSink::new(out),
-        &mut WriterSink::new(err),
-        &mut SystemPorts::new(rt, first(), times()),
-    )
-}
-
-// How long a client may take for its first request (docs/FORMATS.md, "Times").
-fn first() -> Duration {
-    Duration::from_secs(10)
-}
-
-// How long it may take behind that one.
-fn times() -> LinkTimes {
-    LinkTimes {
-        idle: Duration::from_millis(50),
-        request: Duration::from_millis(500),
-        reply: Duration::from_secs(10),
-    }
-}
-
-// The status of `tophat` for these words, or 8 where memory for them ran out.
-fn exit_code<
+/// Calls `tophat` with these words over these objects. The exit code is its status, or 8 where memory for the words ran out.
+pub fn exit_code<
     F: Files,
     I: Source,
     O: Sink,
