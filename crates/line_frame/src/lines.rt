@@ -3,6 +3,7 @@ ghost use Rattle.outer_io.specs.Causes.{Rose};
 ghost use Rattle.line_frame.specs.Told.{Told, Comes};
 ghost use Rattle.line_frame.specs.RunFaults.{write_faults_after_run};
 ghost use Rattle.line_frame.specs.RanOut.{IsLine};
+ghost use Rattle.line_frame.specs.Machines.{GoesOver, StopsOver};
 ghost use Rattle.line_frame.specs.Stands.{Goes, RunsLine, EndsAt, EndsScript};
 ghost use Rattle.line_frame.specs.declared.finish.Finish.{Finish};
 
@@ -28,6 +29,9 @@ pub(crate) fn take_piece<M: Machine, O: Sink>(
     ensures none_due { IfNone result (cursor.new.due.text.list ≡ []) }
     ensures counted { IfNone result ((cursor.new.count ≡ cursor.old.count + length piece.now)
         × (cursor.old.count ≤ limit → cursor.new.count ≤ limit)) }
+    ensures machine { MatchOption result
+        (GoesOver M.takes machine.old machine.new (O.taken out.old) (O.taken out.new) cursor.old.due.text.list cursor.new.due.text.list)
+        (λ _. StopsOver M.takes M.stops machine.old machine.new (O.taken out.old) (O.taken out.new) cursor.old.due.text.list) }
     ensures count { O.faults out.old ≤ O.faults out.new }
     ensures failed { result ≡ Some Finish.WriteFault → Rose (O.faults out.old) (O.faults out.new) }
     ensures exact { MatchOption result (O.faults out.new ≡ O.faults out.old)
@@ -54,6 +58,7 @@ pub(crate) fn end_script<M: Machine, O: Sink>(
     cursor: &mut Cursor,
 ) -> Finish
     ensures ends { EndsScript M.tells machine.old (O.taken out.old) (O.taken out.new) M.LONGEST cursor.old result }
+    ensures machine { StopsOver M.takes M.stops machine.old machine.new (O.taken out.old) (O.taken out.new) cursor.old.due.text.list }
     ensures count { O.faults out.old ≤ O.faults out.new }
     ensures failed { result ≡ Finish.WriteFault → Rose (O.faults out.old) (O.faults out.new) }
     ensures exact { O.faults out.new ≡ write_faults_after_run (O.faults out.old) result }
@@ -88,6 +93,9 @@ fn take_line<M: Machine, O: Sink>(
     ensures fits { IfOk result (λ taken. taken ≤ length bytes.now) }
     ensures counted { IfOk result (λ taken. cursor.new.count ≡ cursor.old.count + taken) }
     ensures within { OnOk result (cursor.old.count ≤ limit → cursor.new.count ≤ limit) }
+    ensures machine { MatchResult result
+        (λ _. GoesOver M.takes machine.old machine.new (O.taken out.old) (O.taken out.new) cursor.old.due.text.list cursor.new.due.text.list)
+        (λ _. StopsOver M.takes M.stops machine.old machine.new (O.taken out.old) (O.taken out.new) cursor.old.due.text.list) }
     ensures count { O.faults out.old ≤ O.faults out.new }
     ensures failed { result ≡ Err Finish.WriteFault → Rose (O.faults out.old) (O.faults out.new) }
     ensures exact { MatchResult result (λ _. O.faults out.new ≡ O.faults out.old)
@@ -125,6 +133,9 @@ fn take_part<M: Machine, O: Sink>(
     ensures fits { IfOk result (λ taken. taken ≤ length bytes.now) }
     ensures counted { IfOk result (λ taken. cursor.new.count ≡ cursor.old.count + taken) }
     ensures within { OnOk result (cursor.old.count ≤ limit → cursor.new.count ≤ limit) }
+    ensures machine { MatchResult result
+        (λ _. GoesOver M.takes machine.old machine.new (O.taken out.old) (O.taken out.new) cursor.old.due.text.list cursor.new.due.text.list)
+        (λ _. StopsOver M.takes M.stops machine.old machine.new (O.taken out.old) (O.taken out.new) cursor.old.due.text.list) }
     ensures count { O.faults out.old ≤ O.faults out.new }
     ensures failed { result ≡ Err Finish.WriteFault → Rose (O.faults out.old) (O.faults out.new) }
     ensures exact { MatchResult result (λ _. O.faults out.new ≡ O.faults out.old)
@@ -177,6 +188,9 @@ fn take_whole<M: Machine, O: Sink>(
         (λ finish. (behind : List ℕ) → Goes M.tells machine.old machine.new (O.taken out.old)
         (O.taken out.new) M.LONGEST limit cursor.old cursor.new (line.now ++ 10 ∷ behind) (Some finish)) }
     ensures counted { IfNone result (cursor.new.count ≡ cursor.old.count + length line.now + 1) }
+    ensures machine { MatchOption result
+        (GoesOver M.takes machine.old machine.new (O.taken out.old) (O.taken out.new) cursor.old.due.text.list cursor.new.due.text.list)
+        (λ _. StopsOver M.takes M.stops machine.old machine.new (O.taken out.old) (O.taken out.new) cursor.old.due.text.list) }
     ensures count { O.faults out.old ≤ O.faults out.new }
     ensures failed { result ≡ Some Finish.WriteFault → Rose (O.faults out.old) (O.faults out.new) }
     ensures exact { MatchOption result (O.faults out.new ≡ O.faults out.old)
@@ -223,6 +237,9 @@ fn take_lf<M: Machine, O: Sink>(
         (λ finish. (behind : List ℕ) → Goes M.tells machine.old machine.new (O.taken out.old)
         (O.taken out.new) M.LONGEST limit cursor.old cursor.new (10 ∷ behind) (Some finish)) }
     ensures counted { IfNone result (cursor.new.count ≡ cursor.old.count + 1) }
+    ensures machine { MatchOption result
+        (GoesOver M.takes machine.old machine.new (O.taken out.old) (O.taken out.new) cursor.old.due.text.list cursor.new.due.text.list)
+        (λ _. StopsOver M.takes M.stops machine.old machine.new (O.taken out.old) (O.taken out.new) cursor.old.due.text.list) }
     ensures count { O.faults out.old ≤ O.faults out.new }
     ensures failed { result ≡ Some Finish.WriteFault → Rose (O.faults out.old) (O.faults out.new) }
     ensures exact { MatchOption result (O.faults out.new ≡ O.faults out.old)
@@ -259,6 +276,9 @@ fn end_line<M: Machine, O: Sink>(
         (RunsLine (M.tells machine.old) (M.tells machine.new) (O.taken out.old)
         (O.taken out.new) due.old.text.list due.new.text.list M.LONGEST line.now)
         (EndsAt (M.tells machine.old) (O.taken out.old) (O.taken out.new) due.old.text.list M.LONGEST number line.now) }
+    ensures machine { MatchOption result
+        (GoesOver M.takes machine.old machine.new (O.taken out.old) (O.taken out.new) due.old.text.list due.new.text.list)
+        (λ _. StopsOver M.takes M.stops machine.old machine.new (O.taken out.old) (O.taken out.new) due.old.text.list) }
     ensures count { O.faults out.old ≤ O.faults out.new }
     ensures failed { result ≡ Some Finish.WriteFault → Rose (O.faults out.old) (O.faults out.new) }
     ensures exact { MatchOption result (O.faults out.new ≡ O.faults out.old)

@@ -1,4 +1,4 @@
-ghost use Rattle.std.specs.Prelude.{◌≡◌, ◌+◌, ℕ, List, [], IfOk, take};
+ghost use Rattle.std.specs.Prelude.{◌≡◌, ◌+◌, ℕ, List, [], IfOk, OnErr, take};
 ghost use Rattle.line_frame.specs.Told.{Told, TellsFirst, TellsBad};
 ghost use Rattle.line_frame.specs.BadLine.{IfBad};
 ghost use Rattle.line_frame.specs.declared.finish.Finish.{Finish};
@@ -25,13 +25,21 @@ pub trait Machine {
     // none of them ends it before.
     ghost tells: { Self → ℕ → List (List ℕ) → Finish → Told → Type 0 };
 
+    // What an answered line makes of the machine: before, the line, the answer, after.
+    ghost takes: { Self → List ℕ → List ℕ → Self → Type 0 };
+
+    // What a line that has no answer makes of it.
+    ghost stops: { Self → Self → Type 0 };
+
     /// Runs a line without its LF. Of a longer line than the longest, the first bytes are given, one more than the
     /// longest line has.
     fn run_line(&mut self, alloc: Global, line: &[u8]) -> Result<Row<u8>, LineStop>
         ensures ok { IfOk result (λ text. (whole : List ℕ) → line.now ≡ take (LONGEST + 1) whole →
             TellsFirst (tells self.old) (tells self.new) whole text.list) }
         ensures bad { IfBad result (λ column. (whole : List ℕ) → line.now ≡ take (LONGEST + 1) whole →
-            TellsBad (tells self.old) whole column) };
+            TellsBad (tells self.old) whole column) }
+        ensures takes { IfOk result (λ text. takes self.old line.now text.list self.new) }
+        ensures stops { OnErr result (stops self.old self.new) };
 
     // No lines: nothing is written.
     ghost no_lines: { (machine : Self) (number : ℕ) (finish : Finish) (told : Told) →

@@ -2,6 +2,7 @@ ghost use Rattle.std.specs.Prelude.{◌≡◌, ◌<◌, ◌≤◌, ◌^◌};
 ghost use Rattle.outer_io.specs.Causes.{Rose};
 ghost use Rattle.line_frame.specs.RunFaults.{read_faults_after_run, write_faults_after_run};
 ghost use Rattle.line_frame.specs.RanScript.{RanScript};
+ghost use Rattle.line_frame.specs.Machines.{RanMachine};
 
 use crate::cursor::Cursor;
 use crate::lines::{end_script, take_piece};
@@ -28,6 +29,7 @@ pub fn run_script<M: Machine, I: Source, O: Sink>(
 ) -> Finish
     requires { limit < 2 ^ 63 }
     ensures ran { RanScript (M.tells machine.old 1) limit (I.left input.old) (I.left input.new) (O.taken out.old) (O.taken out.new) result }
+    ensures machine { RanMachine M.takes M.stops machine.old machine.new (O.taken out.old) (O.taken out.new) }
     ensures read_count { I.faults input.old ≤ I.faults input.new }
     ensures read_failed { result ≡ Finish.ReadFault → Rose (I.faults input.old) (I.faults input.new) }
     ensures write_count { O.faults out.old ≤ O.faults out.new }

@@ -1,4 +1,4 @@
-ghost use Rattle.std.specs.Prelude.{◌≡◌, [], ◌∷◌, ◌<◌, ◌^◌};
+ghost use Rattle.std.specs.Prelude.{◌≡◌, [], ◌∷◌, ◌<◌, ◌^◌, ⊤};
 ghost use Rattle.std.specs.List.{flat_map};
 
 mod counter;
@@ -21,6 +21,11 @@ impl Machine for Yes {
     const LONGEST: usize = 3;
 
     ghost tells = { λ _ _ lines finish told. told ≡ record { output = flat_map (λ _. 121 ∷ 10 ∷ []) lines; finish = finish } };
+
+    // Nothing is said of what becomes of it.
+    ghost takes = { λ _ _ _ _. ⊤ };
+
+    ghost stops = { λ _ _. ⊤ };
 
     fn run_line(&mut self, alloc: Global, _line: &[u8]) -> Result<Row<u8>, LineStop> {
         let mut text = Row::new(alloc);

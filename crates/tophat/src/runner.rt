@@ -1,4 +1,4 @@
-ghost use Rattle.std.specs.Prelude.{◌≡◌, IsNone};
+ghost use Rattle.std.specs.Prelude.{◌≡◌, IsNone, ⊤};
 
 use crate::asking::read_asked;
 use line_frame::{LineStop, Machine};
@@ -38,6 +38,11 @@ impl<L: Ledger> Machine for Runner<L> {
     ghost tells = { λ r. Tells r.answering.form limits.line (world_term r.answering.world) };
 
     ghost no_lines = { λ _ _ _ _ told. told };
+
+    // Nothing is said of what becomes of it.
+    ghost takes = { λ _ _ _ _. ⊤ };
+
+    ghost stops = { λ _ _. ⊤ };
 
     fn run_line(&mut self, alloc: Global, line: &[u8]) -> Result<Row<u8>, LineStop> {
         match read_asked(alloc, self.answering.form(), line) {

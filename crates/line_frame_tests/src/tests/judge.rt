@@ -1,3 +1,5 @@
+ghost use Rattle.std.specs.Prelude.{⊤};
+
 use line_frame::{LineStop, Machine};
 use std::alloc::Global;
 use task_model::Row;
@@ -15,6 +17,11 @@ impl Machine for Judge {
     const LONGEST: usize = 1;
 
     ghost tells = { λ _ _ _ _ _. ⊥ };
+
+    // Nothing is said of what becomes of it.
+    ghost takes = { λ _ _ _ _. ⊤ };
+
+    ghost stops = { λ _ _. ⊤ };
 
     fn run_line(&mut self, alloc: Global, line: &[u8]) -> Result<Row<u8>, LineStop> {
         match line {

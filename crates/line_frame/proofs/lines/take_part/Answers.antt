@@ -1,4 +1,4 @@
-use Rattle.std.proofs.Common.{◌≡◌, ◌+◌, ◌<◌, ◌≤◌, ℕ, zero, suc, List, [], ◌∷◌, ◌++◌, get_or, take, drop, length, None, Some, subst, arith, length-take, length-drop}
+use Rattle.std.proofs.Common.{◌≡◌, ◌+◌, ◌<◌, ◌≤◌, ℕ, zero, suc, List, [], ◌∷◌, ◌++◌, get_or, take, drop, length, None, Some, sym, subst, arith, length-take, length-drop}
 use Rattle.std.proofs.lemmas.List.{take-append-drop}
 use Rattle.line_frame.specs.RanOut.{IsBehindLine}
 use Rattle.line_frame.specs.Stands.{StopsRun}
@@ -7,6 +7,8 @@ use Rattle.line_frame.specs.declared.finish.Finish.{Finish}
 use Rattle.line_frame.specs.declared.finish.Finish.TheVariants.{Memory}
 use Rattle.line_frame.proofs.StandsLemmas.{stands_run, stops_long, stops_memory, stops_settled}
 use Rattle.line_frame.proofs.Going.{goes_then, with_lf, with_behind}
+use Rattle.line_frame.specs.Machines.{GoesOver, StopsOver}
+use Rattle.line_frame.proofs.MachineLemmas.{goes_nowhere, stops_here}
 use Rattle.line_frame.proofs.lines.take_part.Goals as goal
 
 -- behind the bytes of a line comes its LF, or nothing
@@ -101,3 +103,29 @@ returns-in-None-clause-goes g c = λ start first begun bytes at.
     c.take_lf.new.cursor None _ _ _ (with_lf piece run lt (c.run_length-run.ensures.lf lt))
     (λ start first begun bytes at. stands_run at _ c.LONGEST.ensures c.run_length-run.ensures.no_lf le c.in_default.ensures.takes)
     (c.in-None.ensures.goes c.args.limit below) start first begun bytes at
+
+pub returns-then-taken-saturating_sub-clause-machine : goal.returns-then-taken-saturating_sub-clause-machine
+returns-then-taken-saturating_sub-clause-machine g c =
+    stops_here g.M.Machine.takes g.M.Machine.stops c.args.machine.now _ _ c.args.cursor.now.due.text.list _ _ c.end.ensures.bytes
+
+pub returns-in-Some-clause-machine : goal.returns-in-Some-clause-machine
+returns-in-Some-clause-machine g c =
+    subst (λ (z : List ℕ). StopsOver g.M.Machine.takes g.M.Machine.stops c.args.machine.now c.args.machine.now (g.O.Sink.taken c.args.out.now)
+    (g.O.Sink.taken c.end-in-Some.new.out) z) c.in-Some.ensures.due
+    (stops_here g.M.Machine.takes g.M.Machine.stops c.args.machine.now _ _ c.take_run.new.self.due.text.list _ _ c.end-in-Some.ensures.bytes)
+
+pub returns-then-run-bytes-clause-machine : goal.returns-then-run-bytes-clause-machine
+returns-then-run-bytes-clause-machine g c =
+    subst (λ (z : List ℕ). GoesOver g.M.Machine.takes c.args.machine.now c.args.machine.now (g.O.Sink.taken c.args.out.now)
+    (g.O.Sink.taken c.args.out.now) c.args.cursor.now.due.text.list z) (sym c.in_default.ensures.due)
+    (goes_nowhere g.M.Machine.takes g.M.Machine.stops c.args.machine.now (g.O.Sink.taken c.args.out.now) c.args.cursor.now.due.text.list)
+
+pub returns-in-Some-take_lf-clause-machine : goal.returns-in-Some-take_lf-clause-machine
+returns-in-Some-take_lf-clause-machine g c =
+    subst (λ (z : List ℕ). StopsOver g.M.Machine.takes g.M.Machine.stops c.args.machine.now c.take_lf.new.machine (g.O.Sink.taken c.args.out.now)
+    (g.O.Sink.taken c.take_lf.new.out) z) c.in_default.ensures.due c.in-Some-take_lf.ensures.machine
+
+pub returns-in-None-clause-machine : goal.returns-in-None-clause-machine
+returns-in-None-clause-machine g c =
+    subst (λ (z : List ℕ). GoesOver g.M.Machine.takes c.args.machine.now c.take_lf.new.machine (g.O.Sink.taken c.args.out.now)
+    (g.O.Sink.taken c.take_lf.new.out) z c.take_lf.new.cursor.due.text.list) c.in_default.ensures.due c.in-None.ensures.machine
