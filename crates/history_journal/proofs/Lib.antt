@@ -4,3 +4,11 @@ pub mod Steps
 pub mod Runs
 pub mod Events
 pub mod Makes
+pub mod Pieces
+pub mod Legal
+pub mod Fronts
+pub mod Openings
+pub mod Ends
+pub mod Replies
+pub mod Places
+pub mod Restarts

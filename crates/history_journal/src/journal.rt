@@ -1,18 +1,22 @@
-ghost use Rattle.std.specs.Prelude.{◌≡◌, false, IfErr, IfOk, None, OnErr, OnOk};
+ghost use Rattle.std.specs.Prelude.{◌≡◌, ◌≤◌, false, length, IfErr, IfOk, None, OnErr, OnOk};
 ghost use Rattle.task_model.specs.Terms.Input.{input_term};
-ghost use Rattle.task_model.specs.Running.State.{IsSeat, version_of};
+ghost use Rattle.task_model.specs.Running.State.{IsPage, IsSeat, version_of};
 ghost use Rattle.outer_disks.specs.Disks.{IsHonest, LeavesOnly};
+ghost use Rattle.input_lines.specs.EntryText.{entry_line};
 ghost use Rattle.world_core.specs.World.{world_term};
+ghost use Rattle.world_core.specs.Pages.{IsWorldPage};
 ghost use Rattle.history_journal.specs.NotTaken.{IsNotTaken};
 ghost use Rattle.history_journal.specs.Journals.{HoldsJournal, IsBeforeOrTaken, TakesOn};
 
 use crate::keeping::{Kept, keep};
 use crate::staging::stage;
 use crate::stops::KeepStop;
+use html_pages::Page;
 use outer_disks::Disk;
 use std::alloc::Global;
 use std::marker::Model;
-use task_model::{ActStop, Input};
+use std::sync::ledger::Ledger;
+use task_model::{ActStop, Face, Input, OutOfMemory, Steps};
 use world_core::{Taken, World};
 
 /// A world whose history is on a disk.
@@ -47,6 +51,9 @@ impl<D: Disk + Drop> Journal<D> {
         ensures ok { OnOk result (TakesOn (world_term self.old.world) (record { seat = seat; input = input_term input })
             (world_term self.new.world) self.old.closed self.new.closed) }
         ensures version { IfOk result (λ done. done.version ≡ version_of (world_term self.new.world).history) }
+        ensures short { OnOk result (length (entry_line (record { seat = seat; input = input_term input })) ≤ 1048576) }
+        ensures honest { (D.told self.new.disk).honest ≡ (D.told self.old.disk).honest }
+        ensures count { (D.told self.old.disk).faults ≤ (D.told self.new.disk).faults }
         ensures settled { OnOk result (IsHonest (D.told self.old.disk)
             → HoldsJournal (D.told self.new.disk) (world_term self.new.world).history) }
         ensures left { OnErr result (world_term self.new.world ≡ world_term self.old.world) }
@@ -86,10 +93,37 @@ impl<D: Disk + Drop> Journal<D> {
         }
     }
 
-    /// Its world, where nothing is prepared.
+    /// The page of its world for a seat, 1 to 64, in one of the faces. What is drawn for it is kept; the disk isn't asked.
+    pub fn page<L: Ledger>(
+        &mut self,
+        alloc: Global,
+        face: Face,
+        seat: u8,
+        steps: &mut Steps<L>,
+    ) -> Result<Page, OutOfMemory>
+        requires { IsSeat seat }
+        ensures disk { self.new.disk ≡ self.old.disk }
+        ensures closed { self.new.closed ≡ self.old.closed }
+        ensures world { world_term self.new.world ≡ world_term self.old.world }
+        ensures page { IfOk result (λ page. IsWorldPage face (world_term self.old.world) seat page.text) }
+        ensures legal { IfOk result (λ page. IsPage face (world_term self.old.world).history seat page.text) }
+    {
+        self.world.page(alloc, face, seat, steps)
+    }
+
+    /// Whether it met a fault of the disk, and takes no more.
+    pub fn is_closed(&self) -> bool
+        ensures { result ≡ self.now.closed }
+    {
+        self.closed
+    }
+
+    /// Its world, where nothing is prepared. Where it met no fault its disk holds the history, and a crash leaves just that.
     pub fn world(&self) -> &World
         ensures world { result.now ≡ self.now.world }
         ensures rest { result.now.next ≡ None }
+        ensures settled { self.now.closed ≡ false → IsHonest (D.told self.now.disk)
+            → HoldsJournal (D.told self.now.disk) (world_term self.now.world).history }
     {
         &self.world
     }

@@ -4,13 +4,18 @@
 mod appending;
 mod journal;
 mod keeping;
+mod laws;
 mod making;
+mod replaying;
+mod restarting;
 mod staging;
 mod stops;
 
 pub use appending::append_all;
 pub use journal::Journal;
 pub use keeping::{Kept, keep};
+pub use laws::one_end;
 pub use making::create;
+pub use restarting::restart;
 pub use staging::stage;
-pub use stops::{KeepStop, MakeStop};
+pub use stops::{KeepStop, MakeStop, RestartStop};

@@ -23,3 +23,12 @@ pub enum KeepStop {
     Closed,
     Memory,
 }
+
+/// Why no journal was restarted. The disk is handed back.
+#[derive(Drop)]
+pub enum RestartStop<D> {
+    /// Its bytes are no journal of a legal history. At this byte stands the first gate whose record is bad, or one is missing there.
+    BadJournal { place: u64, disk: D },
+    DiskFault(D),
+    Memory,
+}

@@ -1,5 +1,5 @@
 -- What a journal keeps, and what a crash leaves, after each part of an event.
-use Rattle.std.proofs.Common.{◌≡◌, ◌∙◌, subst, refl, true, false}
+use Rattle.std.proofs.Common.{◌≡◌, ◌∙◌, ap, arith, length, subst, refl, true, false}
 use Rattle.outer_disks.specs.Disks.{IsHonest, LeavesOnly}
 use Rattle.outer_disks.specs.declared.disk.DiskDone.TheVariants as done
 use Rattle.task_model.specs.Terms.Input.{EntryTerm, input_term}
@@ -85,3 +85,8 @@ returns-in-Long-clause-why g c =
     subst (λ j. IsNotTaken told (world_term j.world) e j.closed c.self.inside.closed j.disk c.keep.new.disk (keeps.LongEntry c.in-Long.length)) c.self.view_is
     (long_there w (world_term c.stage.new.world) e c.as_slice.result.now c.in-Long.length (c.as_slice.ensures ∙ c.in-Ok.ensures.record) c.in-Ok.ensures.stages
     c.in-Long.ensures.when.0 c.in-Long.ensures.when.1 told c.self.inside.closed c.self.inside.disk c.keep.new.disk c.in-Long.ensures.left)
+
+pub returns-in-Done-clause-short : goal.returns-in-Done-clause-short
+returns-in-Done-clause-short g c =
+    let short = c.in-Done.ensures.when.0 in
+    omega (arith, short, ap length (c.as_slice.ensures ∙ c.in-Ok.ensures.record))
