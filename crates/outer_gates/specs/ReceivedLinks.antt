@@ -1,11 +1,16 @@
 -- What a link gives that received bytes before it was made.
-use Rattle.std.specs.Prelude.{◌≡◌, ℕ, ◌<◌, List, [], ◌∷◌, ◌++◌, take, Option, None, Some}
+use Rattle.std.specs.Prelude.{◌≡◌, ℕ, ◌<◌, Bool, true, false, List, [], ◌∷◌, ◌++◌, take, Option, None, Some}
 use Rattle.outer_io.specs.StreamLinks.{IsLinkRead, IsLinkWrite}
 use Rattle.outer_io.specs.declared.sink.Put.{Put}
 use Rattle.outer_io.specs.declared.sink.Put.TheVariants as put
 use Rattle.outer_io.specs.declared.source.Got.{Got}
 use Rattle.outer_io.specs.declared.source.Got.TheVariants.{Took, End, Failed}
 use Rattle.outer_io.specs.declared.stream_link.StreamLink.{StreamLink}
+
+-- Whether a connection was closed.
+abbrev pub is_closed : {R : Type 0} → Option (StreamLink R) → Bool
+is_closed None = true
+is_closed (Some connection) = false
 
 -- A read gave the first of these bytes, at least one, and leaves the others.
 abbrev pub GivesFirst : (old new room : List ℕ) → Got → Type 0

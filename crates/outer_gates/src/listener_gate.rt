@@ -1,9 +1,10 @@
-ghost use Rattle.std.specs.Prelude.{◌≡◌, ◌≤◌, [], IfOk, IfSome};
+ghost use Rattle.std.specs.Prelude.{◌≡◌, ◌≤◌, [], false, IfOk, IfSome};
 ghost use Rattle.outer_io.specs.Causes.{Rose};
 ghost use Rattle.outer_io.specs.PlainSource.{left_of};
 ghost use Rattle.outer_io.specs.StreamLinks.{told_over_stream};
 ghost use Rattle.http_requests.specs.Streams.{BeginsWithRequest};
 ghost use Rattle.outer_gates.specs.Gates.{Accepts, IfLink, faults_after_accept, told_by_listener};
+ghost use Rattle.outer_gates.specs.ReceivedLinks.{is_closed};
 
 use crate::accept::Accept;
 use crate::client::Client;
@@ -244,7 +245,8 @@ impl<'r, R: Clock> ListenerGate<'r, R> {
 
     // The link of a client, of which no wait tells any more. None: the system refused it.
     fn link(&self, ready: ReadyClient) -> Option<ReceivedLink<'r, R>>
-        ensures { IfSome result (λ l. (left_of l.received ≡ ready.received.list) × (l.read_faults ≡ 0) × (l.write_faults ≡ 0)) }
+        ensures { IfSome result (λ l. (left_of l.received ≡ ready.received.list) × (l.read_faults ≡ 0) × (l.write_faults ≡ 0)
+            × (is_closed l.connection ≡ false)) }
     {
         let ReadyClient {
             mut stream,
@@ -260,7 +262,8 @@ impl<'r, R: Clock> ListenerGate<'r, R> {
     // The link of the first client whose first request is there whole. None: the system refused something.
     fn next_link(&mut self) -> Option<ReceivedLink<'r, R>>
         ensures stays { (self.new.faults ≡ self.old.faults) × (self.new.first ≡ self.old.first) × (self.new.times ≡ self.old.times) }
-        ensures link { IfSome result (λ l. BeginsWithRequest (left_of l.received) × (l.read_faults ≡ 0) × (l.write_faults ≡ 0)) }
+        ensures link { IfSome result (λ l. BeginsWithRequest (left_of l.received) × (l.read_faults ≡ 0) × (l.write_faults ≡ 0)
+            × (is_closed l.connection ≡ false)) }
     {
         let ready = self.next_ready()?;
         self.link(ready)
@@ -296,10 +299,10 @@ impl<'r, R: Clock + Sync> Gate for ListenerGate<'r, R> {
 
     ghost told = { λ g. told_by_listener g.faults };
 
-    ghost tells = { λ l. told_over_stream l.read_faults l.write_faults };
+    ghost tells = { λ l. told_over_stream l.read_faults l.write_faults (is_closed l.connection) };
 
     fn accept(&mut self) -> Accept<ReceivedLink<'r, R>>
-        ensures links { Accepts (λ l. told_over_stream l.read_faults l.write_faults) (told_by_listener self.old.faults)
+        ensures links { Accepts (λ l. told_over_stream l.read_faults l.write_faults (is_closed l.connection)) (told_by_listener self.old.faults)
             (told_by_listener self.new.faults) result }
         ensures count { self.old.faults ≤ self.new.faults }
         ensures failed { result ≡ Accept.Failed → Rose self.old.faults self.new.faults }

@@ -1,17 +1,17 @@
-ghost use Rattle.std.specs.Prelude.{◌≡◌, ◌<◌, ◌≤◌, None, Some, [], length};
+ghost use Rattle.std.specs.Prelude.{◌≡◌, ◌<◌, ◌≤◌, None, Some, [], length, true};
 ghost use Rattle.outer_io.specs.Causes.{Rose};
 ghost use Rattle.outer_io.specs.PlainSource.{left_of};
 ghost use Rattle.outer_io.specs.Sink.{Took, faults_after_write};
 ghost use Rattle.outer_io.specs.Source.{Gave, faults_after_read};
 ghost use Rattle.outer_io.specs.StreamLinks.{count_beside, told_over_stream};
-ghost use Rattle.outer_gates.specs.ReceivedLinks.{GivesReceived, IsConnectionRead, IsConnectionWrite};
+ghost use Rattle.outer_gates.specs.ReceivedLinks.{GivesReceived, IsConnectionRead, IsConnectionWrite, is_closed};
 
 use outer_io::{Got, Link, PlainSource, Put, Sink, Source, StreamLink};
 use std::time::Clock;
 use task_model::Row;
 
 /// A link over a connection of which some bytes were received before: it gives these first, and then what the connection gives. It
-/// tells its counts alone. `shut` closes the connection, and with it its file: behind that a read answers `End`, and a write `Failed`.
+/// tells its counts, and whether it was shut. `shut` closes the connection, and with it its file: behind that a read answers `End`, and a write `Failed`.
 #[derive(Drop)]
 pub struct ReceivedLink<'r, R: Clock> {
     received: PlainSource,
@@ -40,7 +40,8 @@ impl<'r, R: Clock> ReceivedLink<'r, R> {
     fn read_connection(&mut self, room: &mut [u8]) -> Got
         requires { 0 < length room.old }
         ensures bytes { Gave None None room.new result }
-        ensures stays { (self.new.received ≡ self.old.received) × (self.new.write_faults ≡ self.old.write_faults) }
+        ensures stays { (self.new.received ≡ self.old.received) × (self.new.write_faults ≡ self.old.write_faults)
+            × (is_closed self.new.connection ≡ is_closed self.old.connection) }
         ensures count { self.old.read_faults ≤ self.new.read_faults }
         ensures failed { result ≡ Got.Failed → Rose self.old.read_faults self.new.read_faults }
         ensures exact { self.new.read_faults ≡ faults_after_read self.old.read_faults result }
@@ -62,7 +63,8 @@ impl<'r, R: Clock> ReceivedLink<'r, R> {
         ensures bytes { Took None None piece.now result }
         ensures told { IsConnectionWrite self.old.connection self.new.connection result }
         ensures stays { (self.new.received ≡ self.old.received) × (self.new.read_faults ≡ self.old.read_faults)
-            × (self.new.write_faults ≡ self.old.write_faults) }
+            × (self.new.write_faults ≡ self.old.write_faults)
+            × (is_closed self.new.connection ≡ is_closed self.old.connection) }
     {
         match &mut self.connection {
             Some(connection) => connection.write(piece),
@@ -76,7 +78,7 @@ impl<'r, R: Clock> Source for ReceivedLink<'r, R> {
 
     ghost faults = { λ l. l.read_faults };
 
-    ghost beside = { λ l. count_beside l.write_faults };
+    ghost beside = { λ l. count_beside l.write_faults (is_closed l.connection) };
 
     fn read(&mut self, room: &mut [u8]) -> Got
         requires { 0 < length room.old }
@@ -84,7 +86,8 @@ impl<'r, R: Clock> Source for ReceivedLink<'r, R> {
         ensures count { self.old.read_faults ≤ self.new.read_faults }
         ensures failed { result ≡ Got.Failed → Rose self.old.read_faults self.new.read_faults }
         ensures exact { self.new.read_faults ≡ faults_after_read self.old.read_faults result }
-        ensures beside { count_beside self.new.write_faults ≡ count_beside self.old.write_faults }
+        ensures beside { count_beside self.new.write_faults (is_closed self.new.connection)
+            ≡ count_beside self.old.write_faults (is_closed self.old.connection) }
         ensures received { GivesReceived (left_of self.old.received) (left_of self.new.received) room.new result }
         ensures alone { (left_of self.old.received ≡ [] → ⊥) → self.new.connection ≡ self.old.connection }
         ensures behind { left_of self.old.received ≡ [] → IsConnectionRead self.old.connection self.new.connection result }
@@ -101,7 +104,7 @@ impl<'r, R: Clock> Sink for ReceivedLink<'r, R> {
 
     ghost faults = { λ l. l.write_faults };
 
-    ghost beside = { λ l. count_beside l.read_faults };
+    ghost beside = { λ l. count_beside l.read_faults (is_closed l.connection) };
 
     fn write(&mut self, piece: &[u8]) -> Put
         requires { 0 < length piece.now }
@@ -109,7 +112,8 @@ impl<'r, R: Clock> Sink for ReceivedLink<'r, R> {
         ensures count { self.old.write_faults ≤ self.new.write_faults }
         ensures failed { result ≡ Put.Failed → Rose self.old.write_faults self.new.write_faults }
         ensures exact { self.new.write_faults ≡ faults_after_write self.old.write_faults result }
-        ensures beside { count_beside self.new.read_faults ≡ count_beside self.old.read_faults }
+        ensures beside { count_beside self.new.read_faults (is_closed self.new.connection)
+            ≡ count_beside self.old.read_faults (is_closed self.old.connection) }
         ensures received { self.new.received ≡ self.old.received }
         ensures told { IsConnectionWrite self.old.connection self.new.connection result }
     {
@@ -124,10 +128,11 @@ impl<'r, R: Clock> Sink for ReceivedLink<'r, R> {
 impl<'r, R: Clock> Link for ReceivedLink<'r, R> {
     ghost use Rattle.std.specs.Prelude.{refl};
 
-    ghost told = { λ l. told_over_stream l.read_faults l.write_faults };
+    ghost told = { λ l. told_over_stream l.read_faults l.write_faults (is_closed l.connection) };
 
     fn shut(&mut self)
-        ensures told { (self.new.read_faults ≡ self.old.read_faults) × (self.new.write_faults ≡ self.old.write_faults) }
+        ensures told { told_over_stream self.new.read_faults self.new.write_faults (is_closed self.new.connection)
+            ≡ told_over_stream self.old.read_faults self.old.write_faults true }
         ensures closed { self.new.connection ≡ None }
         ensures received { self.new.received ≡ self.old.received }
     {

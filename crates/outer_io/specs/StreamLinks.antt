@@ -8,19 +8,20 @@ use Rattle.outer_io.specs.declared.source.Got.{Got}
 use Rattle.outer_io.specs.declared.source.Got.TheVariants as got
 use Rattle.outer_io.specs.declared.system_answer.SystemAnswer.{SystemAnswer}
 
--- It tells its counts alone.
-abbrev pub told_over_stream : ℕ → ℕ → LinkTold
-told_over_stream read_faults write_faults = record {
+-- It tells its counts, and whether it was shut.
+abbrev pub told_over_stream : (read_faults write_faults : ℕ) → (is_shut : Bool) → LinkTold
+told_over_stream read_faults write_faults is_shut = record {
   whole = None;
   left = None;
   taken = None;
   read_faults = read_faults;
   write_faults = write_faults;
+  is_shut = is_shut;
 }
 
--- Beside one side it tells the count of the other.
-abbrev pub count_beside : ℕ → Beside
-count_beside faults = record { whole = None; other = None; faults = faults }
+-- Beside one side it tells the count of the other, and whether it was shut.
+abbrev pub count_beside : ℕ → Bool → Beside
+count_beside faults is_shut = record { whole = None; other = None; faults = faults; is_shut = is_shut }
 
 -- What a read answers: the end of a link that was shut, a fault where there was no time for it, and else what the last call gave.
 abbrev pub IsLinkRead : (is_shut had_time : Bool) → SystemAnswer → ℕ → Got → Type 0

@@ -1,7 +1,7 @@
-ghost use Rattle.std.specs.Prelude.{◌≡◌, ◌<◌, ◌≤◌, ◌↔◌, IsTrue, Some, length};
+ghost use Rattle.std.specs.Prelude.{◌≡◌, ◌<◌, ◌≤◌, ◌↔◌, IsTrue, Some, false, length};
 ghost use Rattle.outer_io.specs.Causes.{Rose};
 ghost use Rattle.outer_io.specs.FailingCalls.{fails_next, IsCounted};
-ghost use Rattle.outer_io.specs.Links.{beside_reads, beside_writes};
+ghost use Rattle.outer_io.specs.Links.{beside_reads, beside_writes, shut_link};
 ghost use Rattle.outer_io.specs.MemLinks.{told_in_memory};
 ghost use Rattle.outer_io.specs.PlainSource.{left_of};
 ghost use Rattle.outer_io.specs.Sink.{Took, TookAtMost, faults_after_write};
@@ -13,13 +13,15 @@ use crate::mem_source::MemSource;
 use crate::sink::{Put, Sink};
 use crate::source::{Got, Source};
 
-/// A link in memory, which gives what its source gives, takes what its sink takes, and fails as they do.
+/// A link in memory, which gives what its source gives, takes what its sink takes, and fails as they do. Once it is shut it takes nothing:
+/// each write fails.
 #[derive(Drop)]
 pub struct MemLink {
     source: MemSource,
     // where its whole bytes begin in those of the source
     start: usize,
     sink: MemSink,
+    is_shut: bool,
 }
 
 impl MemLink {
@@ -30,11 +32,13 @@ impl MemLink {
         ensures taken { (⟦<MemLink as Link>⟧.told result).taken ≡ ⟦<MemSink as Sink>⟧.taken sink }
         ensures read_faults { (⟦<MemLink as Link>⟧.told result).read_faults ≡ ⟦<MemSource as Source>⟧.faults source }
         ensures write_faults { (⟦<MemLink as Link>⟧.told result).write_faults ≡ ⟦<MemSink as Sink>⟧.faults sink }
+        ensures opens { (⟦<MemLink as Link>⟧.told result).is_shut ≡ false }
     {
         MemLink {
             start: source.at(),
             source,
             sink,
+            is_shut: false,
         }
     }
 
@@ -85,7 +89,11 @@ impl Sink for MemLink {
         ensures at_most { TookAtMost self.old.sink.piece result }
         ensures listed { IsTrue (fails_next self.old.sink.plan) → result ≡ Put.Failed }
         ensures counted { IsCounted self.old.sink.plan self.new.sink.plan }
+        ensures shut { IsTrue self.old.is_shut → result ≡ Put.Failed }
     {
+        if self.is_shut {
+            return self.sink.refuse();
+        }
         self.sink.write(piece)
     }
 }
@@ -95,10 +103,12 @@ impl Link for MemLink {
 
     ghost told = { told_in_memory };
 
-    /// Nothing changes: there is nothing to be closed.
+    /// It takes nothing from now on.
     fn shut(&mut self)
-        ensures { self.new ≡ self.old }
-    {}
+        ensures { told_in_memory self.new ≡ shut_link (told_in_memory self.old) }
+    {
+        self.is_shut = true;
+    }
 
     ghost tells = { λ l. record { left = refl; taken = refl; read_faults = refl; write_faults = refl } };
 

@@ -1,5 +1,5 @@
 ghost use Rattle.std.specs.Prelude.{◌≡◌, ◌<◌, ◌≤◌, [], IsTrue, Some, length};
-ghost use Rattle.outer_io.specs.Causes.{Rose};
+ghost use Rattle.outer_io.specs.Causes.{Rose, next_count};
 ghost use Rattle.outer_io.specs.FailingCalls.{fails_next, IsCounted};
 ghost use Rattle.outer_io.specs.Links.{nothing_beside};
 ghost use Rattle.outer_io.specs.Sink.{Took, TookAtMost, faults_after_write};
@@ -39,6 +39,20 @@ impl MemSink {
         ensures { ⟦<MemSink as Sink>⟧.taken self.now ≡ Some result.now }
     {
         self.bytes.as_slice()
+    }
+
+    /// A write that fails, listed or not.
+    pub(crate) fn refuse(&mut self) -> Put
+        ensures failed { result ≡ Put.Failed }
+        ensures stays { (self.new.bytes ≡ self.old.bytes) × (self.new.piece ≡ self.old.piece) }
+        ensures count { self.old.plan.faults ≤ self.new.plan.faults }
+        ensures exact { self.new.plan.faults ≡ next_count self.old.plan.faults }
+        ensures counted { IsCounted self.old.plan self.new.plan }
+    {
+        if !self.plan.next_fails() {
+            self.plan.add_fault();
+        }
+        Put::Failed
     }
 }
 

@@ -1,4 +1,4 @@
-ghost use Rattle.std.specs.Prelude.{◌≡◌, ◌<◌, ◌≤◌, None, IfSome, IsTrue, false, length};
+ghost use Rattle.std.specs.Prelude.{◌≡◌, ◌<◌, ◌≤◌, None, IfSome, false, true, length};
 ghost use Rattle.std.specs.Duration.{as_nanos};
 ghost use Rattle.outer_io.specs.Causes.{Rose};
 ghost use Rattle.outer_io.specs.Sink.{Took, faults_after_write};
@@ -159,7 +159,7 @@ impl<'r, R: Clock> Source for StreamLink<'r, R> {
 
     ghost faults = { λ l. l.read_faults };
 
-    ghost beside = { λ l. count_beside l.write_faults };
+    ghost beside = { λ l. count_beside l.write_faults l.is_shut };
 
     fn read(&mut self, room: &mut [u8]) -> Got
         requires { 0 < length room.old }
@@ -167,8 +167,7 @@ impl<'r, R: Clock> Source for StreamLink<'r, R> {
         ensures count { self.old.read_faults ≤ self.new.read_faults }
         ensures failed { result ≡ Got.Failed → Rose self.old.read_faults self.new.read_faults }
         ensures exact { self.new.read_faults ≡ faults_after_read self.old.read_faults result }
-        ensures beside { count_beside self.new.write_faults ≡ count_beside self.old.write_faults }
-        ensures stays { self.new.is_shut ≡ self.old.is_shut }
+        ensures beside { count_beside self.new.write_faults self.new.is_shut ≡ count_beside self.old.write_faults self.old.is_shut }
         ensures told { IsLinkRead self.old.is_shut self.new.had_time self.new.calls.last self.new.calls.interruptions result }
     {
         if self.is_shut {
@@ -187,7 +186,7 @@ impl<'r, R: Clock> Sink for StreamLink<'r, R> {
 
     ghost faults = { λ l. l.write_faults };
 
-    ghost beside = { λ l. count_beside l.read_faults };
+    ghost beside = { λ l. count_beside l.read_faults l.is_shut };
 
     fn write(&mut self, piece: &[u8]) -> Put
         requires { 0 < length piece.now }
@@ -195,8 +194,7 @@ impl<'r, R: Clock> Sink for StreamLink<'r, R> {
         ensures count { self.old.write_faults ≤ self.new.write_faults }
         ensures failed { result ≡ Put.Failed → Rose self.old.write_faults self.new.write_faults }
         ensures exact { self.new.write_faults ≡ faults_after_write self.old.write_faults result }
-        ensures beside { count_beside self.new.read_faults ≡ count_beside self.old.read_faults }
-        ensures stays { self.new.is_shut ≡ self.old.is_shut }
+        ensures beside { count_beside self.new.read_faults self.new.is_shut ≡ count_beside self.old.read_faults self.old.is_shut }
         ensures told { IsLinkWrite self.old.is_shut self.new.had_time self.new.calls.last self.new.calls.interruptions result }
     {
         let put = if self.is_shut {
@@ -214,11 +212,11 @@ impl<'r, R: Clock> Sink for StreamLink<'r, R> {
 impl<'r, R: Clock> Link for StreamLink<'r, R> {
     ghost use Rattle.std.specs.Prelude.{refl};
 
-    ghost told = { λ l. told_over_stream l.read_faults l.write_faults };
+    ghost told = { λ l. told_over_stream l.read_faults l.write_faults l.is_shut };
 
     fn shut(&mut self)
-        ensures told { (self.new.read_faults ≡ self.old.read_faults) × (self.new.write_faults ≡ self.old.write_faults) }
-        ensures shut { IsTrue self.new.is_shut }
+        ensures { told_over_stream self.new.read_faults self.new.write_faults self.new.is_shut
+            ≡ told_over_stream self.old.read_faults self.old.write_faults true }
     {
         self.is_shut = true;
         let _ = self.calls.stream.shutdown(Shutdown::Both);

@@ -68,6 +68,7 @@ module _ {left : ℕ} {o m n : DeskTerm} {a b c : LinkTold} {kept mid last : Tex
         holds = holds_append x.asked y.asked rs qs x.holds y.holds;
         ends_last = end_append rs qs goes y.ends_last;
         whole = y.whole ∙ x.whole;
+        is_shut = y.is_shut ∙ x.is_shut;
         on = goes_on_trans o m n x.on y.on;
         own = both_own;
         suits = suits_append rs qs notes more n.seat n.seen len

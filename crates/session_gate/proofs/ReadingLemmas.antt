@@ -30,6 +30,7 @@ reads_nothing a kept = record {
   whole = refl;
   taken = refl;
   write_faults = refl;
+  is_shut = refl;
 }
 
 pub reads_more : {a b c : LinkTold} {kept mid last : Text} → Reading a b kept mid → Reading b c mid last → Reading a c kept last
@@ -40,6 +41,7 @@ reads_more {a} {b} {c} {kept} {mid} {last} p q = record {
   whole = q.whole ∙ p.whole;
   taken = q.taken ∙ p.taken;
   write_faults = q.write_faults ∙ p.write_faults;
+  is_shut = q.is_shut ∙ p.is_shut;
 }
 
 -- a reader that knows the bytes whatever follows knows them
@@ -84,6 +86,7 @@ fill_reading a b kept room last held answer front r e = record {
   whole = r.whole;
   taken = r.taken;
   write_faults = r.write_faults;
+  is_shut = r.is_shut;
 }
 
 ended : (a b : Option Text) → IsAtEnd a → Keeps a b → HasGivenAll a b

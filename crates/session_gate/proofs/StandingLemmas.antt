@@ -40,6 +40,7 @@ stands_empty d link legal = record {
     holds = refl;
     ends_last = tt;
     whole = refl;
+    is_shut = refl;
     on = goes_on_refl d legal;
     own = sym (append-nil d.own);
     suits = tt;

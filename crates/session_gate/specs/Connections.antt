@@ -40,8 +40,9 @@ IsLastOf {A} items item = (before : List A) × (items ≡ before ++ item ∷ [])
 
 -- ---- one exchange
 -- Bytes were read behind those that were kept. They hold these requests, and what is kept now. Each has its note, which suits it at what
--- the desk has seen in the end, and the replies of the notes were written, or the first part of them. The desk's own entries grew by
--- those that were taken, and `page_at` was called for each version that was asked for, and no more often than that or entries were refused.
+-- the desk has seen in the end, and the replies of the notes were written, or the first part of them. The link wasn't shut. The desk's own
+-- entries grew by those that were taken, and `page_at` was called for each version that was asked for, and no more often than that or
+-- entries were refused.
 pub record Exchange (left : ℕ) (old new : DeskTerm) (before after : LinkTold) (kept_old kept_new : Text) (requests : List RequestTerm)
     (notes : List Note) (replies written : Text) : Type 0 where
   pub bytes : Text
@@ -51,6 +52,7 @@ pub record Exchange (left : ℕ) (old new : DeskTerm) (before after : LinkTold) 
   pub holds : HoldsRequests asked requests
   pub ends_last : MayEndLast requests
   pub whole : after.whole ≡ before.whole
+  pub is_shut : after.is_shut ≡ before.is_shut
   pub on : GoesOn old new
   pub own : new.own ≡ old.own ++ taken_entries old.seat requests notes
   pub suits : AllSuit requests notes new.seat new.seen

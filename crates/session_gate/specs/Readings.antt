@@ -23,6 +23,7 @@ pub record Reading (before after : LinkTold) (kept_old kept_new : Text) : Type 0
   pub whole : after.whole ≡ before.whole
   pub taken : after.taken ≡ before.taken
   pub write_faults : after.write_faults ≡ before.write_faults
+  pub is_shut : after.is_shut ≡ before.is_shut
 
 -- One read gave the next bytes, or none, and nothing else happened to the link, but that it may have failed.
 pub record IsReadOnce (before after : LinkTold) (room : Text) (answer : Got) : Type 0 where
@@ -31,6 +32,7 @@ pub record IsReadOnce (before after : LinkTold) (room : Text) (answer : Got) : T
   pub taken : after.taken ≡ before.taken
   pub read_faults : after.read_faults ≡ faults_after_read before.read_faults answer
   pub write_faults : after.write_faults ≡ before.write_faults
+  pub is_shut : after.is_shut ≡ before.is_shut
 
 -- How many bytes an answer gives.
 abbrev pub bytes_given : Got → ℕ

@@ -12,3 +12,4 @@ pub record Sending (before after : LinkTold) (reply : Text) (answer : Written) :
   pub whole : after.whole ≡ before.whole
   pub read_faults : after.read_faults ≡ before.read_faults
   pub write_faults : after.write_faults ≡ faults_after_text before.write_faults answer
+  pub is_shut : after.is_shut ≡ before.is_shut

@@ -2,7 +2,7 @@
 use Rattle.std.proofs.Common.{◌≡◌, ℕ, List, [], ◌∷◌, ◌++◌, length, map, Option, None, Some, refl, ap, sym, subst, ◌∙◌, ◌+◌, ◌-◌, arith, append_assoc, append-nil, length-append}
 use Rattle.std.proofs.lemmas.List.{map-append}
 use mathlib.Core.List.{IsPrefix}
-use Rattle.outer_io.specs.Links.{LinkTold, IsFresh}
+use Rattle.outer_io.specs.Links.{LinkTold, IsFresh, shut_link}
 use Rattle.outer_gates.specs.Gates.{Finishes}
 use Rattle.task_model.specs.Terms.Item.{ItemTerm, history_term}
 use Rattle.task_model.specs.Running.State.{IsSeat}
@@ -58,15 +58,17 @@ finished_push start h (Some entry) (Some now) (Some new) link counts count p q a
     (p.0 ++ link ∷ [], q ∙ ap (λ l. l ++ link ∷ []) p.1 ∙ append_assoc entry p.0 (link ∷ []), are_answered_push start h p.0 counts link count p.2 a)
 
 -- so many inputs were taken as the own entries grew
-pub served_link : {start : List ItemTerm} {old new : DeskTerm} {before link : LinkTold} {notes : List Note} {end : Ending}
-    → IsFresh before → Served old new before link notes end → IsSeat old.seat → IsPrefix start old.seen → (count : ℕ) → count + length old.own ≡ length new.own
-    → IsLinkServed start old new link count
-served_link {start} {old} {new} {before} {link} {notes} {end} fresh served seated opened count grew = record {
+pub served_link : {start : List ItemTerm} {old new : DeskTerm} {before after link : LinkTold} {notes : List Note} {end : Ending}
+    → IsFresh before → Served old new before after notes end → link ≡ shut_link after → IsSeat old.seat → IsPrefix start old.seen → (count : ℕ)
+    → count + length old.own ≡ length new.own → IsLinkServed start old new link count
+served_link {start} {old} {new} {before} {after} {link} {notes} {end} fresh served shut seated opened count grew = record {
   before = before;
+  after = after;
   fresh = fresh;
   notes = notes;
   end = end;
   served = served;
+  shut = shut;
   seated = seated;
   opened = opened;
   counted = (
@@ -75,14 +77,14 @@ served_link {start} {old} {new} {before} {link} {notes} {end} fresh served seate
       omega (arith, all, grew));
 }
 
-pub served_grown : {start : List ItemTerm} {old new : DeskTerm} {before link : LinkTold} {notes : List Note} {end : Ending}
-    → IsFresh before → Served old new before link notes end → IsSeat old.seat → IsPrefix start old.seen
+pub served_grown : {start : List ItemTerm} {old new : DeskTerm} {before after link : LinkTold} {notes : List Note} {end : Ending}
+    → IsFresh before → Served old new before after notes end → link ≡ shut_link after → IsSeat old.seat → IsPrefix start old.seen
     → IsLinkServed start old new link (length new.own - length old.own)
-served_grown {start} {old} {new} {before} {link} {notes} {end} fresh served seated opened =
+served_grown {start} {old} {new} {before} {after} {link} {notes} {end} fresh served shut seated opened =
     let all = ap length served.exchange.own ∙ length-append old.own (taken_entries old.seat served.requests notes) in
-    served_link fresh served seated opened (length new.own - length old.own) (omega (arith, all))
+    served_link fresh served shut seated opened (length new.own - length old.own) (omega (arith, all))
 
--- a link that was served, and shut, at a history that was seen in the end
+-- a link that was served at a history that was seen in the end
 pub link_answered : {start : List ItemTerm} {old new : DeskTerm} {link told : LinkTold} {count grown : ℕ} (history : List ItemTerm)
     → IsLinkServed start old new link grown → link ≡ told → grown ≡ count → history ≡ new.seen → IsAnswered start history told count
 link_answered {start} {old} {new} {link} {told} {count} {grown} history served is same seen = record {

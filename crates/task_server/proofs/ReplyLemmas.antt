@@ -3,13 +3,13 @@ use Rattle.std.proofs.Common.{◌≡◌, ℕ, zero, suc, ◌+◌, ◌-◌, ◌^�
 use mathlib.Core.List.{IsPrefix}
 use Rattle.std.specs.Io.KnownBytes.{Appends, Consumes}
 use Rattle.outer_io.specs.Causes.{next_count}
-use Rattle.outer_io.specs.Links.{LinkTold}
+use Rattle.outer_io.specs.Links.{LinkTold, shut_link}
 use Rattle.task_model.specs.Terms.Item.{ItemTerm, opened, took}
 use Rattle.task_model.specs.Terms.Text.{Text}
 use Rattle.task_model.specs.Running.State.{IsLegal, version_of}
 use Rattle.http_requests.specs.Requests.{RequestTerm, refused}
 use Rattle.http_requests.specs.Streams.{BeginsWith, HasNoRequest, BeginsSome, IsIdle, Requests, AreRequests, no_more, no_whole, last, further, is_last, ends_asked}
-use Rattle.session_gate.specs.Connections.{AllGoOn, AreWritten, HasAnswered, HasGivenAll, IsEnding, IsLastOf, MayEndLast, read_faults_after, write_faults_after}
+use Rattle.session_gate.specs.Connections.{AllGoOn, AreWritten, HasAnswered, HasGivenAll, IsCut, IsCutAtLast, IsEnding, IsLastOf, MayEndLast, read_faults_after, write_faults_after}
 use Rattle.session_gate.specs.Notes.{AllSuit, IsJoined, IsRising, NoneIsMemory, is_memory, taken_entries}
 use Rattle.session_gate.specs.declared.ending.Ending.{Ending}
 use Rattle.session_gate.specs.declared.ending.Ending.TheVariants as ending
@@ -150,13 +150,46 @@ self_append : (xs ys : List RequestTerm) → xs ≡ xs ++ ys → ys ≡ []
 self_append [] ys e = sym e
 self_append (x ∷ xs) ys e = self_append xs ys (cc e)
 
-pub replies_of : IdleBegins → (start history : List ItemTerm) (link : LinkTold) (count : ℕ) → IsLegal history → IsAnswered start history link count
-    → (whole taken : Text) → link.whole ≡ Some whole → link.taken ≡ Some taken
-    → (requests : List RequestTerm) (rest : Text) → Requests whole requests rest → HasReplies history link taken requests count
-replies_of idle start history link count legal a whole taken whole_is taken_is requests rest are =
+rising_up : (low high : ℕ) (notes : List Note) → IsRising low notes high → low ≤ high
+rising_up low high [] up = up
+rising_up low high (n ∷ ns) up = let ih = rising_up n.version high ns up.1 in let le = up.0 in omega arith
+
+rising_front : (notes more : List Note) (low high : ℕ) → IsRising low (notes ++ more) high → IsRising low notes high
+rising_front [] more low high up = rising_up low high more up
+rising_front (n ∷ ns) more low high up = (up.0, rising_front ns more n.version high up.1)
+
+-- a write failed only where one ended the connection, and then all replies but that of the last note are whole
+cut_where_failed : (end : Ending) (before now : ℕ) (rs : List RequestTerm) (notes : List Note) (seat : ℕ) (h k : List ItemTerm) (written : Text)
+    → IsLegal h → IsLegal k → IsPrefix h k → (low : ℕ) → IsRising low notes (version_of h) → IsCutAtLast end rs notes seat h written
+    → now ≡ write_faults_after end before → before ≡ 0 → 0 < now → IsCut rs notes seat k written
+cut_where_failed ending.WriteFault before now rs notes seat h k written legal later on low up p is from some = record {
+  first = p.first;
+  others = p.others;
+  split = p.split;
+  before = p.before;
+  last = p.last;
+  noted = p.noted;
+  whole = p.whole;
+  joined = joined_later 100 p.first p.before seat low h k p.whole legal later on
+      (rising_front p.before (p.last ∷ []) low (version_of h) (subst (λ (ns : List Note). IsRising low ns (version_of h)) p.noted up)) p.joined;
+  begins = p.begins;
+}
+cut_where_failed ending.Ended before now rs notes seat h k written legal later on low up p is from some = absurd (omega (arith, is, from, some))
+cut_where_failed ending.Cut before now rs notes seat h k written legal later on low up p is from some = absurd (omega (arith, is, from, some))
+cut_where_failed ending.Parted before now rs notes seat h k written legal later on low up p is from some = absurd (omega (arith, is, from, some))
+cut_where_failed (ending.Refused status) before now rs notes seat h k written legal later on low up p is from some = absurd (omega (arith, is, from, some))
+cut_where_failed ending.Spent before now rs notes seat h k written legal later on low up p is from some = absurd (omega (arith, is, from, some))
+cut_where_failed ending.ReadFault before now rs notes seat h k written legal later on low up p is from some = absurd (omega (arith, is, from, some))
+cut_where_failed ending.Memory before now rs notes seat h k written legal later on low up p is from some = absurd (omega (arith, is, from, some))
+
+replies_before : IdleBegins → (start history : List ItemTerm) {link : LinkTold} (count : ℕ) → IsLegal history → (a : IsAnswered start history link count)
+    → (whole taken : Text) → a.connection.after.whole ≡ Some whole → a.connection.after.taken ≡ Some taken
+    → (requests : List RequestTerm) (rest : Text) → Requests whole requests rest → HasReplies history (shut_link a.connection.after) taken requests count
+replies_before idle start history count legal a whole taken whole_is taken_is requests rest are =
     let c = a.connection in
     let s = c.served in
     let x = s.exchange in
+    let link = c.after in
     let told : c.before.whole ≡ Some whole = sym x.whole ∙ whole_is in
     let first : c.before.left ≡ Some whole = c.fresh.left ∙ told in
     let left = left_of c.before.left link.left whole x.bytes first x.read in
@@ -178,6 +211,9 @@ replies_of idle start history link count legal a whole taken whole_is taken_is r
       joined = joined_later 100 s.requests c.notes a.new.seat (version_of a.old.seen) a.new.seen history s.replies x.on.legal legal a.within x.rising x.joined;
       starts = subst (λ (t : Text). (more : Text) × (s.replies ≡ t ++ more)) (sym all) x.starts;
       written = λ none. all ∙ all_written c.end c.before.write_faults link.write_faults s.replies s.written s.all s.write_faults c.fresh.write_faults none;
+      cut = λ some. subst (λ (t : Text). IsCut s.requests c.notes a.new.seat history t) (sym all)
+          (cut_where_failed c.end c.before.write_faults link.write_faults s.requests c.notes a.new.seat a.new.seen history s.written x.on.legal legal
+          a.within (version_of a.old.seen) x.rising s.cut s.write_faults c.fresh.write_faults some);
       each = none_left idle x.asked s.kept left.rest s.requests front.0 c.notes are front.1 c.end c.before.left link.left s.ending s.answered
           c.before.read_faults link.read_faults c.before.write_faults link.write_faults s.read_faults s.write_faults c.fresh.read_faults c.fresh.write_faults
           (λ none given goes many.
@@ -186,3 +222,12 @@ replies_of idle start history link count legal a whole taken whole_is taken_is r
           let only = only_requests x.asked s.kept s.requests short x.holds goes many none are in
           self_append s.requests front.0 (sym only.0 ∙ front.1));
     }
+
+pub replies_of : IdleBegins → (start history : List ItemTerm) (link : LinkTold) (count : ℕ) → IsLegal history → IsAnswered start history link count
+    → (whole taken : Text) → link.whole ≡ Some whole → link.taken ≡ Some taken
+    → (requests : List RequestTerm) (rest : Text) → Requests whole requests rest → HasReplies history link taken requests count
+replies_of idle start history link count legal a whole taken whole_is taken_is requests rest are =
+    let shut = a.connection.shut in
+    subst (λ (l : LinkTold). HasReplies history l taken requests count) (sym shut)
+    (replies_before idle start history count legal a whole taken (sym (ap (λ (l : LinkTold). l.whole) shut) ∙ whole_is)
+    (sym (ap (λ (l : LinkTold). l.taken) shut) ∙ taken_is) requests rest are)

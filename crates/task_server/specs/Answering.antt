@@ -1,7 +1,7 @@
 -- Finished links, and what was written to them (docs/RULES.md, "Serving").
 use Rattle.std.specs.Prelude.{◌≡◌, ℕ, List, [], ◌∷◌, ◌++◌, length, Option, None, Some, ⊤}
 use mathlib.Core.List.{IsPrefix}
-use Rattle.outer_io.specs.Links.{LinkTold, IsFresh}
+use Rattle.outer_io.specs.Links.{LinkTold, IsFresh, shut_link}
 use Rattle.task_model.specs.Terms.Item.{ItemTerm}
 use Rattle.task_model.specs.Running.State.{IsSeat}
 use Rattle.session_desk.specs.Desks.{DeskTerm}
@@ -11,13 +11,15 @@ use Rattle.session_gate.specs.declared.note.Note.{Note}
 use Rattle.session_gate.specs.declared.ending.Ending.{Ending}
 
 -- A connection was served over a link with which nothing had been done, at the desk of a seat, whose history began with `start`: with these
--- notes, so many of which tell that an input was taken.
+-- notes, so many of which tell that an input was taken. Behind it the link was shut.
 pub record IsLinkServed (start : List ItemTerm) (old new : DeskTerm) (link : LinkTold) (count : ℕ) : Type 0 where
   pub before : LinkTold
+  pub after : LinkTold
   pub fresh : IsFresh before
   pub notes : List Note
   pub end : Ending
-  pub served : Served old new before link notes end
+  pub served : Served old new before after notes end
+  pub shut : link ≡ shut_link after
   pub seated : IsSeat old.seat
   pub opened : IsPrefix start old.seen
   pub counted : count ≡ length (taken_entries old.seat served.requests notes)

@@ -59,7 +59,7 @@ pub(crate) fn work<M: Mark, W: Watch, T: Ledger, E: Ledger, G: Gate, S: Wait + C
     unreachable!()
 }
 
-// Serves a link with this session, shuts it, and gives it back.
+// Serves a link with this session, which is shut then, and gives it back.
 fn serve_link<M: Mark, W: Watch, T: Ledger, E: Ledger, G: Gate, S: Wait + Copy, R: Wait>(
     rt: &R,
     alloc: Global,
@@ -82,14 +82,13 @@ fn serve_link<M: Mark, W: Watch, T: Ledger, E: Ledger, G: Gate, S: Wait + Copy, 
     let mut link = link;
     let before = session.own_count();
     let session = serve_seated(rt, alloc, shared, session, &mut link, trace);
-    link.shut();
     let count = session.own_count() - before;
     let seen = session.front();
     porch.lock(rt).finish(link, shares, &seen, count as u64);
     session
 }
 
-// Serves a link at the session's seat.
+// Serves a link at the session's seat, and shuts it.
 fn serve_seated<M: Mark, K: Link, S: Wait + Copy, R: Wait>(
     rt: &R,
     alloc: Global,
@@ -109,6 +108,7 @@ fn serve_seated<M: Mark, K: Link, S: Wait + Copy, R: Wait>(
     let mut seated = Seated { session, shared };
     trace.clear();
     serve_connection(rt, alloc, &mut seated, link, trace);
+    link.shut();
     let Seated { session, .. } = seated;
     session
 }

@@ -8,6 +8,7 @@ ghost use Rattle.world_answers.specs.declared.line_form.LineForm.TheVariants as 
 
 use crate::answer_texts::{not_offered_line, over_budget_line, page_line, taken_line};
 use crate::line_form::LineForm;
+use crate::rhythm::Rhythm;
 use input_lines::Line;
 use std::alloc::Global;
 use std::sync::ledger::Ledger;
@@ -20,8 +21,7 @@ pub struct Answering<L: Ledger> {
     form: LineForm,
     world: World,
     steps: Steps<L>,
-    // Whether the present state was shown.
-    is_shown: bool,
+    rhythm: Rhythm,
     ghost rest: { IsNone world.next },
 }
 
@@ -36,7 +36,7 @@ impl<L: Ledger> Answering<L> {
             form,
             world,
             steps,
-            is_shown: false,
+            rhythm: Rhythm::new(),
         }
     }
 
@@ -89,7 +89,7 @@ impl<L: Ledger> Answering<L> {
             (world_term self.new.world)) }
     {
         let page = self.world.page(alloc, Face::Text, seat, &mut self.steps)?;
-        self.is_shown = true;
+        self.rhythm.show();
         Ok(page.into_bytes())
     }
 
@@ -101,7 +101,7 @@ impl<L: Ledger> Answering<L> {
     {
         let version = self.world.version();
         let widgets = self.world.widgets(alloc, &mut self.steps)?;
-        self.is_shown = true;
+        self.rhythm.show();
         page_line(alloc, version, seat, widgets)
     }
 
@@ -116,19 +116,19 @@ impl<L: Ledger> Answering<L> {
         reply_text(alloc, self.form, reply, self.world.version())
     }
 
-    // Gives an input to the world. Where the present state was shown the next one likely is, too.
+    // Gives an input to the world. Behind a page the state that it leads to is drawn with it.
     fn handle(&mut self, alloc: Global, entry: Entry) -> Result<Taken, ActStop>
         requires { IsSeat entry.seat }
         ensures form { self.new.form ≡ self.old.form }
         ensures replies { Replies (world_term self.old.world) (entry_term entry) (world_term self.new.world) result }
     {
-        if !self.is_shown {
+        if !self.rhythm.draws() {
             return self.world.handle(entry.seat, entry.input);
         }
         let taken = self
             .world
             .handle_and_draw(alloc, entry.seat, entry.input, &mut self.steps)?;
-        self.is_shown = false;
+        self.rhythm.count();
         Ok(taken)
     }
 }

@@ -4,6 +4,7 @@
 mod answer_texts;
 mod answering;
 mod line_form;
+mod rhythm;
 
 pub use answering::Answering;
 pub use line_form::LineForm;

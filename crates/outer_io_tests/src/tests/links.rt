@@ -40,10 +40,11 @@ fn calls<L: Link>(alloc: Global, link: &mut L) -> Result<String, OutOfMemory> {
     Ok(text)
 }
 
-// The same, and what was taken.
+// The same, what a write behind the end answers, and what was taken.
 fn calls_and_taken(alloc: Global, link: &mut MemLink) -> Result<String, OutOfMemory> {
     let mut text = calls(alloc, link)?;
-    text.push(' ')?;
+    let behind = link.write(b"more");
+    write!(text, " {behind:?} ")?;
     text.push_str(str::from_utf8(link.taken()).unwrap_or("no text"))?;
     Ok(text)
 }
@@ -58,7 +59,7 @@ fn a_link_in_memory_does_as_its_sides_do(rt: HostRuntime) -> Result<(), Fail> {
     let told = memory_link_told(rt.alloc())?;
     assert_eq!(rt;
         told.as_str(),
-        "Took(3) Took(2) Failed Failed Took(2) End dec. xyzz"
+        "Took(3) Took(2) Failed Failed Took(2) End dec. Failed xyzz"
     );
     Ok(())
 }

@@ -1,5 +1,5 @@
 //! A link that gives its bytes once another one has taken a reply.
-ghost use Rattle.std.specs.Prelude.{◌≡◌, ◌<◌, ◌≤◌, None, length};
+ghost use Rattle.std.specs.Prelude.{◌≡◌, ◌<◌, ◌≤◌, IfOk, None, false, length, true};
 ghost use Rattle.outer_io.specs.Causes.{Rose};
 ghost use Rattle.outer_io.specs.Sink.{Took, faults_after_write};
 ghost use Rattle.outer_io.specs.Source.{Gave, faults_after_read};
@@ -73,7 +73,7 @@ enum Part {
     Gives,
 }
 
-/// A link that tells nothing: it gives a request, and keeps what it takes.
+/// A link that tells only whether it was shut: it gives a request, and keeps what it takes, which is nothing once it was shut.
 #[derive(Drop)]
 pub(super) struct WaitingLink {
     request: &'static str,
@@ -81,6 +81,7 @@ pub(super) struct WaitingLink {
     taken: Vec<u8>,
     signal: Signal,
     part: Part,
+    is_shut: bool,
 }
 
 impl WaitingLink {
@@ -89,7 +90,9 @@ impl WaitingLink {
         alloc: Global,
         request: &'static str,
         signal: &Signal,
-    ) -> Result<WaitingLink, OutOfMemory> {
+    ) -> Result<WaitingLink, OutOfMemory>
+        ensures { IfOk result (λ link. link.is_shut ≡ false) }
+    {
         WaitingLink::new(alloc, request, signal, Part::Waits)
     }
 
@@ -98,7 +101,9 @@ impl WaitingLink {
         alloc: Global,
         request: &'static str,
         signal: &Signal,
-    ) -> Result<WaitingLink, OutOfMemory> {
+    ) -> Result<WaitingLink, OutOfMemory>
+        ensures { IfOk result (λ link. link.is_shut ≡ false) }
+    {
         WaitingLink::new(alloc, request, signal, Part::Gives)
     }
 
@@ -107,13 +112,16 @@ impl WaitingLink {
         request: &'static str,
         signal: &Signal,
         part: Part,
-    ) -> Result<WaitingLink, OutOfMemory> {
+    ) -> Result<WaitingLink, OutOfMemory>
+        ensures { IfOk result (λ link. link.is_shut ≡ false) }
+    {
         Ok(WaitingLink {
             request,
             at: 0,
             taken: Vec::new(alloc),
             signal: signal.copy()?,
             part,
+            is_shut: false,
         })
     }
 
@@ -127,7 +135,7 @@ impl Source for WaitingLink {
 
     ghost faults = { λ l. 0 };
 
-    ghost beside = { λ l. count_beside 0 };
+    ghost beside = { λ l. count_beside 0 l.is_shut };
 
     fn read(&mut self, room: &mut [u8]) -> Got
         requires { 0 < length room.old }
@@ -135,6 +143,7 @@ impl Source for WaitingLink {
         ensures count { 0 ≤ 0 }
         ensures failed { result ≡ Got.Failed → Rose 0 0 }
         ensures exact { 0 ≡ faults_after_read 0 result }
+        ensures beside { count_beside 0 self.new.is_shut ≡ count_beside 0 self.old.is_shut }
     {
         if self.part == Part::Waits {
             self.signal.wait();
@@ -155,7 +164,7 @@ impl Sink for WaitingLink {
 
     ghost faults = { λ l. 0 };
 
-    ghost beside = { λ l. count_beside 0 };
+    ghost beside = { λ l. count_beside 0 l.is_shut };
 
     fn write(&mut self, piece: &[u8]) -> Put
         requires { 0 < length piece.now }
@@ -163,9 +172,12 @@ impl Sink for WaitingLink {
         ensures count { 0 ≤ 0 }
         ensures failed { result ≡ Put.Failed → Rose 0 0 }
         ensures exact { 0 ≡ faults_after_write 0 result }
+        ensures beside { count_beside 0 self.new.is_shut ≡ count_beside 0 self.old.is_shut }
     {
-        // What there is no memory for isn't kept, and the test fails.
-        let _ = self.taken.extend_from_slice(piece);
+        // What there is no memory for isn't kept, and neither is what comes once it was shut: the test fails.
+        if !self.is_shut {
+            let _ = self.taken.extend_from_slice(piece);
+        }
         if self.part == Part::Gives {
             self.signal.give();
         }
@@ -176,9 +188,13 @@ impl Sink for WaitingLink {
 impl Link for WaitingLink {
     ghost use Rattle.std.specs.Prelude.{refl};
 
-    ghost told = { λ l. told_over_stream 0 0 };
+    ghost told = { λ l. told_over_stream 0 0 l.is_shut };
 
-    fn shut(&mut self) {}
+    fn shut(&mut self)
+        ensures { told_over_stream 0 0 self.new.is_shut ≡ told_over_stream 0 0 true }
+    {
+        self.is_shut = true;
+    }
 
     ghost tells = { λ l. record { left = refl; taken = refl; read_faults = refl; write_faults = refl } };
 
