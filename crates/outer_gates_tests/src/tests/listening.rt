@@ -141,9 +141,13 @@ fn of_no_request<G: Gate>(rt: &HostRuntime, gate: &mut G, addr: SocketAddr) -> R
     asks(rt, gate, addr, &[b'a'; 8192])
 }
 
-// Whether a link was ended.
+// Whether a link was ended. It is reset where bytes had come that nobody read.
 fn is_ended(client: &mut TcpStream) -> Result<bool, Fail> {
-    Ok(client.read(&mut [0u8; 1])? == 0)
+    match client.read(&mut [0u8; 1]) {
+        Ok(count) => Ok(count == 0),
+        Err(error) if error.kind() == ErrorKind::ConnectionReset => Ok(true),
+        Err(error) => Err(Fail::from(error)),
+    }
 }
 
 // Two requests of other clients, while one goes on too late: whether its link was ended.
