@@ -1,15 +1,16 @@
 -- What handling an input costs, and settling behind it.
 use Rattle.std.proofs.Common.{ℕ, Bool, true, false, List, [], ◌∷◌, ◌++◌, Option, Some, None}
 use Rattle.std.specs.Prelude.{slice_set}
+use Rattle.task_model.specs.Terms.Text.{is_default_label}
 use Rattle.task_model.specs.Terms.Basic.{BasicTerm}
 use Rattle.task_model.specs.Terms.Value.{ValueTerm, value_has}
 use Rattle.task_model.specs.Terms.Env.{SlotTerm, plain_slot}
 use Rattle.task_model.specs.Terms.Tree.{LaterTerm, TreeTerm, edit_tree, enter_tree, share_tree, then_tree, next_tree, fail_tree, and_tree, or_tree, xor_tree, State, at}
-use Rattle.task_model.specs.Terms.Input.{ActTerm, set_act, left_act, right_act, InputTerm}
+use Rattle.task_model.specs.Terms.Input.{ActTerm, set_act, next_act, left_act, right_act, InputTerm}
 use Rattle.task_model.specs.Running.Checked.{CheckedTerm}
 use Rattle.task_model.specs.Running.Plan.{Plan, give, plan_work, Parts, derives_at}
 use Rattle.task_model.specs.Running.Rules.{branch, value_of, rule_of}
-use Rattle.task_model.specs.Running.Handling.{if_typed, at_editor, rebuilt, rebuilds, stopped, unless_failing, at_step, handled, handles, settled, interacts}
+use Rattle.task_model.specs.Running.Handling.{if_typed, at_editor, rebuilt, rebuilds, stopped, if_labelled, branch_for, unless_failing, chosen_branch, at_step, handled, handles, settled, interacts}
 use Rattle.task_model.specs.declared.input.Turn.{Turn}
 use Rattle.task_model.specs.declared.input.Turn.TheVariants as turns
 use Rattle.task_model.specs.Checking.Accepted.{IsAccepted}
@@ -66,11 +67,25 @@ module _ (c : CheckedTerm) (accepted : IsAccepted c) (T : Tables) (G : Bound) (h
         (λ s no l w'. branches c accepted k no (give None) (give (Some s)) (StaysIf F) naught w' (λ _. none_does F naught)
         (λ _. does_give (Some s) (StaysIf F) (stays_in T G _ _ s h l)))) g
 
-    step_does : (o : Option ValueTerm) (j : LaterTerm) (σ : List ValueTerm) (p : Plan (Option State)) (F : Figures) → Under (test_bound (T.body j.body)) G
-        → Calm (T.body j.body) F → Well c (at_step c o j σ p) → (Well c p → Does k (plan_work part p) (StaysIf F) G)
-        → Does k (plan_work part (at_step c o j σ p)) (StaysIf F) G
-    step_does None j σ p F g h w r = r w
-    step_does (Some v) j σ p F g h w r = picked_does j.body (j.slots ++ plain_slot v ∷ []) σ F g h w
+    labelled_does : (b : Bool) (j : LaterTerm) (v : ValueTerm) (σ : List ValueTerm) (F : Figures) → Under (test_bound (T.body j.body)) G
+        → Calm (T.body j.body) F → Well c (chosen_branch c (if_labelled b j) v σ)
+        → Does k (plan_work part (chosen_branch c (if_labelled b j) v σ)) (StaysIf F) G
+    labelled_does true j v σ F g h w = picked_does j.body (j.slots ++ plain_slot v ∷ []) σ F g h w
+    labelled_does false j v σ F g h w = none_does F G
+
+    chosen_does : (act : ActTerm) (j : LaterTerm) (v : ValueTerm) (σ : List ValueTerm) (F : Figures) → Under (test_bound (T.body j.body)) G
+        → Calm (T.body j.body) F → Well c (chosen_branch c (branch_for act j) v σ)
+        → Does k (plan_work part (chosen_branch c (branch_for act j) v σ)) (StaysIf F) G
+    chosen_does (next_act l) j v σ F g h w = labelled_does (is_default_label l) j v σ F g h w
+    chosen_does (set_act u) j v σ F g h w = none_does F G
+    chosen_does left_act j v σ F g h w = none_does F G
+    chosen_does right_act j v σ F g h w = none_does F G
+
+    step_does : (o : Option ValueTerm) (act : ActTerm) (j : LaterTerm) (σ : List ValueTerm) (p : Plan (Option State)) (F : Figures)
+        → Under (test_bound (T.body j.body)) G → Calm (T.body j.body) F → Well c (at_step c o (branch_for act j) σ p)
+        → (Well c p → Does k (plan_work part p) (StaysIf F) G) → Does k (plan_work part (at_step c o (branch_for act j) σ p)) (StaysIf F) G
+    step_does None act j σ p F g h w r = r w
+    step_does (Some v) act j σ p F g h w r = chosen_does act j v σ F g h w
 
     -- ---- every form
     pub handled_does : (t : TreeTerm) (σ : List ValueTerm) (path : List Turn) (act : ActTerm) → TestsUnder T G t → Well c (handled c t σ path act)
@@ -83,7 +98,7 @@ module _ (c : CheckedTerm) (accepted : IsAccepted c) (T : Tables) (G : Bound) (h
         rebuilt_does (tree_figures T t) (then (tree_figures T t) (T.body j.body)) (λ t'. then_tree t' j) (handled c t σ path act)
         (λ s l. record { figures = calm_then _ _ _ l.figures; tests = l.tests }) w (handled_does t σ path act g)
     handled_does (next_tree t j) σ path act g w =
-        step_does (stopped path act (value_of t σ)) j σ _ (next (tree_figures T t) (T.body j.body)) g.0 (next_second _ _ _ (calm_self _)) w (λ w'.
+        step_does (stopped path act (value_of t σ)) act j σ _ (next (tree_figures T t) (T.body j.body)) g.0 (next_second _ _ _ (calm_self _)) w (λ w'.
         rebuilt_does (tree_figures T t) (next (tree_figures T t) (T.body j.body)) (λ t'. next_tree t' j) (handled c t σ path act)
         (λ s l. record { figures = calm_next _ _ (T.body j.body) l.figures; tests = (g.0, l.tests) }) w' (handled_does t σ path act g.1))
     handled_does fail_tree σ path act g w = none_does _ G

@@ -144,7 +144,7 @@ kept i [] (set_act (bool_value b)) m d = let no = d.2.value in absurd cc
 kept i [] (set_act (text_value t)) m d = let no = d.2.value in absurd cc
 kept i [] (set_act (pair_value v w)) m d = let no = d.2.value in absurd cc
 kept i [] (set_act (list_value vs)) m d = let no = d.2.value in absurd cc
-kept i [] next_act m d = let no = d.2.value in absurd cc
+kept i [] (next_act l) m d = let no = d.2.value in absurd cc
 kept i [] left_act m d = let no = d.2.value in absurd cc
 kept i [] right_act m d = let no = d.2.value in absurd cc
 kept i (turn ∷ path) act m d = let no = d.2.value in absurd cc

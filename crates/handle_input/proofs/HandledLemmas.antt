@@ -143,5 +143,5 @@ module _ (P : Type 0) where
 
 -- where a Next act stops at a value, the left part has it
 pub stopped_value : (path : List Turn) (act : ActTerm) (o : Option ValueTerm) (v : ValueTerm) → stopped path act o ≡ Some v → o ≡ Some v
-stopped_value [] next_act o v e = e
+stopped_value [] (next_act l) o v e = e
 stopped_value path act o v e = absurd cc

@@ -18,7 +18,8 @@ ghost use Rattle.task_evaluation.specs.Kinds as kinds;
 ghost use Rattle.task_evaluation.specs.Stores.{values_in, state_in};
 ghost use Rattle.handle_input.specs.Editing.{picked_side};
 
-use crate::bodies::{side_taken, stepped};
+use crate::bodies::side_taken;
+use crate::choices::chosen;
 use crate::editing::{edited, edited_place};
 use crate::rebuilding::{
     first_in_memory, in_first, in_memory, in_second, in_step, second_in_memory,
@@ -160,7 +161,7 @@ fn at_then(
     Ok(in_step(StepKind::Then, led, k)?)
 }
 
-// At a user step: where a Next act stops at a value, the step goes on.
+// At a user step: where a Next act stops at a value, the step goes on with the branch of its label.
 #[inline(never)]
 #[cycle(handled)]
 fn at_next(
@@ -184,7 +185,7 @@ fn at_next(
 {
     let stopped = stopped(engine, left, store, path, act)?;
     match stopped {
-        Some(v) => stepped(engine, k, v, store, purse),
+        Some(v) => chosen(engine, k, act, v, store, purse),
         None => {
             let led = part_handled(engine, left, store, path, act, purse)?;
             Ok(in_step(StepKind::Next, led, k)?)
@@ -200,12 +201,11 @@ fn stopped(
     path: &[Turn],
     act: &Act,
 ) -> Result<Option<Value>, OutOfMemory>
-    ensures held { IfOk result (λ o. IfSome o (λ v. IsHeldAct (act_term act.now))) }
-    ensures value { IfOk result
+    ensures { IfOk result
         (λ v. option_map value_term v ≡ model.stopped path.now (act_term act.now) (value_of (tree_term left.now) (values_in store.now))) }
 {
     match (path, act) {
-        ([], Act::Next) => value(engine.alloc(), left, store),
+        ([], Act::Next(_)) => value(engine.alloc(), left, store),
         _ => Ok(None),
     }
 }

@@ -2,6 +2,7 @@
 #![tactic(auto)]
 
 mod bodies;
+mod choices;
 mod editing;
 mod ending;
 mod handling;

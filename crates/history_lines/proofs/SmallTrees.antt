@@ -1,8 +1,9 @@
 -- The values that the entries of a legal history set have types of at most 64 symbols, so that their printed lines ask for them again.
 use Rattle.std.proofs.Common.{◌≡◌, ℕ, zero, suc, Bool, true, false, List, [], ◌∷◌, ◌++◌, Option, Some, None, refl, sym, subst}
 use Rattle.std.specs.Prelude.{slice_get}
+use Rattle.std.proofs.lemmas.Slice.Eq.{bytes_eq-Decides}
 use Rattle.task_model.specs.Terms.Basic.{BasicTerm}
-use Rattle.task_model.specs.Terms.Text.{Text}
+use Rattle.task_model.specs.Terms.Text.{Text, default_label, is_default_label}
 use Rattle.task_model.specs.Terms.Value.{ValueTerm, bool_value, list_value, no_values, more_values, value_has}
 use Rattle.task_model.specs.Syntax.Literal.{value_text}
 use Rattle.task_model.specs.Terms.Env.{SlotTerm, plain_slot, place_slot, EnvTerm, empty_env}
@@ -16,7 +17,7 @@ use Rattle.task_model.specs.Running.Rules.{as_place, branch, chosen, matched, ba
 use Rattle.task_model.specs.Terms.Input.{ActTerm, set_act, next_act, left_act, right_act, InputTerm}
 use Rattle.task_model.specs.Terms.Held.{IsHeldAct}
 use Rattle.task_model.specs.Terms.Item.{ItemTerm, opened, took}
-use Rattle.task_model.specs.Running.Handling.{if_typed, at_editor, rebuilt, rebuilds, stopped, at_step, handled, handles, settled, interacts}
+use Rattle.task_model.specs.Running.Handling.{if_typed, at_editor, rebuilt, rebuilds, stopped, if_labelled, branch_for, chosen_branch, at_step, handled, handles, settled, interacts}
 use Rattle.task_model.specs.Running.Outcome.{IsTaken}
 use Rattle.task_model.specs.Running.State.{IsOpening, LeadTo, AreEntries, IsLegal}
 use Rattle.task_model.specs.Checking.Accepted.{IsAccepted, typed_program}
@@ -34,16 +35,16 @@ use Rattle.history_lines.specs.AskAgain.{AskAgain}
 use Rattle.history_lines.proofs.SmallTypes.{SmallTask, SmallParts, parts_small, small_at}
 
 -- ---- acts
--- the value that an act sets, if it sets one, has a type of at most 64 symbols
+-- the value that an act sets, if it sets one, has a type of at most 64 symbols, and its label, if it has one, is `next`
 abbrev ActSmall : ActTerm → Type 0
 ActSmall (set_act v) = (b : BasicTerm) × IsSmall b × (value_has v b ≡ true)
-ActSmall next_act = Unit {0}
+ActSmall (next_act l) = l ≡ default_label
 ActSmall left_act = Unit {0}
 ActSmall right_act = Unit {0}
 
 act_literal : (a : ActTerm) → IsHeldAct a → ActSmall a → HasLiteral a
 act_literal (set_act v) held small = (printed_typed v (value_text v) refl held small.0 small.1 small.2).is
-act_literal next_act held small = tt
+act_literal (next_act l) held small = small
 act_literal left_act held small = tt
 act_literal right_act held small = tt
 
@@ -232,10 +233,15 @@ module _ (c : CheckedTerm) where
       by_result (Some s) k = (h s.tree k.0, k.1)
 
   fine_step : (path : List Turn) (act : ActTerm) (o : Option ValueTerm) (k : LaterTerm) (σ : List ValueTerm) (p : Plan (Option State))
-      → SmallLater k.body → Fine p (Takes act) → Fine (at_step c (stopped path act o) k σ p) (Takes act)
-  fine_step [] next_act None k σ p h g = g
-  fine_step [] next_act (Some v) k σ p h g =
-      fine_tested k.body (k.slots ++ plain_slot v ∷ []) σ _ (Takes next_act) h (λ s no hs. fine_branch no _ _ (Takes next_act) tt (hs, tt))
+      → SmallLater k.body → Fine p (Takes act) → Fine (at_step c (stopped path act o) (branch_for act k) σ p) (Takes act)
+  fine_step [] (next_act l) None k σ p h g = g
+  fine_step [] (next_act l) (Some v) k σ p h g = by_label (is_default_label l) refl
+    where
+      by_label : (b : Bool) → is_default_label l ≡ b → Fine (chosen_branch c (if_labelled b k) v σ) (Takes (next_act l))
+      by_label true e =
+          fine_tested k.body (k.slots ++ plain_slot v ∷ []) σ _ (Takes (next_act l)) h
+          (λ s no hs. fine_branch no _ _ (Takes (next_act l)) tt (hs, (bytes_eq-Decides l default_label).0 e))
+      by_label false e = tt
   fine_step path act o k σ p h g = g
 
   fine_handled : (t : TreeTerm) (σ : List ValueTerm) (path : List Turn) (act : ActTerm) → SmallTree t
@@ -263,7 +269,7 @@ module _ (c : CheckedTerm) where
       fine_tested j.body j.slots σ _ (Takes left_act) h.0 (λ s no hs. fine_branch no _ _ (Takes left_act) tt (hs, tt))
   fine_handled (xor_tree j k) σ [] right_act h =
       fine_tested k.body k.slots σ _ (Takes right_act) h.1 (λ s no hs. fine_branch no _ _ (Takes right_act) tt (hs, tt))
-  fine_handled (xor_tree j k) σ [] next_act h = tt
+  fine_handled (xor_tree j k) σ [] (next_act l) h = tt
   fine_handled (xor_tree j k) σ [] (set_act v) h = tt
   fine_handled (xor_tree j k) σ (turn ∷ path) act h = tt
 

@@ -2,7 +2,7 @@
 use Rattle.std.proofs.Common.{◌≡◌, ◌≢◌, ◌⊎◌, ℕ, true≢false, Option, None, Some, length, codes, inl, inr, refl, sym, ap, ◌∙◌, List}
 use Rattle.std.proofs.lemmas.Bool.{cases_Bool, cases_lt}
 use Rattle.std.proofs.lemmas.Slice.Eq.{bytes_eq-Decides}
-use Rattle.task_model.specs.Terms.Text.{Text, same_text}
+use Rattle.task_model.specs.Terms.Text.{Text, same_text, default_label}
 use Rattle.task_model.specs.Terms.Value.{text_value}
 use Rattle.task_model.specs.Terms.Input.{ActTerm, set_act, next_act, left_act, right_act, InputTerm}
 use Rattle.task_model.specs.Showing.Page.{path_text}
@@ -76,7 +76,7 @@ module _ (form : Text) where
   some_act = elim (there (text_at (codes "act") form)) [
     | inl lacks ↦ none (no_word_given form lacks)
     | inr word ↦ elim (same_or_other word.0 (codes "next")) [
-      | inl e ↦ gives next_act (next (word.1 ∙ ap Some e) refl)
+      | inl e ↦ gives (next_act default_label) (next (word.1 ∙ ap Some e) refl)
       | inr n ↦ elim (same_or_other word.0 (codes "left")) [
         | inl e ↦ gives left_act (left (word.1 ∙ ap Some e) refl)
         | inr l ↦ elim (same_or_other word.0 (codes "right")) [

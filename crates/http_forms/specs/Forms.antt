@@ -2,7 +2,7 @@
 use Rattle.std.specs.Prelude.{◌≡◌, ℕ, ◌≤◌, if◌then◌else◌, Option, None, Some, option_map, List, [], ◌∷◌, length, codes}
 use Rattle.std.specs.Str.Lossy.{utf8_lossy}
 use Rattle.form_urlencoded.specs.Form.{raw_pairs, decode}
-use Rattle.task_model.specs.Terms.Text.{Text, same_text}
+use Rattle.task_model.specs.Terms.Text.{Text, same_text, default_label}
 use Rattle.task_model.specs.Terms.Basic.{BasicTerm}
 use Rattle.task_model.specs.Terms.Value.{ValueTerm, text_value}
 use Rattle.task_model.specs.Terms.Input.{ActTerm, set_act, next_act, left_act, right_act, InputTerm}
@@ -55,7 +55,7 @@ page_asked query = both_asked (face_asked (text_at (codes "face") query)) (versi
 -- ---- forms
 -- What `act`, `as` and `value` of a form ask for.
 pub data GivesAct (form : Text) (a : ActTerm) : Type 0 where
-  next : text_at (codes "act") form ≡ Some (codes "next") → a ≡ next_act → GivesAct form a
+  next : text_at (codes "act") form ≡ Some (codes "next") → a ≡ next_act default_label → GivesAct form a
   left : text_at (codes "act") form ≡ Some (codes "left") → a ≡ left_act → GivesAct form a
   right : text_at (codes "act") form ≡ Some (codes "right") → a ≡ right_act → GivesAct form a
   -- the value is the text itself

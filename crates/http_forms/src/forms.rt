@@ -1,5 +1,6 @@
 ghost use Rattle.std.specs.Prelude.{◌≡◌, Some, List, IfOk, IfErr, MatchOption, codes};
-ghost use Rattle.task_model.specs.Terms.Input.{act_term, input_term};
+ghost use Rattle.task_model.specs.Terms.Text.{default_label};
+ghost use Rattle.task_model.specs.Terms.Input.{act_term, input_term, next_act};
 ghost use Rattle.task_model.specs.Showing.Page.{path_text};
 ghost use Rattle.task_model.specs.declared.input.Turn.{Turn};
 ghost use Rattle.http_forms.specs.Forms.{text_at, GivesAct, GivesInput};
@@ -10,7 +11,7 @@ use crate::form_stop::FormStop;
 use crate::set_values::set_value;
 use input_paths::whole_path;
 use std::alloc::Global;
-use task_model::{Act, Input, OutOfMemory, Path};
+use task_model::{Act, Input, OutOfMemory, Path, TaskText};
 
 /// The input that a form gives (docs/FORMATS.md, "Query and form").
 pub fn read_form(alloc: Global, form: &[u8]) -> Result<Input, FormStop>
@@ -44,10 +45,17 @@ fn act(alloc: Global, form: &[u8]) -> Result<Act, FormStop>
         return Err(FormStop::Malformed);
     };
     match word.as_str() {
-        "next" => Ok(Act::Next),
+        "next" => Ok(default_next(alloc)?),
         "left" => Ok(Act::Left),
         "right" => Ok(Act::Right),
         "set" => Ok(Act::Set(set_value(alloc, form)?)),
         _ => Err(FormStop::Malformed),
     }
+}
+
+/// To go on by the label `next`: a form has no other.
+fn default_next(alloc: Global) -> Result<Act, OutOfMemory>
+    ensures { IfOk result (λ act. act_term act ≡ next_act default_label) }
+{
+    Ok(Act::Next(TaskText::of(alloc, "next")?))
 }

@@ -1,13 +1,15 @@
 -- Acts to the end of the line, by their first byte.
-use Rattle.std.specs.Prelude.{codes}
-use Rattle.std.proofs.Common.{◌≡◌, ℕ, Bool, false, [], ◌∷◌, ◌++◌, Ok, Err, refl, sym, ap, ◌∙◌, subst, arith}
-use Rattle.task_model.specs.Terms.Text.{Text}
+use Rattle.std.specs.Prelude.{codes, IfOk, IfErr}
+use Rattle.std.proofs.Common.{◌≡◌, ℕ, Bool, false, [], ◌∷◌, ◌++◌, Result, Ok, Err, refl, sym, ap, ◌∙◌, subst, arith}
+use Rattle.task_model.specs.Terms.Text.{Text, default_label}
 use Rattle.task_model.specs.Terms.Value.{ValueTerm}
-use Rattle.task_model.specs.Terms.Input.{ActTerm, set_act, next_act, left_act, right_act}
+use Rattle.task_model.specs.Terms.Input.{ActTerm, set_act, next_act, left_act, right_act, act_term}
+use Rattle.task_model.specs.declared.input.Act.{Act}
 use Rattle.exact_reading.specs.declared.stop.ParseStop.{ParseStop}
-use Rattle.exact_reading.specs.Reading.{SharesPrefix, IsViablePrefix, Always, Right, Run, NoToken, Anything}
+use Rattle.exact_reading.specs.declared.stop.ParseStop.TheVariants.{Memory}
+use Rattle.exact_reading.specs.Reading.{SharesPrefix, IsViablePrefix, Always, Right, seen, Run, NoToken, Anything}
 use Rattle.exact_reading.proofs.Sequences.{Bind}
-use Rattle.exact_reading.proofs.Productions.{then_right, then_stop, by_production, at_tokens, begins_token}
+use Rattle.exact_reading.proofs.Productions.{then_right, then_stop, by_production, at_tokens, begins_token, no_memory}
 use Rattle.input_lines.specs.ScriptLines.{ActParse, next, left, right, set, act_bytes, parsed_act, return_text}
 use Rattle.input_lines.specs.LineReading.{AtEnd, EndWord, EndLiteral, EndAct}
 use Rattle.input_lines.proofs.Images.{image_right, image_stop}
@@ -92,7 +94,7 @@ module _ (want : ActParse) (word : Text) (is : act_bytes want ≡ word) (one : (
       (at_tokens (sym begins) answer))
 
 pub next_right : {ts : Text} → (s : Text) × (ts ≡ 110 ∷ s) → Right (EndWord (codes "next")) Always AtEnd ts (Ok (tt, []))
-    → Right EndAct Always AtEnd ts (Ok (next_act, []))
+    → Right EndAct Always AtEnd ts (Ok (next_act default_label, []))
 next_right (s, e) found = word_right next (codes "next") refl one_next e found
 
 pub next_stop : {ts : Text} {e : ParseStop} → (s : Text) × (ts ≡ 110 ∷ s) → Right (EndWord (codes "next")) Always AtEnd ts (Err e)
@@ -177,4 +179,10 @@ module _ (ts : Text) (no_next : NoToken 110 ts) (no_left : NoToken 108 ts) (no_r
       (then_stop (λ _ _ _ _ _ _. tt) (λ _ _ _. setting_alive) answer)
 
 pub act_alive : IsViablePrefix EndAct Always []
-act_alive = (codes "next", next_act, record { parse = next; returned = false; are = refl; stands_for = refl }, tt)
+act_alive = (codes "next", next_act default_label, record { parse = next; returned = false; are = refl; stands_for = refl }, tt)
+
+-- an act that is made of what was read
+pub made_right : {ts : Text} {a : ActTerm} (r : Result Act ParseStop) → IfOk r (λ x. act_term x ≡ a) → IfErr r (λ e. e ≡ Memory)
+    → Right EndAct Always AtEnd ts (Ok (a, [])) → Right EndAct Always AtEnd ts (seen (λ x. (act_term x, [])) r)
+made_right {ts} (Ok x) same memory right = subst (λ z. Right EndAct Always AtEnd ts (Ok (z, []))) (sym same) right
+made_right {ts} (Err e) same memory right = subst (λ z. Right EndAct Always AtEnd ts (Err z)) (sym memory) no_memory

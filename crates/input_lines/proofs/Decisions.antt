@@ -3,7 +3,7 @@ use Rattle.std.specs.Prelude.{codes}
 use Rattle.std.proofs.Common.{◌≡◌, ℕ, ◌+◌, ◌-◌, ◌*◌, ◌≤◌, ◌<◌, ◌⊎◌, inl, inr, List, [], ◌∷◌, ◌++◌, length, take, drop, Ok, Err, refl, sym, ap, ◌∙◌, subst, arith, append_assoc}
 use Rattle.std.proofs.lemmas.Bool.{cases_eq, cases_lt}
 use Rattle.std.proofs.lemmas.List.{take-append-drop, take_all}
-use Rattle.task_model.specs.Terms.Text.{Text}
+use Rattle.task_model.specs.Terms.Text.{Text, default_label}
 use Rattle.task_model.specs.Terms.Token.{IsDigit}
 use Rattle.task_model.specs.Terms.Input.{set_act, next_act, left_act, right_act}
 use Rattle.task_model.specs.Showing.Page.{path_text}
@@ -168,7 +168,7 @@ decide_act ts = go (begins_or_not 110 ts) (begins_or_not 108 ts) (begins_or_not 
   where
     go : ((s : Text) × (ts ≡ 110 ∷ s)) ⊎ NoToken 110 ts → ((s : Text) × (ts ≡ 108 ∷ s)) ⊎ NoToken 108 ts
         → ((s : Text) × (ts ≡ 114 ∷ s)) ⊎ NoToken 114 ts → Ends EndAct ts
-    go (inl b) l r = ends_as (λ _. next_act) (λ x h. acts.next_right b h) (λ e h. acts.next_stop b h) (decide_word (codes "next") ts)
+    go (inl b) l r = ends_as (λ _. next_act default_label) (λ x h. acts.next_right b h) (λ e h. acts.next_stop b h) (decide_word (codes "next") ts)
     go (inr no_next) (inl b) r =
         ends_as (λ _. left_act) (λ x h. acts.left_right b h) (λ e h. acts.left_stop b h) (decide_word (codes "left") ts)
     go (inr no_next) (inr no_left) (inl b) =

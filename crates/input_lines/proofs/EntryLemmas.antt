@@ -11,7 +11,7 @@ use Rattle.input_lines.specs.EntryText.{act_text, entry_line, HasLiteral}
 
 pub act_again : (a : ActTerm) → HasLiteral a → (p : ActParse) × (act_bytes p ≡ act_text a) × (parsed_act p ≡ a)
 act_again (set_act v) is = (set (value_text v) v is, refl, refl)
-act_again next_act is = (next, refl, refl)
+act_again (next_act l) is = (next, refl, ap next_act (sym is))
 act_again left_act is = (left, refl, refl)
 act_again right_act is = (right, refl, refl)
 

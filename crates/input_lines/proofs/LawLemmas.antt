@@ -82,7 +82,7 @@ module _ (longest : ℕ) (whole : Text) (over : longest < length whole) where
 -- ---- printed entries
 literal_of : (a : ActTerm) → IsHeldAct a → IsWithinActLimits a → HasLiteral a
 literal_of (set_act v) held limits = printed_literal v (value_text v) refl held limits.0 limits.1
-literal_of next_act held limits = tt
+literal_of (next_act l) held limits = limits
 literal_of left_act held limits = tt
 literal_of right_act held limits = tt
 

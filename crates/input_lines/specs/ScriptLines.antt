@@ -1,6 +1,6 @@
 -- Which bytes are a line of a script, and what it asks for (docs/FORMATS.md, "Script lines").
 use Rattle.std.specs.Prelude.{◌≡◌, ℕ, Bool, true, false, List, [], ◌∷◌, ◌++◌, codes, decimal}
-use Rattle.task_model.specs.Terms.Text.{Text}
+use Rattle.task_model.specs.Terms.Text.{Text, default_label}
 use Rattle.task_model.specs.Terms.Value.{ValueTerm}
 use Rattle.task_model.specs.Terms.Input.{ActTerm, set_act, next_act, left_act, right_act, EntryTerm, entry_term}
 use Rattle.task_model.specs.Running.State.{IsSeat}
@@ -38,7 +38,7 @@ act_bytes right = codes "right"
 act_bytes (set literal v is) = codes "set " ++ literal
 
 abbrev pub parsed_act : ActParse → ActTerm
-parsed_act next = next_act
+parsed_act next = next_act default_label
 parsed_act left = left_act
 parsed_act right = right_act
 parsed_act (set literal v is) = set_act v

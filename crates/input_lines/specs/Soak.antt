@@ -1,6 +1,6 @@
 -- The program of a soak and its inputs (docs/FORMATS.md, "The soak generator").
 use Rattle.std.specs.Prelude.{ℕ, zero, suc, ◌+◌, ◌-◌, ◌*◌, ◌/◌, ◌%◌, ◌^◌, pos, List, [], ◌∷◌, ◌++◌, codes, decimal, replicate}
-use Rattle.task_model.specs.Terms.Text.{Text}
+use Rattle.task_model.specs.Terms.Text.{Text, default_label}
 use Rattle.task_model.specs.Terms.Value.{int_value}
 use Rattle.task_model.specs.Terms.Input.{ActTerm, set_act, next_act, left_act, EntryTerm}
 use Rattle.task_model.specs.declared.input.Turn.{Turn}
@@ -55,7 +55,7 @@ soak_path (suc j) = replicate (31 - suc j) turns.First ++ (turns.Second ∷ [])
 -- the act of a kind: Set of a number, Next or Left
 abbrev pub soak_act : ℕ → ℕ → ActTerm
 soak_act zero number = set_act (int_value (pos number))
-soak_act (suc zero) number = next_act
+soak_act (suc zero) number = next_act default_label
 soak_act (suc (suc kind)) number = left_act
 
 -- the entry that a draw chooses

@@ -1,6 +1,7 @@
-ghost use Rattle.std.specs.Prelude.{◌≡◌, ◌∷◌, List, ℕ, [], MatchBool};
+ghost use Rattle.std.specs.Prelude.{◌≡◌, ◌∷◌, List, ℕ, [], IfErr, IfOk, MatchBool};
 ghost use Rattle.exact_reading.specs.Reading.{Right, seen, Always, NoToken};
-ghost use Rattle.task_model.specs.Terms.Input.{act_term};
+ghost use Rattle.task_model.specs.Terms.Text.{default_label};
+ghost use Rattle.task_model.specs.Terms.Input.{act_term, next_act};
 ghost use Rattle.task_model.specs.Terms.Value.{value_term};
 ghost use Rattle.literal_text.specs.Literals.{IsLiteral};
 ghost use Rattle.input_lines.specs.LineReading.{EndAct, EndLiteral, AtEnd, AtReturn};
@@ -9,7 +10,7 @@ use crate::ends::{end_word, line_end, split_return};
 use exact_reading::{FaultKind, ParseStop, expect_run, strip};
 use literal_text::{LiteralStop, read_any};
 use std::alloc::Global;
-use task_model::{Act, Value};
+use task_model::{Act, TaskText, Value};
 
 /// An act to the end of the line.
 pub(crate) fn act(alloc: Global, bytes: &[u8]) -> Result<Act, ParseStop>
@@ -17,7 +18,7 @@ pub(crate) fn act(alloc: Global, bytes: &[u8]) -> Result<Act, ParseStop>
 {
     if begins(bytes, b'n') {
         end_word(bytes, b"next")?;
-        return Ok(Act::Next);
+        return default_next(alloc);
     }
     if begins(bytes, b'l') {
         end_word(bytes, b"left")?;
@@ -30,6 +31,17 @@ pub(crate) fn act(alloc: Global, bytes: &[u8]) -> Result<Act, ParseStop>
     let rest = expect_run(bytes, b"set ")?;
     let value = end_literal(alloc, rest)?;
     Ok(Act::Set(value))
+}
+
+/// To go on by the label `next`: a line has no other.
+fn default_next(alloc: Global) -> Result<Act, ParseStop>
+    ensures act { IfOk result (λ a. act_term a ≡ next_act default_label) }
+    ensures memory { IfErr result (λ e. e ≡ ParseStop.Memory) }
+{
+    match TaskText::of(alloc, "next") {
+        Ok(label) => Ok(Act::Next(label)),
+        Err(_) => Err(ParseStop::Memory),
+    }
 }
 
 /// Whether this byte comes next.

@@ -73,7 +73,7 @@ fn push_act(alloc: Global, text: &mut String, act: &Act) -> Result<(), OutOfMemo
             push(text, "set ")?;
             push(text, literal.as_str())
         }
-        Act::Next => push(text, "next"),
+        Act::Next(_) => push(text, "next"),
         Act::Left => push(text, "left"),
         Act::Right => push(text, "right"),
     }

@@ -85,7 +85,7 @@ fn drawn(alloc: Global, draw: u64) -> Result<Entry, OutOfMemory>
     ensures { IfOk result (λ e. entry_term e ≡ soak_drawn draw) }
 {
     let path = path(alloc, (draw % 32) as usize)?;
-    let act = act(draw / 32 % 3, draw / 96 % 1000);
+    let act = act(alloc, draw / 32 % 3, draw / 96 % 1000)?;
     let input = Input { path, act };
     Ok(Entry { seat: 1, input })
 }
@@ -102,13 +102,13 @@ fn path(alloc: Global, part: usize) -> Result<Path, OutOfMemory>
     Ok(Path { turns })
 }
 
-fn act(kind: u64, number: u64) -> Act
+fn act(alloc: Global, kind: u64, number: u64) -> Result<Act, OutOfMemory>
     requires { number < 1000 }
-    ensures { act_term result ≡ soak_act kind number }
+    ensures { IfOk result (λ a. act_term a ≡ soak_act kind number) }
 {
     match kind {
-        0 => Act::Set(Value::Int(number as i64)),
-        1 => Act::Next,
-        _ => Act::Left,
+        0 => Ok(Act::Set(Value::Int(number as i64))),
+        1 => Ok(Act::Next(TaskText::of(alloc, "next")?)),
+        _ => Ok(Act::Left),
     }
 }

@@ -1,5 +1,6 @@
 -- Offers of other parts, and what the first of some offers says.
 use Rattle.std.proofs.Common.{◌≡◌, ℕ, List, [], ◌∷◌, ◌++◌, map, Some, refl}
+use Rattle.task_model.specs.Terms.Text.{Text, default_label}
 use Rattle.task_model.specs.Terms.Value.{ValueTerm}
 use Rattle.task_model.specs.Terms.Tree.{TreeTerm}
 use Rattle.task_model.specs.Running.Checked.{CheckedTerm}
@@ -36,22 +37,22 @@ pub others_begin : (k : OfferKindTerm) (p : List Turn) (os : List OfferTerm) →
 others_begin k p [] h = tt
 others_begin k p (o ∷ os) h = λ e q. h.0 (rw e (into_own p))
 
--- the law that a left part with a value offers no Next at its step's path
+-- the law that a left part with a value offers no Next at its step's path, of any label
 abbrev pub NextAlone : Type 0
 NextAlone = (c : CheckedTerm) (budget : ℕ) (left : TreeTerm) (σ : List ValueTerm) (v : ValueTerm) (os : List OfferTerm)
-    → value_of left σ ≡ Some v → AreOffers c budget left σ os → All (λ o. o.path ≡ [] → o.kind ≡ next_offer → ⊥) os
+    → value_of left σ ≡ Some v → AreOffers c budget left σ os → All (λ o. (label : Text) → o.path ≡ [] → o.kind ≡ next_offer label → ⊥) os
 
 pub left_begins : NextAlone → (c : CheckedTerm) (budget : ℕ) (t : TreeTerm) (σ : List ValueTerm) (v : ValueTerm) (p : List Turn)
     (os others : List OfferTerm)
     → value_of t σ ≡ Some v → AreOffers c budget t σ os → AreElsewhere p others
-    → BeginsElsewhere next_offer p (map (offer_below p) os ++ others)
+    → BeginsElsewhere (next_offer default_label) p (map (offer_below p) os ++ others)
 left_begins law c budget t σ v p os others e a h = by_list os (law c budget t σ v os e a)
   where
-    by_list : (us : List OfferTerm) → All (λ o. o.path ≡ [] → o.kind ≡ next_offer → ⊥) us
-        → BeginsElsewhere next_offer p (map (offer_below p) us ++ others)
-    by_list [] q = others_begin next_offer p others h
-    by_list (u ∷ us) q = λ path kind. All-head (λ (o : OfferTerm). o.path ≡ [] → o.kind ≡ next_offer → ⊥) u us q
-        (append_same p u.path path) kind
+    by_list : (us : List OfferTerm) → All (λ o. (label : Text) → o.path ≡ [] → o.kind ≡ next_offer label → ⊥) us
+        → BeginsElsewhere (next_offer default_label) p (map (offer_below p) us ++ others)
+    by_list [] q = others_begin (next_offer default_label) p others h
+    by_list (u ∷ us) q = λ path kind. All-head (λ (o : OfferTerm). (label : Text) → o.path ≡ [] → o.kind ≡ next_offer label → ⊥) u us q
+        default_label (append_same p u.path path) kind
 
 -- the right side's offer is none of the left side
 pub right_begins : (z : Sign) (p : List Turn) (others : List OfferTerm) → AreElsewhere p others

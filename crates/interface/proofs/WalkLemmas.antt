@@ -1,5 +1,6 @@
 -- What a walk through a tree shows, by the form of the tree.
 use Rattle.std.proofs.Common.{◌≡◌, ℕ, List, [], ◌∷◌, ◌++◌, map, drop, Option, Some, None, refl, sym, ap, ◌∙◌, subst, append_assoc, append-nil, Result, Ok, Err, OnOk, IfOk}
+use Rattle.task_model.specs.Terms.Text.{default_label}
 use Rattle.task_model.specs.Terms.Basic.{BasicTerm}
 use Rattle.task_model.specs.Terms.Value.{ValueTerm}
 use Rattle.task_model.specs.Terms.Tree.{LaterTerm, TreeTerm, then_tree, next_tree, fail_tree, xor_tree}
@@ -78,7 +79,7 @@ module _ (σ : List ValueTerm) (p : List Turn) (os : List OfferTerm) (before : L
   step_marked : NextAlone → (c : CheckedTerm) (budget : ℕ) (t : TreeTerm) (k : LaterTerm) (s z : Sign) (us others : List OfferTerm)
       (o : Option ValueTerm)
       → value_of t σ ≡ o → MarksStep o p os s → IsStepSign c budget o k σ z → AreOffers c budget t σ us
-      → os ≡ map (offer_below p) (offered next_offer z) ++ (map (offer_below p) us ++ others) → AreElsewhere p others → s ≡ z
+      → os ≡ map (offer_below p) (offered (next_offer default_label) z) ++ (map (offer_below p) us ++ others) → AreElsewhere p others → s ≡ z
   step_marked law c budget t k s z us others None e m i a f h = m ∙ sym i
   step_marked law c budget t k s z us others (Some v) e m i a f h =
       m z (map (offer_below p) us ++ others) f (left_begins law c budget t σ v p us others e a h)
@@ -99,8 +100,8 @@ module _ (σ : List ValueTerm) (p : List Turn) (os : List OfferTerm) (before : L
   }
     where
       split : (c : CheckedTerm) (budget : ℕ) (others : List OfferTerm) (lead : OffersLead c budget (next_tree t k) σ p os others)
-          → os ≡ map (offer_below p) (offered next_offer lead.are.0) ++ (map (offer_below p) lead.are.1 ++ others)
-      split c budget others lead = ahead p lead.own (offered next_offer lead.are.0) lead.are.1 os others lead.are.4 lead.first
+          → os ≡ map (offer_below p) (offered (next_offer default_label) lead.are.0) ++ (map (offer_below p) lead.are.1 ++ others)
+      split c budget others lead = ahead p lead.own (offered (next_offer default_label) lead.are.0) lead.are.1 os others lead.are.4 lead.first
 
       same : (c : CheckedTerm) (budget : ℕ) (others : List OfferTerm) (lead : OffersLead c budget (next_tree t k) σ p os others)
           → s ≡ lead.are.0
@@ -115,7 +116,7 @@ module _ (σ : List ValueTerm) (p : List Turn) (os : List OfferTerm) (before : L
             own = a.1;
             are = a.3;
             first = ap (λ z. behind_mark z os) (same c budget others lead) ∙ ap (behind_mark a.0) (split c budget others lead)
-                ∙ behind_offered next_offer a.0 p (map (offer_below p) a.1 ++ others);
+                ∙ behind_offered (next_offer default_label) a.0 p (map (offer_below p) a.1 ++ others);
             elsewhere = lead.elsewhere;
           }
 

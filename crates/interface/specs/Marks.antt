@@ -1,5 +1,6 @@
 -- How the offers of a tree mark its widgets (docs/RULES.md, "Offers", "Interfaces").
 use Rattle.std.specs.Prelude.{◌≡◌, List, [], ◌∷◌, ◌++◌, map, drop, Option, None, Some}
+use Rattle.task_model.specs.Terms.Text.{default_label}
 use Rattle.task_model.specs.Terms.Value.{ValueTerm}
 use Rattle.task_model.specs.Running.Offer.{OfferKindTerm, next_offer, left_offer, right_offer, OfferTerm, offered}
 use Rattle.task_model.specs.declared.input.Turn.{Turn}
@@ -13,7 +14,7 @@ use Rattle.interface.specs.declared.marks.Tested.TheVariants as tested
 
 -- what is offered where a test says so
 abbrev pub tested_kind : Tested → OfferKindTerm
-tested_kind tested.Next = next_offer
+tested_kind tested.Next = next_offer default_label
 tested_kind tested.Left = left_offer
 tested_kind tested.Right = right_offer
 
@@ -41,4 +42,4 @@ MarksFirst k p os s =
 -- the sign of a user step whose left part has this value
 abbrev pub MarksStep : Option ValueTerm → List Turn → List OfferTerm → Sign → Type 0
 MarksStep None p os s = s ≡ signs.No
-MarksStep (Some v) p os s = MarksFirst next_offer p os s
+MarksStep (Some v) p os s = MarksFirst (next_offer default_label) p os s

@@ -5,7 +5,7 @@ ghost use Rattle.interface.specs.Marks.{answered_sign, behind_mark, tested_kind,
 use task_model::{Answer, Offer, OfferKind, Sign};
 use task_tree::Trail;
 
-/// What is tested: a user step, or a side of an external choice.
+/// What is tested: the branch of a user step, which is labelled `next`, or a side of an external choice.
 #[derive(Clone, Copy)]
 pub(crate) enum Tested {
     Next,
@@ -39,7 +39,7 @@ fn is_of(kind: &OfferKind, tested: Tested) -> bool
     ensures { IsTrue result ↔ (offer_kind_term kind.now ≡ tested_kind tested) }
 {
     match (kind, tested) {
-        (OfferKind::Next, Tested::Next) => true,
+        (OfferKind::Next(label), Tested::Next) => label.as_str() == "next",
         (OfferKind::Left, Tested::Left) => true,
         (OfferKind::Right, Tested::Right) => true,
         _ => false,

@@ -87,28 +87,29 @@ one_entry : (p q : List Turn) (s z : ℕ) (a b : ActTerm) → act_data (path_tex
     → entry_of p s a ≡ entry_of q z b
 one_entry p q s z (set_act v) (set_act w) same =
     entries p q s z (set_act v) (set_act w) (ap (λ d. text_in (at1 d)) same) (ap (λ d. count_in (at2 d)) same) (ap set_act (one_value v w (ap at3 same)))
-one_entry p q s z next_act next_act same =
-    entries p q s z next_act next_act (ap (λ d. text_in (at2 d)) same) (ap (λ d. count_in (at3 d)) same) refl
+one_entry p q s z (next_act l) (next_act m) same =
+    entries p q s z (next_act l) (next_act m) (ap (λ d. text_in (at2 d)) same) (ap (λ d. count_in (at3 d)) same)
+    (ap (λ d. next_act (text_in (at1 d))) same)
 one_entry p q s z left_act left_act same =
     entries p q s z left_act left_act (ap (λ d. text_in (at1 d)) same) (ap (λ d. count_in (at2 d)) same) refl
 one_entry p q s z right_act right_act same =
     entries p q s z right_act right_act (ap (λ d. text_in (at1 d)) same) (ap (λ d. count_in (at2 d)) same) refl
-one_entry p q s z (set_act v) next_act same = absurd (omega (arith, ap word_at same))
+one_entry p q s z (set_act v) (next_act l) same = absurd (omega (arith, ap word_at same))
 one_entry p q s z (set_act v) left_act same = absurd (omega (arith, ap word_at same))
 one_entry p q s z (set_act v) right_act same = absurd (omega (arith, ap word_at same))
-one_entry p q s z next_act (set_act w) same = absurd (omega (arith, ap word_at same))
-one_entry p q s z next_act left_act same = absurd (omega (arith, ap word_at same))
-one_entry p q s z next_act right_act same = absurd (omega (arith, ap word_at same))
+one_entry p q s z (next_act l) (set_act w) same = absurd (omega (arith, ap word_at same))
+one_entry p q s z (next_act l) left_act same = absurd (omega (arith, ap word_at same))
+one_entry p q s z (next_act l) right_act same = absurd (omega (arith, ap word_at same))
 one_entry p q s z left_act (set_act w) same = absurd (omega (arith, ap word_at same))
-one_entry p q s z left_act next_act same = absurd (omega (arith, ap word_at same))
+one_entry p q s z left_act (next_act l) same = absurd (omega (arith, ap word_at same))
 one_entry p q s z left_act right_act same = absurd (omega (arith, ap word_at same))
 one_entry p q s z right_act (set_act w) same = absurd (omega (arith, ap word_at same))
-one_entry p q s z right_act next_act same = absurd (omega (arith, ap word_at same))
+one_entry p q s z right_act (next_act l) same = absurd (omega (arith, ap word_at same))
 one_entry p q s z right_act left_act same = absurd (omega (arith, ap word_at same))
 
 act_is_no_show : (path : Text) (s z : ℕ) (a : ActTerm) → act_data path s a ≡ show_data z → ⊥
 act_is_no_show path s z (set_act v) same = cc
-act_is_no_show path s z next_act same = cc
+act_is_no_show path s z (next_act l) same = cc
 act_is_no_show path s z left_act same = cc
 act_is_no_show path s z right_act same = cc
 

@@ -3,7 +3,7 @@ use Rattle.std.proofs.Common.{◌≡◌, ℕ, ◌≤◌, Bool, true, false, List
 use Rattle.std.specs.Str.{bytes_eq, is_utf8}
 use Rattle.std.proofs.lemmas.Slice.Eq.{bytes_eq-Decides}
 use Rattle.std.proofs.lemmas.Str.{IsUtf8-from_is_utf8, is_utf8-from_IsUtf8}
-use Rattle.task_model.specs.Terms.Text.{Text}
+use Rattle.task_model.specs.Terms.Text.{Text, default_label}
 use Rattle.task_model.specs.Terms.Value.{ValueTerm}
 use Rattle.task_model.specs.Terms.Input.{ActTerm, set_act, next_act, left_act, right_act}
 use Rattle.task_model.specs.Running.State.{IsSeat}
@@ -171,8 +171,9 @@ module _ (ms : Members) where
       → (path : List Turn) (seat : ℕ) (a : ActTerm) → object ms ≡ act_data (path_text path) seat a → IsSeat seat → IsWithinActLimits a → ⊥
   no_act set next left right path seat (set_act v) is held limits =
       set ((tt, (path, (seat, (v, tt)))), ap members_in is, (tt, (tt, (held, (limits, tt)))))
-  no_act set next left right path seat next_act is held limits =
-      next ((tt, (tt, (path, (seat, tt)))), ap members_in is, (tt, (tt, (tt, (held, tt)))))
+  no_act set next left right path seat (next_act l) is held limits =
+      let same = subst (λ m. object ms ≡ act_data (path_text path) seat (next_act m)) limits is in
+      next ((tt, (tt, (path, (seat, tt)))), ap members_in same, (tt, (tt, (tt, (held, tt)))))
   no_act set next left right path seat left_act is held limits =
       left ((tt, (path, (seat, tt))), ap members_in is, (tt, (tt, (held, tt))))
   no_act set next left right path seat right_act is held limits =
@@ -188,7 +189,7 @@ module _ (ms : Members) where
   decide_object (inr no_show) (inl h) next left right =
       inl (gives (entry_of h.0.1.0 h.0.1.1.0 (set_act h.0.1.1.1.0)), (ap object h.1, h.2.1.1.0, h.2.1.1.1.0))
   decide_object (inr no_show) (inr no_set) (inl h) left right =
-      inl (gives (entry_of h.0.1.1.0 h.0.1.1.1.0 next_act), (ap object h.1, h.2.1.1.1.0, tt))
+      inl (gives (entry_of h.0.1.1.0 h.0.1.1.1.0 (next_act default_label)), (ap object h.1, h.2.1.1.1.0, refl))
   decide_object (inr no_show) (inr no_set) (inr no_next) (inl h) right =
       inl (gives (entry_of h.0.1.0 h.0.1.1.0 left_act), (ap object h.1, h.2.1.1.0, tt))
   decide_object (inr no_show) (inr no_set) (inr no_next) (inr no_left) (inl h) =

@@ -17,7 +17,7 @@ seat_last seat = member (codes "seat") (number (unsigned seat)) no_members
 
 abbrev pub act_word : ActTerm → Text
 act_word (set_act v) = codes "set"
-act_word next_act = codes "next"
+act_word (next_act l) = codes "next"
 act_word left_act = codes "left"
 act_word right_act = codes "right"
 
@@ -25,7 +25,7 @@ act_word right_act = codes "right"
 abbrev pub act_rest : Text → ℕ → ActTerm → Members
 act_rest path seat (set_act v) =
     member (codes "path") (string path) (member (codes "seat") (number (unsigned seat)) (member (codes "value") (value_data v) no_members))
-act_rest path seat next_act = member (codes "label") (string (codes "next")) (member (codes "path") (string path) (seat_last seat))
+act_rest path seat (next_act l) = member (codes "label") (string l) (member (codes "path") (string path) (seat_last seat))
 act_rest path seat left_act = member (codes "path") (string path) (seat_last seat)
 act_rest path seat right_act = member (codes "path") (string path) (seat_last seat)
 

@@ -1,4 +1,5 @@
 ghost use Rattle.std.specs.Prelude.{◌≡◌, ℕ, List, Err, IfOk};
+ghost use Rattle.task_model.specs.Terms.Text.{Text, default_label};
 ghost use Rattle.task_model.specs.Terms.Value.{ValueTerm};
 ghost use Rattle.task_model.specs.Terms.Input.{set_act, next_act, left_act, entry_term};
 ghost use Rattle.task_model.specs.Showing.Page.{path_text};
@@ -12,7 +13,7 @@ use crate::parts::{take_path, take_seat, take_text};
 use crate::stop::JsonStop;
 use crate::values::read_value;
 use std::alloc::Global;
-use task_model::{Act, Entry, Input, LITERAL_LEVEL_LIMIT};
+use task_model::{Act, Entry, Input, LITERAL_LEVEL_LIMIT, TaskText};
 
 /// What stands behind the act of an input that sets a value.
 pub(crate) fn read_set(alloc: Global, fields: Fields<'_>) -> Result<Entry, JsonStop>
@@ -39,20 +40,21 @@ pub(crate) fn read_set(alloc: Global, fields: Fields<'_>) -> Result<Entry, JsonS
     })
 }
 
-/// What stands behind the act of an input that goes on.
+/// What stands behind the act of an input that goes on: the label `next`, and then what stands behind every act.
 pub(crate) fn read_next(alloc: Global, fields: Fields<'_>) -> Result<Entry, JsonStop>
-    ensures found { IfOk result (λ e. ((entry_term e).input.act ≡ next_act) × IsRest (left fields.entry) (entry_term e)) }
-    ensures bad { result ≡ Err JsonStop.Bad → (path : List Turn) (seat : ℕ)
-        → IsRest (left fields.entry) (entry_of path seat next_act) → ⊥ }
+    ensures found { IfOk result (λ e. ((entry_term e).input.act ≡ next_act default_label) × IsRest (left fields.entry) (entry_term e)) }
+    ensures bad { result ≡ Err JsonStop.Bad → (path : List Turn) (seat : ℕ) (label : Text)
+        → IsRest (left fields.entry) (entry_of path seat (next_act label)) → ⊥ }
 {
     let mut fields = fields;
-    let Some(label) = take_text(&mut fields, "label") else {
+    let Some(text) = take_text(&mut fields, "label") else {
         return Err(JsonStop::Bad);
     };
-    if label != "next" {
+    if text != "next" {
         return Err(JsonStop::Bad);
     }
-    read_place(alloc, fields, Act::Next)
+    let label = TaskText::of(alloc, text)?;
+    read_place(alloc, fields, Act::Next(label))
 }
 
 /// The path and the seat of an input that has nothing else.

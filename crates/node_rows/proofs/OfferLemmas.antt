@@ -1,6 +1,7 @@
 -- What a walk through a tree finds by the signs of its nodes, by the form of the tree.
 use Rattle.std.proofs.Common.{◌≡◌, ℕ, List, [], ◌∷◌, ◌++◌, drop, map, refl, sym, ap, ◌∙◌, subst, append_assoc}
 use Rattle.std.proofs.lemmas.List.{map-append, append-nil}
+use Rattle.task_model.specs.Terms.Text.{default_label}
 use Rattle.task_model.specs.Terms.Value.{ValueTerm}
 use Rattle.task_model.specs.Terms.Tree.{LaterTerm, TreeTerm, then_tree, next_tree, and_tree, or_tree, xor_tree}
 use Rattle.task_model.specs.Running.Checked.{CheckedTerm}
@@ -70,14 +71,14 @@ module _ (p : List Turn) (ss rest : List Signs) (before after : List OfferTerm) 
   }
 
   pub offered_next : (t : TreeTerm) (k : LaterTerm) (middle : List OfferTerm)
-      → middle ≡ before ++ map (offer_below p) (offered next_offer (step_sign (head_signs ss)))
+      → middle ≡ before ++ map (offer_below p) (offered (next_offer default_label) (step_sign (head_signs ss)))
       → Offered t p (drop 1 ss) rest middle after → Offered (next_tree t k) p ss rest before after
   offered_next t k middle told w = record {
     leaves = λ c budget σ others l. w.leaves c budget σ others (next_leads t k c budget σ others l);
     offers = λ c budget σ others l.
         let is = ap (λ z. step_sign (head_signs z)) (l.first ∙ ap (λ z. map widget_signs z ++ others) l.are.4) in
         follow_next c budget σ p before after t k l.are.0 middle l.are.2
-        (told ∙ ap (λ s. before ++ map (offer_below p) (offered next_offer s)) is)
+        (told ∙ ap (λ s. before ++ map (offer_below p) (offered (next_offer default_label) s)) is)
         (w.offers c budget σ others (next_leads t k c budget σ others l));
   }
 

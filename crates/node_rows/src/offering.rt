@@ -19,7 +19,7 @@ impl NodeRows {
         ensures { IfOk result (λ os. (c : CheckedTerm) (budget : ℕ) (σ : List ValueTerm) → AreRows c budget (tree_term t.now) σ self.now
             → AreOffers c budget (tree_term t.now) σ (map offer_term os.list)) }
     {
-        let mut found = FoundOffers::new(alloc);
+        let mut found = FoundOffers::new(alloc)?;
         let _rest = add_offers(&mut found, t, self.signs())?;
         Ok(found.offers)
     }
@@ -42,7 +42,7 @@ fn add_offers<'s>(
         Tree::Share(b, _) => add_sign(found, OfferKind::Set(copy_basic(b)?), Sign::Yes, signs),
         Tree::Then(left, _) => add_offers(found, left, behind(signs)),
         Tree::Next(left, _) => {
-            found.push(OfferKind::Next, first(signs).step())?;
+            found.push_next(first(signs).step())?;
             add_offers(found, left, behind(signs))
         }
         Tree::Fail => Ok(behind(signs)),

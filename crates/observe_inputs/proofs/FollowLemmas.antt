@@ -1,5 +1,6 @@
 -- What a walk through a tree finds, by the form of the tree.
 use Rattle.std.proofs.Common.{◌≡◌, ℕ, List, [], ◌∷◌, ◌++◌, map, refl, sym, ap, ◌∙◌, subst, append_assoc}
+use Rattle.task_model.specs.Terms.Text.{default_label}
 use Rattle.task_model.specs.Terms.Value.{ValueTerm}
 use Rattle.task_model.specs.Terms.Tree.{LaterTerm, TreeTerm, next_tree, xor_tree}
 use Rattle.task_model.specs.Running.Checked.{CheckedTerm}
@@ -41,12 +42,12 @@ module _ (c : CheckedTerm) (budget : ℕ) (σ : List ValueTerm) (p : List Turn) 
   follow t own are last = record { own = own; are = are; last = last }
 
   pub follow_next : (t : TreeTerm) (k : LaterTerm) (s : Sign) (middle : List OfferTerm) → IsStepSign c budget (value_of t σ) k σ s
-      → middle ≡ before ++ map (offer_below p) (offered next_offer s) → OffersFollow c budget t σ p middle after
+      → middle ≡ before ++ map (offer_below p) (offered (next_offer default_label) s) → OffersFollow c budget t σ p middle after
       → OffersFollow c budget (next_tree t k) σ p before after
   follow_next t k s middle i e f = record {
-    own = offered next_offer s ++ f.own;
+    own = offered (next_offer default_label) s ++ f.own;
     are = (s, f.own, i, f.are, refl);
-    last = twice p (offered next_offer s) f.own before middle after e f.last;
+    last = twice p (offered (next_offer default_label) s) f.own before middle after e f.last;
   }
 
   pub follow_pick : (j k : LaterTerm) (s z : Sign) (middle : List OfferTerm) (q : List Turn) → IsSideSign c budget j σ s

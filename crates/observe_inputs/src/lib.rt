@@ -3,6 +3,7 @@
 
 mod found;
 mod offering;
+mod shared_label;
 mod signs;
 
 pub use found::FoundOffers;

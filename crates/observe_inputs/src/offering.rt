@@ -31,7 +31,7 @@ pub fn offers<L: Ledger>(
     ensures offers { IfOk result (λ os. AreOffers (checked_term engine.now) budget (tree_term t.now) (map value_term store.old.list)
         (map offer_term os.list)) }
 {
-    let mut found = FoundOffers::new(engine.alloc());
+    let mut found = FoundOffers::new(engine.alloc())?;
     add_offers(&mut found, engine, t, store, budget, steps)?;
     Ok(found.offers)
 }
@@ -61,7 +61,7 @@ fn add_offers<L: Ledger>(
         Tree::Then(left, _) => add_offers(found, engine, left, store, budget, steps),
         Tree::Next(left, k) => {
             let sign = step_sign(engine, left, k, store, budget, steps)?;
-            found.push(OfferKind::Next, sign)?;
+            found.push_next(sign)?;
             add_offers(found, engine, left, store, budget, steps)
         }
         Tree::Fail => Ok(()),

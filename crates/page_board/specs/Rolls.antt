@@ -4,7 +4,7 @@ use Rattle.std.specs.Prelude.{◌≡◌, ℕ, zero, suc, ◌+◌, ◌≤◌, ◌
 use Rattle.logbook.specs.Pages.{Cell, Step, View, Book, Named, nib, may_make}
 use Rattle.task_model.specs.declared.item.Item.{Item}
 use Rattle.task_model.specs.declared.item.Item.TheVariants.{Took}
-use Rattle.task_model.specs.declared.input.Act.TheVariants.{Next}
+use Rattle.task_model.specs.declared.input.Act.TheVariants.{Left}
 
 -- so many cells that are away
 abbrev pub cells_away : ℕ → List Cell
@@ -44,4 +44,4 @@ ToldByPen s v found w = (suc (suc (length w.0)) ≤ v.1.0.key) × (w.1.0 ≡ v.1
 
 -- what a step that adds nothing asks for
 abbrev pub no_item : Item
-no_item = Took (record { seat = 0; input = record { path = record { turns = [] }; act = Next } })
+no_item = Took (record { seat = 0; input = record { path = record { turns = [] }; act = Left } })

@@ -1,12 +1,13 @@
 -- An input acts at the address that its path leads to, and nothing else of the tree changes.
 use Rattle.std.proofs.Common.{◌≡◌, ◌∙◌, ℕ, List, [], ◌∷◌, Option, None, Some, refl, sym, ap, subst, arith}
+use Rattle.task_model.specs.Terms.Text.{Text}
 use Rattle.task_model.specs.Terms.Value.{ValueTerm}
 use Rattle.task_model.specs.Terms.Tree.{TreeTerm, edit_tree, enter_tree, share_tree, then_tree, next_tree, fail_tree, and_tree, or_tree, xor_tree, LaterTerm, State, at}
 use Rattle.task_model.specs.Terms.Input.{ActTerm, set_act, next_act, left_act, right_act}
 use Rattle.task_model.specs.Running.Checked.{CheckedTerm}
 use Rattle.task_model.specs.Running.Plan.{Plan, give, plan_work, Derives}
 use Rattle.task_model.specs.Running.Rules.{rule_of, value_of}
-use Rattle.task_model.specs.Running.Handling.{rebuilt, rebuilds, stopped, at_step, handled}
+use Rattle.task_model.specs.Running.Handling.{rebuilt, rebuilds, stopped, branch_for, at_step, handled}
 use Rattle.task_model.specs.Running.Address.{DownTerm, into_left, into_first, into_second, Address, address_turns, node_at, with_node, further_down, address_at_editor, address_at_step, address_of}
 use Rattle.task_model.specs.declared.input.Turn.{Turn}
 use Rattle.task_model.specs.declared.input.Turn.TheVariants as turns
@@ -113,7 +114,7 @@ module _ (c : CheckedTerm) where
       let w = below_some into_left (address_of t σ path act) a g in
       let down = rebuilds (handled c t σ path act) (λ u. next_tree u k) in
       subst (λ z. ActsAt c (next_tree t k) σ path act z) (sym w.2)
-      (acts_below (next_tree t k) t σ path path act (into_left ∷ w.0) w.0 (λ u. next_tree u k) (ap (λ o. at_step c o k σ down) f) refl
+      (acts_below (next_tree t k) t σ path path act (into_left ∷ w.0) w.0 (λ u. next_tree u k) (ap (λ o. at_step c o (branch_for act k) σ down) f) refl
       (λ u. refl)
       (inner w.0 w.1))
 
@@ -135,38 +136,38 @@ module _ (c : CheckedTerm) where
   at_root t σ act a e = let same : [] ≡ a = cc in subst (λ z. ActsAt c t σ [] act z) same (acts_here t σ act)
 
   -- a Next act at a user step, where its left has a value and where it has none
-  by_value : (t : TreeTerm) (k : LaterTerm) (σ : List ValueTerm) (a : Address) (o : Option ValueTerm) → value_of t σ ≡ o
-      → address_of (next_tree t k) σ [] next_act ≡ Some a
-      → ((b : Address) → address_of t σ [] next_act ≡ Some b → ActsAt c t σ [] next_act b) → ActsAt c (next_tree t k) σ [] next_act a
-  by_value t k σ a (Some v) f e inner =
-      at_root (next_tree t k) σ next_act a
-      (subst (λ o. address_at_step o (further_down into_left (address_of t σ [] next_act)) ≡ Some a) f e)
-  by_value t k σ a None f e inner = passed_on t k σ [] next_act a f e inner
+  by_value : (l : Text) (t : TreeTerm) (k : LaterTerm) (σ : List ValueTerm) (a : Address) (o : Option ValueTerm) → value_of t σ ≡ o
+      → address_of (next_tree t k) σ [] (next_act l) ≡ Some a
+      → ((b : Address) → address_of t σ [] (next_act l) ≡ Some b → ActsAt c t σ [] (next_act l) b) → ActsAt c (next_tree t k) σ [] (next_act l) a
+  by_value l t k σ a (Some v) f e inner =
+      at_root (next_tree t k) σ (next_act l) a
+      (subst (λ o. address_at_step o (further_down into_left (address_of t σ [] (next_act l))) ≡ Some a) f e)
+  by_value l t k σ a None f e inner = passed_on t k σ [] (next_act l) a f e inner
 
   -- where an address is found, the input acts there
   pub acts_at_address : (t : TreeTerm) (σ : List ValueTerm) (path : List Turn) (act : ActTerm) (a : Address)
       → address_of t σ path act ≡ Some a
       → ActsAt c t σ path act a
   acts_at_address (edit_tree b v) σ [] (set_act w) a e = at_root (edit_tree b v) σ (set_act w) a e
-  acts_at_address (edit_tree b v) σ [] next_act a e = absurd (cc)
+  acts_at_address (edit_tree b v) σ [] (next_act l) a e = absurd (cc)
   acts_at_address (edit_tree b v) σ [] left_act a e = absurd (cc)
   acts_at_address (edit_tree b v) σ [] right_act a e = absurd (cc)
   acts_at_address (edit_tree b v) σ (p ∷ path) act a e = absurd (cc)
   acts_at_address (enter_tree b) σ [] (set_act w) a e = at_root (enter_tree b) σ (set_act w) a e
-  acts_at_address (enter_tree b) σ [] next_act a e = absurd (cc)
+  acts_at_address (enter_tree b) σ [] (next_act l) a e = absurd (cc)
   acts_at_address (enter_tree b) σ [] left_act a e = absurd (cc)
   acts_at_address (enter_tree b) σ [] right_act a e = absurd (cc)
   acts_at_address (enter_tree b) σ (p ∷ path) act a e = absurd (cc)
   acts_at_address (share_tree b n) σ [] (set_act w) a e = at_root (share_tree b n) σ (set_act w) a e
-  acts_at_address (share_tree b n) σ [] next_act a e = absurd (cc)
+  acts_at_address (share_tree b n) σ [] (next_act l) a e = absurd (cc)
   acts_at_address (share_tree b n) σ [] left_act a e = absurd (cc)
   acts_at_address (share_tree b n) σ [] right_act a e = absurd (cc)
   acts_at_address (share_tree b n) σ (p ∷ path) act a e = absurd (cc)
   acts_at_address (then_tree t k) σ path act a e =
       in_part (then_tree t k) t σ path path act a into_left (λ u. then_tree u k) refl refl (λ b. refl) (λ b u. refl) e
       (λ b f. acts_at_address t σ path act b f)
-  acts_at_address (next_tree t k) σ [] next_act a e =
-      by_value t k σ a (value_of t σ) refl e (λ b g. acts_at_address t σ [] next_act b g)
+  acts_at_address (next_tree t k) σ [] (next_act l) a e =
+      by_value l t k σ a (value_of t σ) refl e (λ b g. acts_at_address t σ [] (next_act l) b g)
   acts_at_address (next_tree t k) σ [] (set_act v) a e = passed_on t k σ [] (set_act v) a refl e
       (λ b g. acts_at_address t σ [] (set_act v) b g)
   acts_at_address (next_tree t k) σ [] left_act a e = passed_on t k σ [] left_act a refl e (λ b g. acts_at_address t σ [] left_act b g)
@@ -191,7 +192,7 @@ module _ (c : CheckedTerm) where
   acts_at_address (xor_tree j k) σ [] left_act a e = at_root (xor_tree j k) σ left_act a e
   acts_at_address (xor_tree j k) σ [] right_act a e = at_root (xor_tree j k) σ right_act a e
   acts_at_address (xor_tree j k) σ [] (set_act v) a e = absurd (cc)
-  acts_at_address (xor_tree j k) σ [] next_act a e = absurd (cc)
+  acts_at_address (xor_tree j k) σ [] (next_act l) a e = absurd (cc)
   acts_at_address (xor_tree j k) σ (p ∷ path) act a e = absurd (cc)
 
   -- at a user step, where the act stops and where it doesn't
@@ -203,24 +204,24 @@ module _ (c : CheckedTerm) where
   by_stop t k σ path act None f e inner =
       let g = subst (λ o. address_at_step o (further_down into_left (address_of t σ path act)) ≡ None) f e in
       let down = rebuilds (handled c t σ path act) (λ u. next_tree u k) in
-      ap (λ o. at_step c o k σ down) f ∙ ap (λ p. rebuilds p (λ u. next_tree u k))
+      ap (λ o. at_step c o (branch_for act k) σ down) f ∙ ap (λ p. rebuilds p (λ u. next_tree u k))
       (inner (below_none into_left (address_of t σ path act) g))
 
   -- where none is found, the input is lacking at once
   pub lacks_without_address : (t : TreeTerm) (σ : List ValueTerm) (path : List Turn) (act : ActTerm) → address_of t σ path act ≡ None
       → handled c t σ path act ≡ give None
   lacks_without_address (edit_tree b v) σ [] (set_act w) e = absurd (cc)
-  lacks_without_address (edit_tree b v) σ [] next_act e = refl
+  lacks_without_address (edit_tree b v) σ [] (next_act l) e = refl
   lacks_without_address (edit_tree b v) σ [] left_act e = refl
   lacks_without_address (edit_tree b v) σ [] right_act e = refl
   lacks_without_address (edit_tree b v) σ (p ∷ path) act e = refl
   lacks_without_address (enter_tree b) σ [] (set_act w) e = absurd (cc)
-  lacks_without_address (enter_tree b) σ [] next_act e = refl
+  lacks_without_address (enter_tree b) σ [] (next_act l) e = refl
   lacks_without_address (enter_tree b) σ [] left_act e = refl
   lacks_without_address (enter_tree b) σ [] right_act e = refl
   lacks_without_address (enter_tree b) σ (p ∷ path) act e = refl
   lacks_without_address (share_tree b n) σ [] (set_act w) e = absurd (cc)
-  lacks_without_address (share_tree b n) σ [] next_act e = refl
+  lacks_without_address (share_tree b n) σ [] (next_act l) e = refl
   lacks_without_address (share_tree b n) σ [] left_act e = refl
   lacks_without_address (share_tree b n) σ [] right_act e = refl
   lacks_without_address (share_tree b n) σ (p ∷ path) act e = refl
@@ -242,7 +243,7 @@ module _ (c : CheckedTerm) where
   lacks_without_address (xor_tree j k) σ [] left_act e = absurd (cc)
   lacks_without_address (xor_tree j k) σ [] right_act e = absurd (cc)
   lacks_without_address (xor_tree j k) σ [] (set_act v) e = refl
-  lacks_without_address (xor_tree j k) σ [] next_act e = refl
+  lacks_without_address (xor_tree j k) σ [] (next_act l) e = refl
   lacks_without_address (xor_tree j k) σ (p ∷ path) act e = refl
 
 -- ---- the turns of an address
@@ -255,7 +256,7 @@ turns_below d o a path inner e = let w = below_some d o a e in ap address_turns 
 
 turns_at_editor : (path : List Turn) (act : ActTerm) (a : Address) → address_at_editor path act ≡ Some a → address_turns a ≡ path
 turns_at_editor [] (set_act v) a e = turns_here a e
-turns_at_editor [] next_act a e = absurd (cc)
+turns_at_editor [] (next_act l) a e = absurd (cc)
 turns_at_editor [] left_act a e = absurd (cc)
 turns_at_editor [] right_act a e = absurd (cc)
 turns_at_editor (p ∷ path) act a e = absurd (cc)
@@ -263,8 +264,8 @@ turns_at_editor (p ∷ path) act a e = absurd (cc)
 -- where an act stops at a step, its path is used up
 turns_at_step : (path : List Turn) (act : ActTerm) (o : Option ValueTerm) (further : Option Address) (a : Address)
     → (further ≡ Some a → address_turns a ≡ path) → address_at_step (stopped path act o) further ≡ Some a → address_turns a ≡ path
-turns_at_step [] next_act (Some v) further a inner e = turns_here a e
-turns_at_step [] next_act None further a inner e = inner e
+turns_at_step [] (next_act l) (Some v) further a inner e = turns_here a e
+turns_at_step [] (next_act l) None further a inner e = inner e
 turns_at_step [] (set_act v) o further a inner e = inner e
 turns_at_step [] left_act o further a inner e = inner e
 turns_at_step [] right_act o further a inner e = inner e
@@ -299,5 +300,5 @@ turns_of_address (or_tree t u) σ (turns.Second ∷ path) act a e =
 turns_of_address (xor_tree j k) σ [] left_act a e = turns_here a e
 turns_of_address (xor_tree j k) σ [] right_act a e = turns_here a e
 turns_of_address (xor_tree j k) σ [] (set_act v) a e = absurd (cc)
-turns_of_address (xor_tree j k) σ [] next_act a e = absurd (cc)
+turns_of_address (xor_tree j k) σ [] (next_act l) a e = absurd (cc)
 turns_of_address (xor_tree j k) σ (p ∷ path) act a e = absurd (cc)

@@ -2,6 +2,7 @@
 use Rattle.std.proofs.Common.{◌≡◌, ◌≤◌, ℕ, Bool, true, false, List, [], ◌++◌, None, refl, sym, ap, ◌∙◌, subst, arith, le_refl}
 use Rattle.std.specs.Option.{option_or}
 use Rattle.task_model.specs.Terms.Basic.{BasicTerm}
+use Rattle.task_model.specs.Terms.Text.{default_label}
 use Rattle.task_model.specs.Terms.Value.{ValueTerm}
 use Rattle.task_model.specs.Terms.Env.{SlotTerm}
 use Rattle.task_model.specs.Terms.Tree.{LaterTerm, TreeTerm, edit_tree, enter_tree, share_tree, then_tree, next_tree, fail_tree, and_tree, or_tree, xor_tree, at}
@@ -142,7 +143,7 @@ module _ (c : CheckedTerm) (budget : ℕ) where
   no_offers (next_tree t k) σ f os h =
       let g = one_fails c budget 1000 t (next_tree t k) σ refl f in
       let none : h.0 ≡ signs.No = subst (λ z. IsStepSign c budget z k σ h.0) (no_value c budget 1000 t σ g) h.2 in
-      h.4 ∙ ap (λ z. offered next_offer z ++ h.1) none ∙ no_offers t σ g h.1 h.3
+      h.4 ∙ ap (λ z. offered (next_offer default_label) z ++ h.1) none ∙ no_offers t σ g h.1 h.3
   no_offers fail_tree σ f os h = h
   no_offers (and_tree t u) σ f os h = let g = and_fail c budget 1000 t u σ f in
       h.4 ∙ both_empty h.0 h.1 (no_offers t σ g.0 h.0 h.2) (no_offers u σ g.1 h.1 h.3)

@@ -128,7 +128,7 @@ module _ (c : CheckedTerm) (budget : ℕ) where
   pub editor_total : (b : BasicTerm) (f : ValueTerm → State) (path : List Turn) (act : ActTerm)
       → Matches (offered (set_offer b) signs.Yes) path act ⊎ Lacking (at_editor b path act f)
   editor_total b f [] (set_act v) = if_total b v f
-  editor_total b f [] next_act = inr lacks_now
+  editor_total b f [] (next_act l) = inr lacks_now
   editor_total b f [] left_act = inr lacks_now
   editor_total b f [] right_act = inr lacks_now
   editor_total b f (t ∷ path) act = inr lacks_now
@@ -137,8 +137,8 @@ module _ (c : CheckedTerm) (budget : ℕ) where
       → Matches (offered (set_offer b) signs.Yes) path act → Lacking (at_editor b path act f) → ⊥
   editor_once b f [] (set_act v) (inl h) d = some_lacks (f v) (subst (λ c. Lacking (if_typed c (f v))) h.1 d)
   editor_once b f [] (set_act v) (inr h) d = h
-  editor_once b f [] next_act (inl h) d = h.1
-  editor_once b f [] next_act (inr h) d = h
+  editor_once b f [] (next_act l) (inl h) d = h.1
+  editor_once b f [] (next_act l) (inr h) d = h
   editor_once b f [] left_act (inl h) d = h.1
   editor_once b f [] left_act (inr h) d = h
   editor_once b f [] right_act (inl h) d = h.1

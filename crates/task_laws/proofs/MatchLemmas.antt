@@ -1,7 +1,9 @@
 -- An input matches an offer exactly where it isn't lacking within the budget.
-use Rattle.std.proofs.Common.{◌≡◌, ◌↔◌, ℕ, List, [], ◌∷◌, ◌++◌, Option, Some, None, refl, sym, subst}
+use Rattle.std.proofs.Common.{◌≡◌, ◌↔◌, ℕ, Bool, true, false, List, [], ◌∷◌, ◌++◌, Option, Some, None, refl, sym, subst}
 use Rattle.std.specs.Prelude.{◌⊎◌}
 use mathlib.Core.Logic.{inl, inr}
+use Rattle.std.proofs.lemmas.Slice.Eq.{bytes_eq-Decides}
+use Rattle.task_model.specs.Terms.Text.{Text, default_label, is_default_label}
 use Rattle.task_model.specs.Terms.Value.{ValueTerm}
 use Rattle.task_model.specs.Terms.Env.{plain_slot}
 use Rattle.task_model.specs.Terms.Tree.{LaterTerm, TreeTerm, edit_tree, enter_tree, share_tree, then_tree, next_tree, fail_tree, and_tree, or_tree, xor_tree, State, at}
@@ -9,7 +11,7 @@ use Rattle.task_model.specs.Terms.Input.{ActTerm, set_act, next_act, left_act, r
 use Rattle.task_model.specs.Running.Checked.{CheckedTerm}
 use Rattle.task_model.specs.Running.Plan.{Plan, give, after}
 use Rattle.task_model.specs.Running.Rules.{value_of}
-use Rattle.task_model.specs.Running.Handling.{at_editor, rebuilt, rebuilds, stopped, unless_failing, at_step, handled}
+use Rattle.task_model.specs.Running.Handling.{at_editor, rebuilt, rebuilds, stopped, if_labelled, branch_of, branch_for, unless_failing, chosen_branch, at_step, handled}
 use Rattle.task_model.specs.Running.Outcome.{IsNotOffered}
 use Rattle.task_model.specs.Running.Sign.{IsStepSign}
 use Rattle.task_model.specs.Running.Offer.{OfferTerm, next_offer, left_offer, right_offer, offered, both_offers, AreOffers}
@@ -21,21 +23,30 @@ use Rattle.task_laws.proofs.NextLemmas.{NoNexts, valued_no_next}
 use Rattle.task_laws.proofs.OfferListLemmas.{Matches, match_split, match_left, match_right, offered_only, no_next-matches, sides_here, sides_first, sides_second, to_first, to_second}
 use Rattle.task_laws.proofs.LackingLemmas.{Lacking, lacks_now, part_lacks, whole_lacks, editor_total, editor_once, tested_total, tested_once}
 
+-- the one label that picks the branch
+label_is : (l : Text) → is_default_label l ≡ true → default_label ≡ l
+label_is l e = sym ((bytes_eq-Decides l default_label).0 e)
+
 module _ (c : CheckedTerm) (budget : ℕ) where
   -- ---- at a user step
   -- the step's own Next matches, or what its left part offers, or the input lacks
   next_total : (o : Option ValueTerm) (k : LaterTerm) (σ : List ValueTerm) (s : Sign) (us : List OfferTerm) (path : List Turn)
       (act : ActTerm) (q : Plan (Option State)) → IsStepSign c budget o k σ s → Matches us path act ⊎ Lacking c budget q
-      → Matches (offered next_offer s ++ us) path act ⊎ Lacking c budget (at_step c (stopped path act o) k σ q)
-  next_total o k σ s us path act q d (inl h) = inl (match_right (offered next_offer s) us path act h)
-  next_total None k σ s us [] next_act q d (inr h) = inr h
-  next_total (Some v) k σ s us [] next_act q d (inr h) = by_test
-      (tested_total c budget k.body (k.slots ++ plain_slot v ∷ []) σ next_offer s next_act d tt)
+      → Matches (offered (next_offer default_label) s ++ us) path act ⊎ Lacking c budget (at_step c (stopped path act o) (branch_for act k) σ q)
+  next_total o k σ s us path act q d (inl h) = inl (match_right (offered (next_offer default_label) s) us path act h)
+  next_total None k σ s us [] (next_act l) q d (inr h) = inr h
+  next_total (Some v) k σ s us [] (next_act l) q d (inr h) = by_label (is_default_label l) refl
     where
-      by_test : Matches (offered next_offer s) [] next_act ⊎ Lacking c budget (unless_failing c k.body (k.slots ++ plain_slot v ∷ []) σ)
-          → Matches (offered next_offer s ++ us) [] next_act ⊎ Lacking c budget (unless_failing c k.body (k.slots ++ plain_slot v ∷ []) σ)
-      by_test (inl m) = inl (match_left (offered next_offer s) us [] next_act m)
-      by_test (inr l) = inr l
+      by_test : Matches (offered (next_offer default_label) s) [] (next_act l) ⊎ Lacking c budget (unless_failing c k.body (k.slots ++ plain_slot v ∷ []) σ)
+          → Matches (offered (next_offer default_label) s ++ us) [] (next_act l) ⊎ Lacking c budget (unless_failing c k.body (k.slots ++ plain_slot v ∷ []) σ)
+      by_test (inl m) = inl (match_left (offered (next_offer default_label) s) us [] (next_act l) m)
+      by_test (inr lacks) = inr lacks
+
+      by_label : (b : Bool) → is_default_label l ≡ b
+          → Matches (offered (next_offer default_label) s ++ us) [] (next_act l) ⊎ Lacking c budget (chosen_branch c (if_labelled b k) v σ)
+      by_label true e = by_test
+          (tested_total c budget k.body (k.slots ++ plain_slot v ∷ []) σ (next_offer default_label) s (next_act l) d (label_is l e))
+      by_label false e = inr (lacks_now c budget)
   next_total o k σ s us [] (set_act w) q d (inr h) = inr h
   next_total o k σ s us [] left_act q d (inr h) = inr h
   next_total o k σ s us [] right_act q d (inr h) = inr h
@@ -44,28 +55,30 @@ module _ (c : CheckedTerm) (budget : ℕ) where
   -- never both
   next_once : (o : Option ValueTerm) (k : LaterTerm) (σ : List ValueTerm) (s : Sign) (us : List OfferTerm) (path : List Turn)
       (act : ActTerm) (q : Plan (Option State)) → IsStepSign c budget o k σ s → ((v : ValueTerm) → o ≡ Some v → NoNexts us)
-      → (Matches us path act → Lacking c budget q → ⊥) → Matches (offered next_offer s ++ us) path act
-      → Lacking c budget (at_step c (stopped path act o) k σ q) → ⊥
-  next_once o k σ s us path act q d alone r m = by_part o path act d alone r (match_split (offered next_offer s) us path act m)
+      → (Matches us path act → Lacking c budget q → ⊥) → Matches (offered (next_offer default_label) s ++ us) path act
+      → Lacking c budget (at_step c (stopped path act o) (branch_for act k) σ q) → ⊥
+  next_once o k σ s us path act q d alone r m = by_part o path act d alone r (match_split (offered (next_offer default_label) s) us path act m)
     where
-      none_next : (z : Sign) (path : List Turn) (act : ActTerm) → z ≡ signs.No → Matches (offered next_offer z) path act → ⊥
-      none_next z path act e m = subst (λ y. Matches (offered next_offer y) path act) e m
+      none_next : (z : Sign) (path : List Turn) (act : ActTerm) → z ≡ signs.No → Matches (offered (next_offer default_label) z) path act → ⊥
+      none_next z path act e m = subst (λ y. Matches (offered (next_offer default_label) y) path act) e m
 
       by_part : (o : Option ValueTerm) (path : List Turn) (act : ActTerm) → IsStepSign c budget o k σ s
           → ((v : ValueTerm) → o ≡ Some v → NoNexts us) → (Matches us path act → Lacking c budget q → ⊥)
-          → Matches (offered next_offer s) path act ⊎ Matches us path act → Lacking c budget (at_step c (stopped path act o) k σ q) → ⊥
-      by_part None [] next_act d alone r (inl m) l = none_next s [] next_act d m
-      by_part None [] next_act d alone r (inr m) l = r m l
-      by_part (Some v) [] next_act d alone r (inl m) l = tested_once c budget k.body (k.slots ++ plain_slot v ∷ []) σ next_offer s []
-          next_act d m l
-      by_part (Some v) [] next_act d alone r (inr m) l = no_next-matches us (alone v refl) m
-      by_part o [] (set_act w) d alone r (inl m) l = (offered_only next_offer s [] (set_act w) m).1
+          → Matches (offered (next_offer default_label) s) path act ⊎ Matches us path act → Lacking c budget (at_step c (stopped path act o) (branch_for act k) σ q) → ⊥
+      by_part None [] (next_act l) d alone r (inl m) lacks = none_next s [] (next_act l) d m
+      by_part None [] (next_act l) d alone r (inr m) lacks = r m lacks
+      by_part (Some v) [] (next_act l) d alone r (inl m) lacks =
+          let same = (offered_only (next_offer default_label) s [] (next_act l) m).1 in
+          tested_once c budget k.body (k.slots ++ plain_slot v ∷ []) σ (next_offer default_label) s [] (next_act l) d m
+          (subst (λ z. Lacking c budget (chosen_branch c (branch_of z k) v σ)) (sym same) lacks)
+      by_part (Some v) [] (next_act l) d alone r (inr m) lacks = no_next-matches us l (alone v refl) m
+      by_part o [] (set_act w) d alone r (inl m) l = (offered_only (next_offer default_label) s [] (set_act w) m).1
       by_part o [] (set_act w) d alone r (inr m) l = r m l
-      by_part o [] left_act d alone r (inl m) l = (offered_only next_offer s [] left_act m).1
+      by_part o [] left_act d alone r (inl m) l = (offered_only (next_offer default_label) s [] left_act m).1
       by_part o [] left_act d alone r (inr m) l = r m l
-      by_part o [] right_act d alone r (inl m) l = (offered_only next_offer s [] right_act m).1
+      by_part o [] right_act d alone r (inl m) l = (offered_only (next_offer default_label) s [] right_act m).1
       by_part o [] right_act d alone r (inr m) l = r m l
-      by_part o (t ∷ path) act d alone r (inl m) l = let e = (offered_only next_offer s (t ∷ path) act m).0 in absurd (cc)
+      by_part o (t ∷ path) act d alone r (inl m) l = let e = (offered_only (next_offer default_label) s (t ∷ path) act m).0 in absurd (cc)
       by_part o (t ∷ path) act d alone r (inr m) l = r m l
 
   -- ---- parts
@@ -132,7 +145,7 @@ module _ (c : CheckedTerm) (budget : ℕ) where
           → Matches (offered left_offer h.0 ++ offered right_offer h.1) [] right_act ⊎ Lacking c budget (unless_failing c k.body k.slots σ)
       by_side (inl m) = inl (match_right (offered left_offer h.0) (offered right_offer h.1) [] right_act m)
       by_side (inr l) = inr l
-  matched_or_lacking (xor_tree j k) σ os [] next_act h = inr (lacks_now c budget)
+  matched_or_lacking (xor_tree j k) σ os [] (next_act l) h = inr (lacks_now c budget)
   matched_or_lacking (xor_tree j k) σ os [] (set_act v) h = inr (lacks_now c budget)
   matched_or_lacking (xor_tree j k) σ os (r ∷ path) act h = inr (lacks_now c budget)
 
@@ -172,8 +185,8 @@ module _ (c : CheckedTerm) (budget : ℕ) where
       by_part [] left_act (inr m) l = (offered_only right_offer h.1 [] left_act m).1
       by_part [] right_act (inl m) l = (offered_only left_offer h.0 [] right_act m).1
       by_part [] right_act (inr m) l = tested_once c budget k.body k.slots σ right_offer h.1 [] right_act h.3 m l
-      by_part [] next_act (inl m) l = (offered_only left_offer h.0 [] next_act m).1
-      by_part [] next_act (inr m) l = (offered_only right_offer h.1 [] next_act m).1
+      by_part [] (next_act l) (inl m) lacks = (offered_only left_offer h.0 [] (next_act l) m).1
+      by_part [] (next_act l) (inr m) lacks = (offered_only right_offer h.1 [] (next_act l) m).1
       by_part [] (set_act v) (inl m) l = (offered_only left_offer h.0 [] (set_act v) m).1
       by_part [] (set_act v) (inr m) l = (offered_only right_offer h.1 [] (set_act v) m).1
       by_part (r ∷ path) act (inl m) l = let e = (offered_only left_offer h.0 (r ∷ path) act m).0 in absurd (cc)

@@ -1,8 +1,9 @@
--- A tree that has a value offers no Next at itself.
+-- A tree that has a value offers no Next at itself, of any label.
 use Rattle.std.proofs.Common.{◌≡◌, List, [], ◌∷◌, ◌++◌, map, Some, sym, subst, append-nil}
 use Rattle.std.specs.Prelude.{ℕ}
 use Rattle.std.specs.List.{All, AllByRecursion}
 use Rattle.std.proofs.lemmas.List.Elements.{All-from_recursion}
+use Rattle.task_model.specs.Terms.Text.{Text}
 use Rattle.task_model.specs.Terms.Basic.{BasicTerm}
 use Rattle.task_model.specs.Terms.Value.{ValueTerm}
 use Rattle.task_model.specs.Terms.Tree.{TreeTerm, edit_tree, enter_tree, share_tree, then_tree, next_tree, fail_tree, and_tree, or_tree, xor_tree}
@@ -14,17 +15,17 @@ use Rattle.task_model.specs.declared.input.Turn.TheVariants as turns
 use Rattle.task_model.specs.declared.widget.Sign.TheVariants as signs
 
 abbrev pub IsNoNext : OfferTerm → Type 0
-IsNoNext o = o.path ≡ [] → o.kind ≡ next_offer → ⊥
+IsNoNext o = (label : Text) → o.path ≡ [] → o.kind ≡ next_offer label → ⊥
 
 abbrev pub NoNexts : List OfferTerm → Type 0
 NoNexts = AllByRecursion IsNoNext
 
 no_next_set : (b : BasicTerm) (os : List OfferTerm) → os ≡ offered (set_offer b) signs.Yes → NoNexts os
-no_next_set b os e = subst NoNexts (sym e) ((λ p k. absurd (cc)), tt)
+no_next_set b os e = subst NoNexts (sym e) ((λ m p k. absurd (cc)), tt)
 
 no_next_turned : (t : Turn) (os us : List OfferTerm) → NoNexts us → NoNexts (map (turned t) os ++ us)
 no_next_turned t [] us h = h
-no_next_turned t (o ∷ os) us h = ((λ p k. absurd (cc)), no_next_turned t os us h)
+no_next_turned t (o ∷ os) us h = ((λ m p k. absurd (cc)), no_next_turned t os us h)
 
 no_next_both : (os us : List OfferTerm) → NoNexts (both_offers os us)
 no_next_both os us = no_next_turned turns.First os (map (turned turns.Second) us)

@@ -1,5 +1,6 @@
 -- Each tree has exactly one list of offers, and exactly one list of widgets.
 use Rattle.std.proofs.Common.{◌≡◌, ℕ, List, [], ◌∷◌, ◌++◌, refl, sym, ap, ◌∙◌}
+use Rattle.task_model.specs.Terms.Text.{default_label}
 use Rattle.task_model.specs.Terms.Value.{ValueTerm}
 use Rattle.task_model.specs.Terms.Tree.{TreeTerm, edit_tree, enter_tree, share_tree, then_tree, next_tree, fail_tree, and_tree, or_tree, xor_tree}
 use Rattle.task_model.specs.Running.Checked.{CheckedTerm}
@@ -35,8 +36,8 @@ module _ (c : CheckedTerm) (budget : ℕ) where
   offers_once (share_tree b n) σ os us d e = d ∙ sym e
   offers_once (then_tree t k) σ os us d e = offers_once t σ os us d e
   offers_once (next_tree t k) σ os us d e =
-      d.4 ∙ ap (λ z. offered next_offer z ++ d.1) (step_sign_once c budget (value_of t σ) k σ d.0 e.0 d.2 e.2)
-      ∙ ap (λ z. offered next_offer e.0 ++ z) (offers_once t σ d.1 e.1 d.3 e.3) ∙ sym e.4
+      d.4 ∙ ap (λ z. offered (next_offer default_label) z ++ d.1) (step_sign_once c budget (value_of t σ) k σ d.0 e.0 d.2 e.2)
+      ∙ ap (λ z. offered (next_offer default_label) e.0 ++ z) (offers_once t σ d.1 e.1 d.3 e.3) ∙ sym e.4
   offers_once fail_tree σ os us d e = d ∙ sym e
   offers_once (and_tree t u) σ os us d e = d.4 ∙ both_offers-same d.0 d.1 e.0 e.1 (offers_once t σ d.0 e.0 d.2 e.2)
       (offers_once u σ d.1 e.1 d.3 e.3) ∙ sym e.4

@@ -2,6 +2,7 @@
 use Rattle.std.proofs.Common.{◌≡◌, List, [], ◌∷◌, ◌++◌, map, refl, ap}
 use Rattle.std.specs.Prelude.{◌⊎◌}
 use mathlib.Core.Logic.{inl, inr}
+use Rattle.task_model.specs.Terms.Text.{Text}
 use Rattle.task_model.specs.Terms.Input.{ActTerm, next_act}
 use Rattle.task_model.specs.Running.Offer.{OfferKindTerm, set_offer, next_offer, left_offer, right_offer, OfferTerm, offered, turned, both_offers, IsFor, SomeMatches}
 use Rattle.task_model.specs.declared.input.Turn.{Turn}
@@ -65,16 +66,16 @@ offered_only k signs.Yes path act (inr h) = absurd h
 offered_only k signs.Over path act (inl h) = h
 offered_only k signs.Over path act (inr h) = absurd h
 
-pub no_next-matches : (os : List OfferTerm) → NoNexts os → Matches os [] next_act → ⊥
-no_next-matches [] n h = h
-no_next-matches (o ∷ os) n (inl h) = n.0 h.0 (by_kind o.kind h.1)
+pub no_next-matches : (os : List OfferTerm) (l : Text) → NoNexts os → Matches os [] (next_act l) → ⊥
+no_next-matches [] l n h = h
+no_next-matches (o ∷ os) l n (inl h) = n.0 l h.0 (by_kind o.kind h.1)
   where
-    by_kind : (k : OfferKindTerm) → IsFor k next_act → k ≡ next_offer
-    by_kind next_offer h = refl
+    by_kind : (k : OfferKindTerm) → IsFor k (next_act l) → k ≡ next_offer l
+    by_kind (next_offer m) h = ap next_offer h
     by_kind (set_offer b) h = absurd h
     by_kind left_offer h = absurd h
     by_kind right_offer h = absurd h
-no_next-matches (o ∷ os) n (inr h) = no_next-matches os n.1 h
+no_next-matches (o ∷ os) l n (inr h) = no_next-matches os l n.1 h
 
 -- ---- offers of two parts
 pub sides_here : (xs ys : List OfferTerm) (act : ActTerm) → Matches (both_offers xs ys) [] act → ⊥

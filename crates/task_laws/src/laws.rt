@@ -168,10 +168,10 @@ pub fn failing_offers_nothing()
         Fails c (at t σ) true n h → IsWithinBudget budget n h → (os : List OfferTerm) → AreOffers c budget t σ os → os ≡ [] }
 {}
 
-/// Where the left part of a user step has a value, none of its offers is Next with an empty path: that path is the step's.
+/// Where the left part of a user step has a value, none of its offers is Next with an empty path, of any label: that path is the step's.
 pub fn next_stands_alone()
     ensures { (c : CheckedTerm) (budget : ℕ) (left : TreeTerm) (σ : List ValueTerm) (v : ValueTerm) (os : List OfferTerm) →
-        value_of left σ ≡ Some v → AreOffers c budget left σ os → All (λ o. o.path ≡ [] → o.kind ≡ next_offer → ⊥) os }
+        value_of left σ ≡ Some v → AreOffers c budget left σ os → All (λ o. (label : Text) → o.path ≡ [] → o.kind ≡ next_offer label → ⊥) os }
 {}
 
 /// A legal history has exactly one page in each face for each seat.

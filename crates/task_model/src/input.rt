@@ -1,3 +1,4 @@
+use crate::text::TaskText;
 use crate::turns::Turns;
 use crate::value::Value;
 
@@ -15,11 +16,11 @@ pub struct Path {
     pub turns: Turns,
 }
 
-/// What an input does at its place.
+/// What an input does at its place. To go on it has the label of a branch.
 #[derive(Drop)]
 pub enum Act {
     Set(Value),
-    Next,
+    Next(TaskText),
     Left,
     Right,
 }

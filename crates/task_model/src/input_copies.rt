@@ -3,6 +3,7 @@ ghost use Rattle.task_model.specs.Terms.Input.{act_term, input_term, entry_term}
 
 use crate::input::{Act, Entry, Input, Path};
 use crate::memory::OutOfMemory;
+use crate::text::copy_text;
 use crate::turns::Turns;
 use crate::value_copies::copy_value;
 use std::alloc::Global;
@@ -12,7 +13,7 @@ fn copy_act(act: &Act) -> Result<Act, OutOfMemory>
 {
     match act {
         Act::Set(v) => Ok(Act::Set(copy_value(v)?)),
-        Act::Next => Ok(Act::Next),
+        Act::Next(label) => Ok(Act::Next(copy_text(label)?)),
         Act::Left => Ok(Act::Left),
         Act::Right => Ok(Act::Right),
     }

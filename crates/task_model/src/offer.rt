@@ -1,5 +1,6 @@
 use crate::basic::Basic;
 use crate::input::Path;
+use crate::text::TaskText;
 
 /// How certain an offer is: it stands, or its test went over the budget.
 #[derive(Clone, Copy, Debug, PartialEq, Eq)]
@@ -8,11 +9,11 @@ pub enum Answer {
     Over,
 }
 
-/// The inputs that an offer is for: any value of a type, or an act.
+/// The inputs that an offer is for: any value of a type, or an act: to go on by a label, or to take a side.
 #[derive(Drop)]
 pub enum OfferKind {
     Set(Basic),
-    Next,
+    Next(TaskText),
     Left,
     Right,
 }

@@ -92,7 +92,7 @@ turns_line (turns.Second ∷ path) = (λ e. omega arith, turns_line path)
 act_line : (a : ActTerm) → IsHeldAct a → IsLine (act_text a)
 act_line (set_act v) h =
     both (codes "set ") (value_text v) (λ e. omega arith, (λ e. omega arith, (λ e. omega arith, (λ e. omega arith, tt)))) (value_line v h)
-act_line next_act h = (λ e. omega arith, (λ e. omega arith, (λ e. omega arith, (λ e. omega arith, tt))))
+act_line (next_act l) h = (λ e. omega arith, (λ e. omega arith, (λ e. omega arith, (λ e. omega arith, tt))))
 act_line left_act h = (λ e. omega arith, (λ e. omega arith, (λ e. omega arith, (λ e. omega arith, tt))))
 act_line right_act h = (λ e. omega arith, (λ e. omega arith, (λ e. omega arith, (λ e. omega arith, (λ e. omega arith, tt)))))
 

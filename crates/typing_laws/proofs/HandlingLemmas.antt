@@ -1,6 +1,7 @@
 -- Handling an input keeps types, and so does what it settles to.
 use Rattle.std.proofs.Common.{◌≡◌, ℕ, Bool, true, false, List, [], ◌∷◌, Option, Some, None, refl, sym, subst}
 use Rattle.std.specs.Prelude.{slice_set}
+use Rattle.task_model.specs.Terms.Text.{is_default_label}
 use Rattle.task_model.specs.Terms.Basic.{BasicTerm}
 use Rattle.task_model.specs.Terms.Value.{ValueTerm, value_has}
 use Rattle.task_model.specs.Terms.Tree.{LaterTerm, TreeTerm, edit_tree, enter_tree, share_tree, then_tree, next_tree, fail_tree, and_tree, or_tree, xor_tree, State}
@@ -8,7 +9,7 @@ use Rattle.task_model.specs.Terms.Input.{ActTerm, set_act, next_act, left_act, r
 use Rattle.task_model.specs.Running.Checked.{CheckedTerm}
 use Rattle.task_model.specs.Running.Plan.{Plan, plan_work, Derives}
 use Rattle.task_model.specs.Running.Rules.{value_of, rule_of}
-use Rattle.task_model.specs.Running.Handling.{if_typed, at_editor, rebuilt, rebuilds, stopped, unless_failing, at_step, handled, handles, settled, interacts, Handled, Interacts}
+use Rattle.task_model.specs.Running.Handling.{if_typed, at_editor, rebuilt, rebuilds, stopped, if_labelled, branch_for, unless_failing, chosen_branch, at_step, handled, handles, settled, interacts, Handled, Interacts}
 use Rattle.task_model.specs.declared.input.Turn.{Turn}
 use Rattle.task_model.specs.declared.input.Turn.TheVariants as turns
 use Rattle.task_model.specs.Checking.Accepted.{IsAccepted}
@@ -49,16 +50,26 @@ module _ (c : CheckedTerm) where
       by_result (Some s) k = (k.0, k.1, record { store = k.2.store; tree = h k.0 k.1 s.tree k.2.tree })
 
   stopped_has : (path : List Turn) (act : ActTerm) (o : Option ValueTerm) (a : BasicTerm) → IfHas o a → IfHas (stopped path act o) a
-  stopped_has [] next_act o a h = h
+  stopped_has [] (next_act l) o a h = h
   stopped_has path act o a h = tt
 
   module _ (facts : ProgramFacts c) where
-    good_at_step : (Σ : List BasicTerm) (o : Option ValueTerm) (k : LaterTerm) (σ : List ValueTerm) (a b : BasicTerm) (p : Plan
-        (Option State))
-        → IfHas o a → LaterHas c Σ k (Some a) b → StoreHas σ Σ → Goes c p (KeptIf Σ b) → Goes c (at_step c o k σ p) (KeptIf Σ b)
-    good_at_step Σ None k σ a b p hv h s g = g
-    good_at_step Σ (Some v) k σ a b p hv h s g =
-        good_trial c facts Σ k v σ a b _ (KeptIf Σ b) h hv s (λ t no ht. good_branch c no _ _ (KeptIf Σ b) tt ht)
+    good_at_step : (Σ : List BasicTerm) (o : Option ValueTerm) (act : ActTerm) (k : LaterTerm) (σ : List ValueTerm) (a b : BasicTerm)
+        (p : Plan (Option State))
+        → IfHas o a → LaterHas c Σ k (Some a) b → StoreHas σ Σ → Goes c p (KeptIf Σ b)
+        → Goes c (at_step c o (branch_for act k) σ p) (KeptIf Σ b)
+    good_at_step Σ None act k σ a b p hv h s g = g
+    good_at_step Σ (Some v) act k σ a b p hv h s g = by_act act
+      where
+        by_label : (t : Bool) → Goes c (chosen_branch c (if_labelled t k) v σ) (KeptIf Σ b)
+        by_label true = good_trial c facts Σ k v σ a b _ (KeptIf Σ b) h hv s (λ t no ht. good_branch c no _ _ (KeptIf Σ b) tt ht)
+        by_label false = tt
+
+        by_act : (x : ActTerm) → Goes c (chosen_branch c (branch_for x k) v σ) (KeptIf Σ b)
+        by_act (next_act l) = by_label (is_default_label l)
+        by_act (set_act w) = tt
+        by_act left_act = tt
+        by_act right_act = tt
 
     good_picked : (Σ : List BasicTerm) (k : LaterTerm) (σ : List ValueTerm) (b : BasicTerm) → LaterHas c Σ k None b → StoreHas σ Σ
         → Goes c (unless_failing c k.body k.slots σ) (KeptIf Σ b)
@@ -82,7 +93,7 @@ module _ (c : CheckedTerm) where
         ))
         (handled_good t σ path act Σ h.0 s h.1)
     handled_good (next_tree t k) σ path act Σ b s h =
-        good_at_step Σ (stopped path act (value_of t σ)) k σ h.0 b _ (stopped_has path act (value_of t σ) h.0
+        good_at_step Σ (stopped path act (value_of t σ)) act k σ h.0 b _ (stopped_has path act (value_of t σ) h.0
         (value_has_type c Σ t σ h.0 s h.1))
         h.2 s
         (good_rebuilt Σ h.0 b (λ t'. next_tree t' k) (handled c t σ path act) (λ Σ' g m hm. (
@@ -109,7 +120,7 @@ module _ (c : CheckedTerm) where
         (handled_good u σ path act Σ b s h.1)
     handled_good (xor_tree j k) σ [] left_act Σ b s h = good_picked Σ j σ b h.0 s
     handled_good (xor_tree j k) σ [] right_act Σ b s h = good_picked Σ k σ b h.1 s
-    handled_good (xor_tree j k) σ [] next_act Σ b s h = tt
+    handled_good (xor_tree j k) σ [] (next_act l) Σ b s h = tt
     handled_good (xor_tree j k) σ [] (set_act v) Σ b s h = tt
     handled_good (xor_tree j k) σ (turn ∷ path) act Σ b s h = tt
 

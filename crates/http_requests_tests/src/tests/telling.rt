@@ -24,7 +24,7 @@ fn input_told(alloc: Global, input: &Input) -> Result<String, OutOfMemory> {
         })?;
     }
     match &input.act {
-        Act::Next => text.push_str(" next")?,
+        Act::Next(_) => text.push_str(" next")?,
         Act::Left => text.push_str(" left")?,
         Act::Right => text.push_str(" right")?,
         Act::Set(value) => {

@@ -24,7 +24,7 @@ fn push_kind(alloc: Global, text: &mut String, kind: &OfferKind) -> Result<(), O
             text.push_str(" set ")?;
             text.push_str(print_basic(alloc, b)?.as_str())?;
         }
-        OfferKind::Next => text.push_str(" next")?,
+        OfferKind::Next(_) => text.push_str(" next")?,
         OfferKind::Left => text.push_str(" left")?,
         OfferKind::Right => text.push_str(" right")?,
     }

@@ -1,6 +1,7 @@
 -- What becomes of an input (docs/RULES.md, "Inputs"). Handling and lacking are one plan, whose result is the state, or none where
 -- the input is lacking.
 use Rattle.std.specs.Prelude.{ℕ, Bool, true, false, List, [], ◌∷◌, ◌++◌, Option, Some, None, slice_set}
+use Rattle.task_model.specs.Terms.Text.{Text, is_default_label}
 use Rattle.task_model.specs.Terms.Basic.{BasicTerm}
 use Rattle.task_model.specs.Terms.Value.{ValueTerm, value_has}
 use Rattle.task_model.specs.Terms.Env.{SlotTerm, plain_slot}
@@ -33,25 +34,43 @@ rebuilds p f = after p (λ r. give (rebuilt f r))
 
 -- the value at which a Next act stops at a user step: its path is used up there
 abbrev pub stopped : List Turn → ActTerm → Option ValueTerm → Option ValueTerm
-stopped [] next_act o = o
+stopped [] (next_act l) o = o
 stopped path act o = None
+
+-- the branch of a user step that has a label: the step has one branch, labelled `next`
+abbrev pub if_labelled : Bool → LaterTerm → Option LaterTerm
+if_labelled true k = Some k
+if_labelled false k = None
+
+abbrev pub branch_of : Text → LaterTerm → Option LaterTerm
+branch_of l k = if_labelled (is_default_label l) k
+
+-- the branch that an act takes: a Next act that of its label
+abbrev pub branch_for : ActTerm → LaterTerm → Option LaterTerm
+branch_for (next_act l) k = branch_of l k
+branch_for act k = None
 
 module _ (c : CheckedTerm) where
   -- a body, normalised, unless that is failing
   abbrev pub unless_failing : ℕ → List SlotTerm → List ValueTerm → Plan (Option State)
   unless_failing i vs σ = tested c i vs σ (λ s no. branch no (give None) (give (Some s)))
 
+  -- a branch at a value; where there is none of the label, the input is lacking without a test
+  abbrev pub chosen_branch : Option LaterTerm → ValueTerm → List ValueTerm → Plan (Option State)
+  chosen_branch None v σ = give None
+  chosen_branch (Some k) v σ = unless_failing k.body (k.slots ++ plain_slot v ∷ []) σ
+
   -- a user step where a Next act stops, or what its left makes of the input
-  abbrev pub at_step : Option ValueTerm → LaterTerm → List ValueTerm → Plan (Option State) → Plan (Option State)
-  at_step None k σ down = down
-  at_step (Some v) k σ down = unless_failing k.body (k.slots ++ plain_slot v ∷ []) σ
+  abbrev pub at_step : Option ValueTerm → Option LaterTerm → List ValueTerm → Plan (Option State) → Plan (Option State)
+  at_step None b σ down = down
+  at_step (Some v) b σ down = chosen_branch b v σ
 
   abbrev pub handled : TreeTerm → List ValueTerm → List Turn → ActTerm → Plan (Option State)
   handled (edit_tree b v) σ path act = at_editor b path act (λ w. at (edit_tree b w) σ)
   handled (enter_tree b) σ path act = at_editor b path act (λ w. at (edit_tree b w) σ)
   handled (share_tree b n) σ path act = at_editor b path act (λ w. at (share_tree b n) (slice_set σ n w))
   handled (then_tree t k) σ path act = rebuilds (handled t σ path act) (λ t'. then_tree t' k)
-  handled (next_tree t k) σ path act = at_step (stopped path act (value_of t σ)) k σ
+  handled (next_tree t k) σ path act = at_step (stopped path act (value_of t σ)) (branch_for act k) σ
       (rebuilds (handled t σ path act) (λ t'. next_tree t' k))
   handled fail_tree σ path act = give None
   handled (and_tree t u) σ [] act = give None

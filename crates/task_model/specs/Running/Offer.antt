@@ -1,5 +1,6 @@
 -- What a tree offers within a budget (docs/RULES.md, "Offers").
 use Rattle.std.specs.Prelude.{◌≡◌, ◌⊎◌, ℕ, IsTrue, List, [], ◌∷◌, ◌++◌, map}
+use Rattle.task_model.specs.Terms.Text.{Text, default_label}
 use Rattle.task_model.specs.Terms.Basic.{BasicTerm, basic_term}
 use Rattle.task_model.specs.Terms.Value.{ValueTerm, value_has}
 use Rattle.task_model.specs.Terms.Tree.{TreeTerm, edit_tree, enter_tree, share_tree, then_tree, next_tree, fail_tree, and_tree, or_tree, xor_tree}
@@ -20,13 +21,13 @@ use Rattle.task_model.specs.declared.offer.Offer.{Offer}
 -- the inputs that an offer is for
 pub data OfferKindTerm : Type 0 where
   set_offer : BasicTerm → OfferKindTerm
-  next_offer : OfferKindTerm
+  next_offer : Text → OfferKindTerm
   left_offer : OfferKindTerm
   right_offer : OfferKindTerm
 
 abbrev pub offer_kind_term : OfferKind → OfferKindTerm
 offer_kind_term (kinds.Set b) = set_offer (basic_term b)
-offer_kind_term kinds.Next = next_offer
+offer_kind_term (kinds.Next l) = next_offer l
 offer_kind_term kinds.Left = left_offer
 offer_kind_term kinds.Right = right_offer
 
@@ -64,7 +65,7 @@ module _ (c : CheckedTerm) (budget : ℕ) where
   AreOffers (share_tree b n) σ os = os ≡ offered (set_offer b) signs.Yes
   AreOffers (then_tree t k) σ os = AreOffers t σ os
   AreOffers (next_tree t k) σ os =
-      (s : Sign) × (us : List OfferTerm) × IsStepSign c budget (value_of t σ) k σ s × AreOffers t σ us × (os ≡ offered next_offer s ++ us)
+      (s : Sign) × (us : List OfferTerm) × IsStepSign c budget (value_of t σ) k σ s × AreOffers t σ us × (os ≡ offered (next_offer default_label) s ++ us)
   AreOffers fail_tree σ os = os ≡ []
   AreOffers (and_tree t u) σ os = (xs : List OfferTerm) × (ys : List OfferTerm) × AreOffers t σ xs × AreOffers u σ ys
       × (os ≡ both_offers xs ys)
@@ -76,7 +77,7 @@ module _ (c : CheckedTerm) (budget : ℕ) where
 -- an offer is for an act
 abbrev pub IsFor : OfferKindTerm → ActTerm → Type 0
 IsFor (set_offer b) (set_act v) = IsTrue (value_has v b)
-IsFor next_offer next_act = Unit {0}
+IsFor (next_offer m) (next_act l) = m ≡ l
 IsFor left_offer left_act = Unit {0}
 IsFor right_offer right_act = Unit {0}
 IsFor k a = ⊥

@@ -20,9 +20,9 @@ abbrev mutual
   AreHeld no_values = Unit {0}
   AreHeld (more_values v vs) = IsHeld v × AreHeld vs
 
--- the value that an act sets, if it sets one, is held
+-- the value that an act sets, if it sets one, is held, and its label, if it has one, is UTF-8
 abbrev pub IsHeldAct : ActTerm → Type 0
 IsHeldAct (set_act v) = IsHeld v
-IsHeldAct next_act = Unit {0}
+IsHeldAct (next_act l) = IsUtf8 l
 IsHeldAct left_act = Unit {0}
 IsHeldAct right_act = Unit {0}

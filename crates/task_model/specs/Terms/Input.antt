@@ -1,5 +1,6 @@
 -- Inputs and entries as plain terms (docs/RULES.md, "Inputs").
 use Rattle.std.specs.Prelude.{ℕ, List}
+use Rattle.task_model.specs.Terms.Text.{Text}
 use Rattle.task_model.specs.Terms.Value.{ValueTerm, value_term}
 use Rattle.task_model.specs.declared.input.Turn.{Turn}
 use Rattle.task_model.specs.declared.input.Act.{Act}
@@ -7,17 +8,17 @@ use Rattle.task_model.specs.declared.input.Input.{Input}
 use Rattle.task_model.specs.declared.input.Entry.{Entry}
 use Rattle.task_model.specs.declared.input.Act.TheVariants as acts
 
--- what a person does at a node: sets a value, goes on, or takes a side
+-- what a person does at a node: sets a value, goes on by a label, or takes a side
 pub data ActTerm : Type 0 where
   set_act : ValueTerm → ActTerm
-  next_act : ActTerm
+  next_act : Text → ActTerm
   left_act : ActTerm
   right_act : ActTerm
 
 -- an act as a plain term
 abbrev pub act_term : Act → ActTerm
 act_term (acts.Set v) = set_act (value_term v)
-act_term acts.Next = next_act
+act_term (acts.Next l) = next_act l
 act_term acts.Left = left_act
 act_term acts.Right = right_act
 

@@ -5,7 +5,7 @@ use Rattle.task_model.specs.Terms.Value.{value_term}
 use Rattle.task_model.specs.Terms.Tree.{TreeTerm, tree_term, cont_term, then_tree, next_tree}
 use Rattle.task_model.specs.Terms.Input.{act_term}
 use Rattle.task_model.specs.Running.Checked.{checked_term}
-use Rattle.task_model.specs.Running.Handling.{handled, rebuilds, at_step}
+use Rattle.task_model.specs.Running.Handling.{handled, rebuilds, branch_for, at_step}
 use Rattle.task_laws.proofs.RanLemmas.{stopped, ran_give, ran_after, ran_after_stops}
 use Rattle.host_eval.proofs.ListLemmas.{empty}
 use Rattle.host_eval.proofs.RunLemmas.{ran_is}
@@ -79,9 +79,9 @@ at_then-returns-clause-held t c =
     held_rebuilt _ _ tree_term c.in_ok-led.led _ c.in_ok-in_step.ensures c.in_ok-led.ensures.held
 
 -- ---- user steps
-pub at_next-stepped-requires-clause-fits : goal.at_next-stepped-requires-clause-fits
-at_next-stepped-requires-clause-fits t c =
-    let value = rw (c.in-Some.is, c.deref.ensures) at c.in_ok-stopped.ensures.value in
+pub at_next-chosen-requires-clause-fits : goal.at_next-chosen-requires-clause-fits
+at_next-chosen-requires-clause-fits t c =
+    let value = rw (c.in-Some.is, c.deref.ensures) at c.in_ok-stopped.ensures in
     step_fits _ _ _ _ _ c.requires.fits (stopped_value _ _ _ _ (sym value))
 
 pub at_next-returns-in_err-led-in-None-clause-ran : goal.at_next-returns-in_err-led-in-None-clause-ran
@@ -92,9 +92,9 @@ at_next-returns-in_err-led-in-None-clause-ran t c =
     let act = act_term c.args.act.now in
     let k = cont_term c.args.k.now in
     let left = tree_term (arc_value c.args.left.now) in
-    let none = rw (c.in-None.is, c.deref.ensures) at c.in_ok-stopped.ensures.value in
+    let none = rw (c.in-None.is, c.deref.ensures) at c.in_ok-stopped.ensures in
     rw (stopped _ c.in_err-led-in-None.field-0.0 c.from_residual-in_err-led-in-None.ensures.1)
-    (ran_is (ap (λ o. at_step checked o k σ (rebuilds (handled checked left σ path act) (λ t'. next_tree t' k))) (sym none))
+    (ran_is (ap (λ o. at_step checked o (branch_for act k) σ (rebuilds (handled checked left σ path act) (λ t'. next_tree t' k))) (sym none))
     (ran_after_stops _ c.in_err-led-in-None.ensures.ran))
 
 pub at_next-returns-in_ok-in_step-in-None-clause-ran : goal.at_next-returns-in_ok-in_step-in-None-clause-ran
@@ -105,8 +105,8 @@ at_next-returns-in_ok-in_step-in-None-clause-ran t c =
     let act = act_term c.args.act.now in
     let k = cont_term c.args.k.now in
     let left = tree_term (arc_value c.args.left.now) in
-    let none = rw (c.in-None.is, c.deref.ensures) at c.in_ok-stopped.ensures.value in
-    ran_is (ap (λ o. at_step checked o k σ (rebuilds (handled checked left σ path act) (λ t'. next_tree t' k))) (sym none))
+    let none = rw (c.in-None.is, c.deref.ensures) at c.in_ok-stopped.ensures in
+    ran_is (ap (λ o. at_step checked o (branch_for act k) σ (rebuilds (handled checked left σ path act) (λ t'. next_tree t' k))) (sym none))
     (ran_after _ c.in_ok-led-in-None.ensures.ran
     (ran_rebuilt held_tree tree_term (λ (u : TreeTerm). next_tree u k) _ c.in_ok-led-in-None.led c.in_ok-in_step-in-None.ensures))
 

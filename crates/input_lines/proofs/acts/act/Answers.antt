@@ -1,5 +1,5 @@
 use Rattle.std.proofs.lemmas.Result.{err_from_is_err_and}
-use Rattle.input_lines.proofs.ActLemmas.{next_right, next_stop, left_right, left_stop, right_right, right_stop, set_right, set_after, set_stop}
+use Rattle.input_lines.proofs.ActLemmas.{made_right, next_right, next_stop, left_right, left_stop, right_right, right_stop, set_right, set_after, set_stop}
 use Rattle.input_lines.proofs.acts.act.Goals as goal
 
 pub returns-in_err-end_word : goal.returns-in_err-end_word
@@ -29,7 +29,9 @@ returns-in_err-value c =
     (set_after _ c.if-begins.ensures c.if-begins-2.ensures c.if-begins-3.ensures c.in_ok-rest.ensures c.in_err-value.ensures)
 
 pub returns-then-begins : goal.returns-then-begins
-returns-then-begins c = next_right c.if-begins.ensures c.in_ok-end_word.ensures
+returns-then-begins c =
+    made_right c.default_next.result c.default_next.ensures.act c.default_next.ensures.memory
+    (next_right c.if-begins.ensures c.in_ok-end_word.ensures)
 
 pub returns-then-begins-2 : goal.returns-then-begins-2
 returns-then-begins-2 c = left_right c.if-begins-2.ensures c.in_ok-end_word-2.ensures

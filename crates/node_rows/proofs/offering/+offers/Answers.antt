@@ -47,10 +47,10 @@ add_offers-returns-in-Then-clause-offered t c =
     (moved _ left _ _ _ _ (ap tree_term c.deref.ensures) refl c.behind.ensures w))
     c.add_offers.ensures.offered)
 
-pub add_offers-returns-in_ok-push-in-Next-clause-offered : goal.add_offers-returns-in_ok-push-in-Next-clause-offered
-add_offers-returns-in_ok-push-in-Next-clause-offered t c =
+pub add_offers-returns-in_ok-push_next-in-Next-clause-offered : goal.add_offers-returns-in_ok-push_next-in-Next-clause-offered
+add_offers-returns-in_ok-push_next-in-Next-clause-offered t c =
     let left = tree_term c.in-Next.left.value in
-    let pushed = c.in_ok-push-in-Next.ensures in
+    let pushed = c.in_ok-push_next-in-Next.ensures in
     rw c.in-Next.is
     (IfOk-weaker c.add_offers-in-Next.result _ _
     (λ rest w. offered_next _ _ _ _ _ left (cont_term c.in-Next.field-1) _ (rw (c.step.ensures, c.first.ensures) at pushed.offers)

@@ -29,11 +29,11 @@ add_offers-returns-in_ok-copy_basic-in-Share-clause-offers g t c =
     rw c.in-Share.is (IfOk-weaker c.push-in-Share.result _ _ (λ _ e. follow _ _ _ _ _ _
     (share_tree (basic_term c.in-Share.b) c.in-Share.field-1) _ same e) c.push-in-Share.ensures.offers)
 
-pub add_offers-returns-in_ok-push-in-Next-clause-offers : goal.add_offers-returns-in_ok-push-in-Next-clause-offers
-add_offers-returns-in_ok-push-in-Next-clause-offers g t c =
+pub add_offers-returns-in_ok-push_next-in-Next-clause-offers : goal.add_offers-returns-in_ok-push_next-in-Next-clause-offers
+add_offers-returns-in_ok-push_next-in-Next-clause-offers g t c =
     let left = tree_term c.in-Next.left.value in
     let sign = rw c.deref-in-Next.ensures at c.in_ok-sign-in-Next.ensures.sign in
-    let pushed = c.in_ok-push-in-Next.ensures in
+    let pushed = c.in_ok-push_next-in-Next.ensures in
     rw c.in-Next.is
     (IfOk-weaker c.add_offers-in-Next.result _ _
     (λ _ w. follow_next _ _ _ _ _ _ left (cont_term c.in-Next.k) _ _ sign pushed.offers

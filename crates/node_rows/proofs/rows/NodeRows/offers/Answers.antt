@@ -5,5 +5,5 @@ use Rattle.node_rows.proofs.rows.NodeRows.offers.Goals as goal
 
 pub returns : goal.returns
 returns c =
-    offered_whole _ _ _ _ _ _ _ c.new-found.ensures.trail (ap (map offer_term) c.new-found.ensures.offers) c.signs.ensures
+    offered_whole _ _ _ _ _ _ _ c.in_ok-found.ensures.trail (ap (map offer_term) c.in_ok-found.ensures.offers) c.signs.ensures
     c.in_ok-_rest.ensures.offered
