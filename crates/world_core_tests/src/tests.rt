@@ -1,6 +1,7 @@
 mod bench;
 mod event_tables;
 mod events;
+mod labels;
 mod script;
 mod setting;
 
@@ -12,7 +13,8 @@ use task_model::OutOfMemory;
 fn put_all(found: &mut String, alloc: Global) -> Result<(), OutOfMemory> {
     events::put_table(found, alloc, event_tables::ACTS)?;
     events::put_table(found, alloc, event_tables::UNITS)?;
-    setting::put_table(found, alloc, setting::SETS)
+    setting::put_table(found, alloc, setting::SETS)?;
+    labels::put_table(found, alloc)
 }
 
 #[test]
