@@ -1,7 +1,7 @@
 -- Work that costs no more than a bound (docs/RULES.md, "A printed bound on work").
-use Rattle.std.specs.Prelude.{ℕ, ◌≤◌, List, Option, Some, None}
+use Rattle.std.specs.Prelude.{ℕ, ◌≤◌, List, [], ◌∷◌, Option, Some, None}
 use Rattle.task_model.specs.Terms.Value.{ValueTerm}
-use Rattle.task_model.specs.Terms.Tree.{LaterTerm, TreeTerm, edit_tree, enter_tree, share_tree, then_tree, next_tree, fail_tree, and_tree, or_tree, xor_tree}
+use Rattle.task_model.specs.Terms.Tree.{LaterTerm, BranchTerm, TreeTerm, edit_tree, enter_tree, share_tree, then_tree, next_tree, fail_tree, and_tree, or_tree, xor_tree}
 use Rattle.task_model.specs.Running.Checked.{CheckedTerm}
 use Rattle.task_model.specs.Running.Work.{Work}
 use Rattle.task_model.specs.Running.Rules.{value_of, side, trial}
@@ -16,10 +16,15 @@ pub record CostsNoMore {A : Type 0} (work : Work A) (b : Bound) : Type 0 where
   pub ends : b.units ≤ 1000000 → b.height ≤ 1000000 → (v : A) × (n : ℕ) × (h : ℕ) × work v n h
 
 module _ (c : CheckedTerm) (b : Bound) where
-  -- the test of a user step: of its cont at the value of its left, where that has one
-  abbrev pub StepCostsNoMore : Option ValueTerm → LaterTerm → List ValueTerm → Type 0
-  StepCostsNoMore None k σ = Unit {0}
-  StepCostsNoMore (Some v) k σ = CostsNoMore (Test c (trial c k v σ)) b
+  -- the test of a branch of a user step: of its cont at the value of the step's left, where that has one
+  abbrev pub BranchCostsNoMore : Option ValueTerm → LaterTerm → List ValueTerm → Type 0
+  BranchCostsNoMore None k σ = Unit {0}
+  BranchCostsNoMore (Some v) k σ = CostsNoMore (Test c (trial c k v σ)) b
+
+  -- the tests of all branches
+  abbrev pub StepCostsNoMore : Option ValueTerm → List BranchTerm → List ValueTerm → Type 0
+  StepCostsNoMore o [] σ = Unit {0}
+  StepCostsNoMore o (x ∷ xs) σ = BranchCostsNoMore o x.later σ × StepCostsNoMore o xs σ
 
   -- each test of what a tree offers over a store
   abbrev pub TestsCostNoMore : TreeTerm → List ValueTerm → Type 0
@@ -27,7 +32,7 @@ module _ (c : CheckedTerm) (b : Bound) where
   TestsCostNoMore (enter_tree a) σ = Unit {0}
   TestsCostNoMore (share_tree a n) σ = Unit {0}
   TestsCostNoMore (then_tree t k) σ = TestsCostNoMore t σ
-  TestsCostNoMore (next_tree t k) σ = StepCostsNoMore (value_of t σ) k σ × TestsCostNoMore t σ
+  TestsCostNoMore (next_tree t bs) σ = StepCostsNoMore (value_of t σ) bs σ × TestsCostNoMore t σ
   TestsCostNoMore fail_tree σ = Unit {0}
   TestsCostNoMore (and_tree t u) σ = TestsCostNoMore t σ × TestsCostNoMore u σ
   TestsCostNoMore (or_tree t u) σ = TestsCostNoMore t σ × TestsCostNoMore u σ

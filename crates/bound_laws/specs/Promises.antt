@@ -13,7 +13,7 @@ use Rattle.task_model.specs.Running.Outcome.{IsOutcome, over_budget}
 use Rattle.task_model.specs.Running.Offer.{OfferTerm, AreOffers}
 use Rattle.task_model.specs.Running.State.{IsOpening, IsState}
 use Rattle.task_model.specs.Checking.Accepted.{typed_program}
-use Rattle.task_model.specs.Showing.Widget.{ShapeTerm, step_shape, pick_shape, WidgetTerm, AreWidgets}
+use Rattle.task_model.specs.Showing.Widget.{MarkedTerm, ShapeTerm, step_shape, pick_shape, WidgetTerm, AreWidgets}
 use Rattle.task_model.specs.declared.widget.Sign.TheVariants as signs
 use Rattle.task_model.specs.declared.offer.Answer.TheVariants as answers
 use Rattle.stride_bound.specs.declared.bounds.Bound.{Bound}
@@ -39,7 +39,7 @@ NoneIsOver os = All (λ (o : OfferTerm). o.answer ≢ answers.Over) os
 
 -- a widget shows of each test how it ends
 abbrev pub IsKnown : ShapeTerm → Type 0
-IsKnown (step_shape s) = s ≢ signs.Over
+IsKnown (step_shape ms) = All (λ (m : MarkedTerm). m.sign ≢ signs.Over) ms
 IsKnown (pick_shape s z) = (s ≢ signs.Over) × (z ≢ signs.Over)
 IsKnown shape = Unit {0}
 

@@ -1,6 +1,6 @@
 -- Programs by example, and their first faults.
 use Rattle.std.specs.Prelude.{pos, true, List, [], ◌∷◌, Some, codes}
-use Rattle.task_model.specs.Terms.Text.{Text}
+use Rattle.task_model.specs.Terms.Text.{Text, default_label}
 use Rattle.task_model.specs.Terms.Basic.{BasicTerm, int_type, text_type, pair_type, list_type}
 use Rattle.task_model.specs.Terms.Host.{int_expr, bool_expr, name_expr, read_expr, nil_expr, op_expr}
 use Rattle.task_model.specs.Terms.Task.{TaskTerm, edit, enter, share, call_task, next_task, and_task, new_task, put_task}
@@ -37,7 +37,7 @@ board =
     let post = codes "post" in
     record {
       defs =
-          task post (record { name = log; kind = ref_kind texts } ∷ []) texts (next_task (enter text_type) 0)
+          task post (record { name = log; kind = ref_kind texts } ∷ []) texts (next_task (enter text_type) (record { label = default_label; body = 0 } ∷ []))
           ∷ task main_name [] (pair_type texts texts)
           (new_task log (nil_expr text_type) (and_task (call_task post (name_expr log ∷ [])) (share log))) ∷ [];
       bodies =

@@ -1,8 +1,9 @@
 -- How the offers of a tree mark its widgets (docs/RULES.md, "Offers", "Interfaces").
-use Rattle.std.specs.Prelude.{◌≡◌, List, [], ◌∷◌, ◌++◌, map, drop, Option, None, Some}
-use Rattle.task_model.specs.Terms.Text.{default_label}
+use Rattle.std.specs.Prelude.{◌≡◌, ℕ, List, [], ◌∷◌, ◌++◌, length, map, drop, slice_get, Option, None, Some}
+use Rattle.task_model.specs.Terms.Text.{Text}
 use Rattle.task_model.specs.Terms.Value.{ValueTerm}
-use Rattle.task_model.specs.Running.Offer.{OfferKindTerm, next_offer, left_offer, right_offer, OfferTerm, offered}
+use Rattle.task_model.specs.Terms.Tree.{BranchTerm}
+use Rattle.task_model.specs.Running.Offer.{OfferKindTerm, next_offer, left_offer, right_offer, OfferTerm, offered, step_offers}
 use Rattle.task_model.specs.declared.input.Turn.{Turn}
 use Rattle.task_model.specs.declared.widget.Sign.{Sign}
 use Rattle.task_model.specs.declared.widget.Sign.TheVariants as signs
@@ -12,9 +13,8 @@ use Rattle.task_tree.specs.Below.{offer_below}
 use Rattle.interface.specs.declared.marks.Tested.{Tested}
 use Rattle.interface.specs.declared.marks.Tested.TheVariants as tested
 
--- what is offered where a test says so
+-- what is offered where the test of a side says so
 abbrev pub tested_kind : Tested → OfferKindTerm
-tested_kind tested.Next = next_offer default_label
 tested_kind tested.Left = left_offer
 tested_kind tested.Right = right_offer
 
@@ -39,7 +39,19 @@ abbrev pub MarksFirst : OfferKindTerm → List Turn → List OfferTerm → Sign 
 MarksFirst k p os s =
     (z : Sign) (rest : List OfferTerm) → os ≡ map (offer_below p) (offered k z) ++ rest → BeginsElsewhere k p rest → s ≡ z
 
--- the sign of a user step whose left part has this value
-abbrev pub MarksStep : Option ValueTerm → List Turn → List OfferTerm → Sign → Type 0
-MarksStep None p os s = s ≡ signs.No
-MarksStep (Some v) p os s = MarksFirst (next_offer default_label) p os s
+-- branches of one label have one sign
+abbrev pub AreAlike : List BranchTerm → List Sign → Type 0
+AreAlike bs ss = (i j : ℕ) (b d : BranchTerm) (s z : Sign) → slice_get bs i ≡ Some b → slice_get bs j ≡ Some d → slice_get ss i ≡ Some s
+    → slice_get ss j ≡ Some z → b.label ≡ d.label → s ≡ z
+
+-- Where offers begin with what some signs offer of a user step's branches at a path, branches of one label having one sign, and those
+-- behind them begin with no Next there, it is these signs.
+abbrev pub MarksBranches : List BranchTerm → List Turn → List OfferTerm → List Sign → Type 0
+MarksBranches bs p os ss =
+    (zs : List Sign) (rest : List OfferTerm) → length zs ≡ length bs → AreAlike bs zs
+    → os ≡ map (offer_below p) (step_offers bs zs) ++ rest → ((label : Text) → BeginsElsewhere (next_offer label) p rest) → ss ≡ zs
+
+-- the signs of a user step whose left part has this value
+abbrev pub MarksStep : Option ValueTerm → List BranchTerm → List Turn → List OfferTerm → List Sign → Type 0
+MarksStep None bs p os ss = ss ≡ map (λ b. signs.No) bs
+MarksStep (Some v) bs p os ss = MarksBranches bs p os ss

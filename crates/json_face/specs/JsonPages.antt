@@ -1,12 +1,13 @@
 -- The JSON form of pages (docs/FORMATS.md, "JSON pages"). An object's members stand in the order of their keys.
-use Rattle.std.specs.Prelude.{◌≡◌, ℕ, ◌≤◌, List, [], ◌∷◌, map, Some, codes, ◌^◌, ◌<◌}
+use Rattle.std.specs.Prelude.{◌≡◌, ℕ, ◌≤◌, List, [], ◌∷◌, length, map, Some, codes, ◌^◌, ◌<◌}
 use Rattle.std.specs.Str.{IsUtf8}
+use Rattle.std.specs.List.{All}
 use Rattle.task_model.specs.Terms.Text.{Text}
 use Rattle.task_model.specs.Terms.Basic.{BasicTerm}
 use Rattle.task_model.specs.Terms.Value.{ValueTerm}
 use Rattle.task_model.specs.Checking.TypeParts.{symbols_of}
 use Rattle.task_model.specs.Syntax.Literal.{basic_text}
-use Rattle.task_model.specs.Showing.Widget.{ShapeTerm, edit_shape, enter_shape, share_shape, then_shape, step_shape, fail_shape, and_shape, or_shape, pick_shape, WidgetTerm, widget_term}
+use Rattle.task_model.specs.Showing.Widget.{MarkedTerm, ShapeTerm, edit_shape, enter_shape, share_shape, then_shape, step_shape, fail_shape, and_shape, or_shape, pick_shape, WidgetTerm, widget_term}
 use Rattle.json_face.specs.declared.page.JsonPage.{JsonPage}
 use Rattle.task_model.specs.Showing.Page.{path_text}
 use Rattle.task_model.specs.declared.widget.Sign.{Sign}
@@ -29,13 +30,17 @@ bare kind path = member (codes "kind") (string kind) (member (codes "path") (str
 abbrev pub typed : Text → Text → BasicTerm → Members → Members
 typed kind path b more = member (codes "kind") (string kind) (member (codes "path") (string path) (member (codes "type") (string (basic_text b)) more))
 
--- a choice of a step: its label, and whether it is offered
+-- a mark of a step: its label, and whether it is offered
 abbrev pub choice_data : Text → Sign → Data
 choice_data label s = object (member (codes "label") (string label) (member (codes "sign") (string (sign_word s)) no_members))
 
--- a step with its choice
-abbrev pub step_members : Text → Sign → Members
-step_members path s = member (codes "choices") (array (item (choice_data (codes "next") s) no_items)) (bare (codes "step") path)
+abbrev pub choices_data : List MarkedTerm → Items
+choices_data [] = no_items
+choices_data (m ∷ ms) = item (choice_data m.label m.sign) (choices_data ms)
+
+-- a step with its choices, in order
+abbrev pub step_members : Text → List MarkedTerm → Members
+step_members path ms = member (codes "choices") (array (choices_data ms)) (bare (codes "step") path)
 
 -- an external choice with its sides
 abbrev pub pick_members : Text → Sign → Sign → Members
@@ -49,7 +54,7 @@ shape_members path (edit_shape b v) = typed (codes "edit") path b (member (codes
 shape_members path (enter_shape b) = typed (codes "enter") path b no_members
 shape_members path (share_shape b v) = typed (codes "share") path b (member (codes "value") (value_data v) no_members)
 shape_members path then_shape = bare (codes "then") path
-shape_members path (step_shape s) = step_members path s
+shape_members path (step_shape ms) = step_members path ms
 shape_members path fail_shape = bare (codes "fail") path
 shape_members path and_shape = bare (codes "and") path
 shape_members path or_shape = bare (codes "or") path
@@ -79,13 +84,17 @@ FitsType b = symbols_of b ≤ 64
 abbrev pub FitsValue : ValueTerm → Type 0
 FitsValue v = IsWithinLiteralLimits v × (levels_of v ≤ 64)
 
+-- there are at most 16 marks, each with a label of 1 to 64 bytes
+abbrev pub FitMarks : List MarkedTerm → Type 0
+FitMarks ms = (length ms ≤ 16) × All (λ (m : MarkedTerm). (1 ≤ length m.label) × (length m.label ≤ 64)) ms
+
 -- what is shown is within the limits
 abbrev pub FitsShape : ShapeTerm → Type 0
 FitsShape (edit_shape b v) = FitsType b × FitsValue v
 FitsShape (enter_shape b) = FitsType b
 FitsShape (share_shape b v) = FitsType b × FitsValue v
 FitsShape then_shape = Unit {0}
-FitsShape (step_shape s) = Unit {0}
+FitsShape (step_shape ms) = FitMarks ms
 FitsShape fail_shape = Unit {0}
 FitsShape and_shape = Unit {0}
 FitsShape or_shape = Unit {0}

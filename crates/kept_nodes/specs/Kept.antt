@@ -1,7 +1,7 @@
 -- Nodes that stay as they were from one state to another, and how many don't (docs/RULES.md, "Kept nodes").
-use Rattle.std.specs.Prelude.{◌≡◌, ◌⊎◌, ℕ, suc, List, [], ◌∷◌, ◌++◌, map, Option, None, Some}
+use Rattle.std.specs.Prelude.{◌≡◌, ◌⊎◌, ℕ, suc, ◌+◌, length, List, [], ◌∷◌, ◌++◌, map, Option, None, Some}
 use Rattle.task_model.specs.Terms.Value.{ValueTerm}
-use Rattle.task_model.specs.Terms.Tree.{TreeTerm, then_tree, next_tree, and_tree, or_tree, State}
+use Rattle.task_model.specs.Terms.Tree.{TreeTerm, then_tree, next_tree, and_tree, or_tree, xor_tree, State}
 use Rattle.task_model.specs.Running.Foot.{foot}
 use Rattle.task_model.specs.Running.Address.{Address, into_left, into_first, into_second, node_at}
 use Rattle.task_laws.specs.HaveAlike.{HaveAlike}
@@ -26,7 +26,7 @@ IsKeptNode a s s' = IsKeptIn s.store s'.store (Some s.tree) s'.tree a
 -- the addresses of a tree's nodes, in pre-order
 abbrev pub addresses : TreeTerm → List Address
 addresses (then_tree t k) = [] ∷ map (λ a. into_left ∷ a) (addresses t)
-addresses (next_tree t k) = [] ∷ map (λ a. into_left ∷ a) (addresses t)
+addresses (next_tree t bs) = [] ∷ map (λ a. into_left ∷ a) (addresses t)
 addresses (and_tree t u) = [] ∷ (map (λ a. into_first ∷ a) (addresses t) ++ map (λ a. into_second ∷ a) (addresses u))
 addresses (or_tree t u) = [] ∷ (map (λ a. into_first ∷ a) (addresses t) ++ map (λ a. into_second ∷ a) (addresses u))
 addresses t = [] ∷ []
@@ -39,3 +39,23 @@ CountsNot P (a ∷ more) n = (P a × CountsNot P more n) ⊎ ((P a → ⊥) × (
 -- so many nodes of a state aren't kept from another one
 abbrev pub IsRedrawn : State → State → ℕ → Type 0
 IsRedrawn s s' n = CountsNot (λ a. IsKeptNode a s s') (addresses s'.tree) n
+
+-- ---- tests
+-- the tests of a node: one for each branch of a user step, two of an external choice
+abbrev pub node_tests : Option TreeTerm → ℕ
+node_tests None = 0
+node_tests (Some (next_tree t bs)) = length bs
+node_tests (Some (xor_tree j k)) = 2
+node_tests (Some t) = 0
+
+abbrev pub tests_at : TreeTerm → Address → ℕ
+tests_at t a = node_tests (node_at t a)
+
+-- those of these addresses of which this doesn't hold have so many together
+abbrev pub SumsNot : (Address → Type 0) → (Address → ℕ) → List Address → ℕ → Type 0
+SumsNot P f [] n = n ≡ 0
+SumsNot P f (a ∷ more) n = (P a × SumsNot P f more n) ⊎ ((P a → ⊥) × (m : ℕ) × (n ≡ f a + m) × SumsNot P f more m)
+
+-- the nodes of a state that aren't kept from another one have so many tests
+abbrev pub AreTests : State → State → ℕ → Type 0
+AreTests s s' n = SumsNot (λ a. IsKeptNode a s s') (tests_at s'.tree) (addresses s'.tree) n

@@ -7,7 +7,7 @@ use Rattle.kept_nodes.specs.declared.parts.Parts.TheVariants as parted
 -- the left part of a step
 abbrev pub left_part_of : Option TreeTerm → Option TreeTerm
 left_part_of (Some (then_tree t k)) = Some t
-left_part_of (Some (next_tree t k)) = Some t
+left_part_of (Some (next_tree t bs)) = Some t
 left_part_of o = None
 
 -- the first part of a pair or an internal choice
@@ -36,7 +36,7 @@ node_parts_term (parted.Pair t u) = pair_parts (tree_term t.now) (tree_term u.no
 -- a node's parts
 abbrev pub node_parts : TreeTerm → NodePartsTerm
 node_parts (then_tree t k) = step_parts t
-node_parts (next_tree t k) = step_parts t
+node_parts (next_tree t bs) = step_parts t
 node_parts (and_tree t u) = pair_parts t u
 node_parts (or_tree t u) = pair_parts t u
 node_parts t = leaf_parts

@@ -4,8 +4,8 @@ use Rattle.task_model.specs.Terms.Value.{ValueTerm}
 use Rattle.task_model.specs.Terms.Tree.{TreeTerm, edit_tree, enter_tree, share_tree, then_tree, next_tree, fail_tree, and_tree, or_tree, xor_tree}
 use Rattle.task_model.specs.Running.Checked.{CheckedTerm}
 use Rattle.task_model.specs.Running.Rules.{value_of}
-use Rattle.task_model.specs.Running.Sign.{IsSideSign, IsStepSign}
-use Rattle.task_model.specs.Showing.Widget.{ShapeTerm, edit_shape, enter_shape, share_shape, then_shape, step_shape, fail_shape, and_shape, or_shape, pick_shape, stored}
+use Rattle.task_model.specs.Running.Sign.{IsSideSign, AreSigns}
+use Rattle.task_model.specs.Showing.Widget.{ShapeTerm, edit_shape, enter_shape, share_shape, then_shape, step_shape, fail_shape, and_shape, or_shape, pick_shape, step_marks, stored}
 use Rattle.task_model.specs.declared.widget.Sign.{Sign}
 
 -- the shape of the widget of a tree's root
@@ -14,7 +14,7 @@ IsShape c budget (edit_tree b v) σ s = s ≡ edit_shape b v
 IsShape c budget (enter_tree b) σ s = s ≡ enter_shape b
 IsShape c budget (share_tree b n) σ s = s ≡ share_shape b (stored σ n)
 IsShape c budget (then_tree t k) σ s = s ≡ then_shape
-IsShape c budget (next_tree t k) σ s = (z : Sign) × IsStepSign c budget (value_of t σ) k σ z × (s ≡ step_shape z)
+IsShape c budget (next_tree t bs) σ s = (zs : List Sign) × AreSigns c budget (value_of t σ) bs σ zs × (s ≡ step_shape (step_marks bs zs))
 IsShape c budget fail_tree σ s = s ≡ fail_shape
 IsShape c budget (and_tree t u) σ s = s ≡ and_shape
 IsShape c budget (or_tree t u) σ s = s ≡ or_shape

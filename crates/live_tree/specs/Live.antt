@@ -1,5 +1,5 @@
 -- What contracts see of a tree with its table.
-use Rattle.std.specs.Prelude.{◌≡◌, ℕ, ◌*◌, Bool, true, false, List, Option, None, Some, Result, Ok, Err}
+use Rattle.std.specs.Prelude.{◌≡◌, ℕ, ◌+◌, Bool, true, false, List, Option, None, Some, Result, Ok, Err}
 use Rattle.task_model.specs.Terms.Value.{ValueTerm}
 use Rattle.task_model.specs.Terms.Tree.{TreeTerm, tree_term}
 use Rattle.task_model.specs.Running.Checked.{CheckedTerm}
@@ -9,7 +9,7 @@ use Rattle.task_model.specs.declared.stops.ActStop.{ActStop}
 use Rattle.task_engine.specs.Quiet.{FiresNothing}
 use Rattle.kept_nodes.specs.Along.{DiffersAlong}
 use Rattle.node_rows.specs.Rows.{RowsTerm, AreRows}
-use Rattle.node_rows.specs.TreeNodes.{tree_nodes}
+use Rattle.node_rows.specs.TreeNodes.{tree_nodes, tree_tests}
 
 -- a tree, the rows of its table, if they were made, the path along which alone it differs from the tree before, where that is told, and whether
 -- it is told that nothing fires in it
@@ -40,10 +40,10 @@ IsLive c budget σ live = AreRowsIfMade c budget (tree_term live.tree) σ live.r
 abbrev pub QuietAsTold : List ValueTerm → SeenLive → Type 0
 QuietAsTold σ live = live.quiet ≡ true → FiresNothing (tree_term live.tree) σ
 
--- at most so many tests and drawings make the table of a tree: none where it was made, and else two tests and a drawing for each node
+-- at most so many tests and drawings make the table of a tree: none where it was made, and else each test and a drawing for each node
 abbrev pub most_steps : (drawn : Bool) → TreeTerm → ℕ
 most_steps true t = 0
-most_steps false t = 3 * tree_nodes t
+most_steps false t = tree_nodes t + tree_tests t
 
 -- the answer without the table
 abbrev pub led_tree : Result SeenLive ActStop → Result Tree ActStop

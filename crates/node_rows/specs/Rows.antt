@@ -1,10 +1,11 @@
 -- The rows of a tree: what is observed of each of its nodes.
 use Rattle.std.specs.Prelude.{◌≡◌, ℕ, ◌-◌, List, [], ◌∷◌, ◌++◌, length, map, take, drop, slice_set}
+use Rattle.std.specs.Arc.{arc_value}
 use Rattle.task_model.specs.Terms.Text.{Text}
 use Rattle.task_model.specs.Terms.Value.{ValueTerm}
 use Rattle.task_model.specs.Terms.Tree.{TreeTerm}
 use Rattle.task_model.specs.Running.Checked.{CheckedTerm}
-use Rattle.task_model.specs.Showing.Widget.{ShapeTerm, step_shape, pick_shape, WidgetTerm, AreWidgets}
+use Rattle.task_model.specs.Showing.Widget.{MarkedTerm, ShapeTerm, step_shape, pick_shape, WidgetTerm, AreWidgets}
 use Rattle.task_model.specs.declared.widget.Sign.{Sign}
 use Rattle.task_model.specs.declared.widget.Sign.TheVariants as signs
 use Rattle.html_pages.specs.Fragments.{FragmentTerm, fragment_of, shape_at}
@@ -12,33 +13,45 @@ use Rattle.node_rows.specs.TreeNodes.{sizes_of}
 use Rattle.node_rows.specs.declared.signs.Signs.{Signs}
 use Rattle.node_rows.specs.declared.signs.Signs.TheVariants as signed
 
+-- the signs of a node's tests: of a user step one for each branch in order, of an external choice one for each side; any other node has none
+pub data SignsTerm : Type 0 where
+  untested : SignsTerm
+  step_signs : List Sign → SignsTerm
+  pick_signs : Sign → Sign → SignsTerm
+
+-- signs as a plain term
+abbrev pub signs_term : Signs → SignsTerm
+signs_term signed.Untested = untested
+signs_term (signed.Step ss) = step_signs (arc_value ss).list
+signs_term (signed.Pick s z) = pick_signs s z
+
 -- rows: the signs of each node's tests, how many nodes its part of the tree has, and its fragment
 pub record RowsTerm : Type 0 where
-  pub signs : List Signs
+  pub signs : List SignsTerm
   pub sizes : List ℕ
   pub fragments : List FragmentTerm
 
 -- the signs that a shape shows
-abbrev pub signs_of : ShapeTerm → Signs
-signs_of (step_shape s) = signed.Step s
-signs_of (pick_shape s z) = signed.Pick s z
-signs_of shape = signed.Untested
+abbrev pub signs_of : ShapeTerm → SignsTerm
+signs_of (step_shape ms) = step_signs (map (λ (m : MarkedTerm). m.sign) ms)
+signs_of (pick_shape s z) = pick_signs s z
+signs_of shape = untested
 
 -- the signs of a widget's node
-abbrev pub widget_signs : WidgetTerm → Signs
+abbrev pub widget_signs : WidgetTerm → SignsTerm
 widget_signs w = signs_of w.shape
 
--- the sign of a step, of a left and of a right side: No where there is none
-abbrev pub step_sign : Signs → Sign
-step_sign (signed.Step s) = s
-step_sign other = signs.No
+-- the signs of a step's branches, of a left and of a right side: none, and No, where there is none
+abbrev pub branch_signs : SignsTerm → List Sign
+branch_signs (step_signs ss) = ss
+branch_signs other = []
 
-abbrev pub left_sign : Signs → Sign
-left_sign (signed.Pick s z) = s
+abbrev pub left_sign : SignsTerm → Sign
+left_sign (pick_signs s z) = s
 left_sign other = signs.No
 
-abbrev pub right_sign : Signs → Sign
-right_sign (signed.Pick s z) = z
+abbrev pub right_sign : SignsTerm → Sign
+right_sign (pick_signs s z) = z
 right_sign other = signs.No
 
 -- the rows of these widgets, whose nodes have parts of these sizes

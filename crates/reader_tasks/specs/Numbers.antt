@@ -1,7 +1,11 @@
 -- Tasks and bodies whose bodies all have the next number.
-use Rattle.std.specs.Prelude.{ℕ, suc, ◌<◌, map}
-use Rattle.task_model.specs.Terms.Task.{TaskTerm, edit, enter, share, fail, call_task, then_task, next_task, and_task, or_task, xor_task, let_task, if_task, case_task, new_task, put_task, BodyTerm}
+use Rattle.std.specs.Prelude.{ℕ, suc, ◌<◌, List, map}
+use Rattle.std.specs.List.{All}
+use Rattle.task_model.specs.Terms.Task.{ChoiceTerm, TaskTerm, edit, enter, share, fail, call_task, then_task, next_task, and_task, or_task, xor_task, let_task, if_task, case_task, new_task, put_task, BodyTerm}
 use Rattle.reader_grammar.specs.Parts.{ParsedTerm}
+
+abbrev pub choice_renumbered : ChoiceTerm → ChoiceTerm
+choice_renumbered c = record { label = c.label; body = suc c.body }
 
 abbrev pub renumbered : TaskTerm → TaskTerm
 renumbered (edit e) = edit e
@@ -10,7 +14,7 @@ renumbered (share x) = share x
 renumbered (fail b) = fail b
 renumbered (call_task f es) = call_task f es
 renumbered (then_task t i) = then_task (renumbered t) (suc i)
-renumbered (next_task t i) = next_task (renumbered t) (suc i)
+renumbered (next_task t cs) = next_task (renumbered t) (map choice_renumbered cs)
 renumbered (and_task t u) = and_task (renumbered t) (renumbered u)
 renumbered (or_task t u) = or_task (renumbered t) (renumbered u)
 renumbered (xor_task i j) = xor_task (suc i) (suc j)
@@ -40,7 +44,7 @@ IsNumberedBelow n (share x) = Unit {0}
 IsNumberedBelow n (fail b) = Unit {0}
 IsNumberedBelow n (call_task f es) = Unit {0}
 IsNumberedBelow n (then_task t i) = IsNumberedBelow n t × (i < n)
-IsNumberedBelow n (next_task t i) = IsNumberedBelow n t × (i < n)
+IsNumberedBelow n (next_task t cs) = IsNumberedBelow n t × All (λ (c : ChoiceTerm). c.body < n) cs
 IsNumberedBelow n (and_task t u) = IsNumberedBelow n t × IsNumberedBelow n u
 IsNumberedBelow n (or_task t u) = IsNumberedBelow n t × IsNumberedBelow n u
 IsNumberedBelow n (xor_task i j) = (i < n) × (j < n)

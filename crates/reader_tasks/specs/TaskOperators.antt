@@ -1,12 +1,12 @@
 -- The signs between tasks and the words of bindings, as the grammar's, and what a step and a binding make.
-use Rattle.std.specs.Prelude.{ℕ}
+use Rattle.std.specs.Prelude.{ℕ, [], ◌∷◌}
 use Rattle.reader_tasks.specs.declared.binding.Binding.{Binding}
 use Rattle.reader_tasks.specs.declared.binding.Binding.TheVariants as bindings
 use Rattle.reader_tasks.specs.declared.choice.Choice.{Choice}
 use Rattle.reader_tasks.specs.declared.choice.Choice.TheVariants as choices
 use Rattle.reader_tasks.specs.declared.step.Step.{Step}
 use Rattle.reader_tasks.specs.declared.step.Step.TheVariants as steps
-use Rattle.task_model.specs.Terms.Text.{Text}
+use Rattle.task_model.specs.Terms.Text.{Text, default_label}
 use Rattle.task_model.specs.Terms.Host.{HostTerm}
 use Rattle.task_model.specs.declared.keyword.Keyword.{Keyword}
 use Rattle.task_model.specs.declared.keyword.Keyword.TheVariants as words
@@ -33,7 +33,7 @@ binding_keyword bindings.New = words.New
 -- a task, and then the body of this number
 abbrev pub stepped : Step → TaskTerm → ℕ → TaskTerm
 stepped steps.ByItself t body = then_task t body
-stepped steps.ByUser t body = next_task t body
+stepped steps.ByUser t body = next_task t (record { label = default_label; body = body } ∷ [])
 
 -- a name, what it is bound to, and the task behind
 abbrev pub bound_task : Binding → Text → HostTerm → TaskTerm → TaskTerm

@@ -2,7 +2,7 @@
 use Rattle.std.specs.Prelude.{◌≡◌, ℕ, ◌+◌, ◌≤◌, List, [], ◌∷◌, ◌++◌, length, map, Option, Some, None, slice_get}
 use Rattle.task_model.specs.Terms.Text.{Text}
 use Rattle.task_model.specs.Terms.Host.{HostTerm, unit_expr, bool_expr, int_expr, text_expr, name_expr, read_expr, call_expr, pair_expr, list_expr, nil_expr, neg_expr, not_expr, fst_expr, snd_expr, len_expr, op_expr, let_expr, if_expr, case_expr, HostTerms, no_exprs, more_exprs, as_exprs}
-use Rattle.task_model.specs.Terms.Task.{TaskTerm, edit, enter, share, fail, call_task, then_task, next_task, and_task, or_task, xor_task, let_task, if_task, case_task, new_task, put_task}
+use Rattle.task_model.specs.Terms.Task.{ChoiceTerm, TaskTerm, edit, enter, share, fail, call_task, then_task, next_task, and_task, or_task, xor_task, let_task, if_task, case_task, new_task, put_task}
 use Rattle.task_model.specs.Terms.Program.{DefBodyTerm, fun_body, task_body, ProgramTerm, main_name}
 use Rattle.task_model.specs.Checking.Names.{Numbered, first_named}
 use Rattle.stride_bound.specs.declared.bounds.Bound.{Bound}
@@ -42,6 +42,16 @@ module _ (T : Tables) where
     expressions_bound no_exprs = naught
     expressions_bound (more_exprs e es) = beside (expression_bound e) (expressions_bound es)
 
+  -- the greatest of the bodies of choices
+  abbrev pub choice_figures : List ChoiceTerm → Figures
+  choice_figures [] = nothing
+  choice_figures (c ∷ cs) = greater (T.body c.body) (choice_figures cs)
+
+  -- the greatest test of them
+  abbrev pub choice_tests : List ChoiceTerm → Bound
+  choice_tests [] = naught
+  choice_tests (c ∷ cs) = either (test_bound (T.body c.body)) (choice_tests cs)
+
   -- a task
   abbrev pub task_figures : TaskTerm → Figures
   task_figures (edit e) = still (over_parts (expression_bound e))
@@ -50,7 +60,7 @@ module _ (T : Tables) where
   task_figures (fail b) = still single_rule
   task_figures (call_task f es) = called (expressions_bound (as_exprs es)) (T.definition f)
   task_figures (then_task t i) = then (task_figures t) (T.body i)
-  task_figures (next_task t i) = next (task_figures t) (T.body i)
+  task_figures (next_task t cs) = next (task_figures t) (choice_figures cs)
   task_figures (and_task t u) = pair (task_figures t) (task_figures u)
   task_figures (or_task t u) = choice (task_figures t) (task_figures u)
   task_figures (xor_task i j) = sides (T.body i) (T.body j)
@@ -68,7 +78,7 @@ module _ (T : Tables) where
   -- the greatest test that an input makes at a user step or an external choice of this task
   abbrev pub task_tests : TaskTerm → Bound
   task_tests (then_task t i) = task_tests t
-  task_tests (next_task t i) = either (task_tests t) (test_bound (T.body i))
+  task_tests (next_task t cs) = either (task_tests t) (choice_tests cs)
   task_tests (and_task t u) = either (task_tests t) (task_tests u)
   task_tests (or_task t u) = either (task_tests t) (task_tests u)
   task_tests (xor_task i j) = either (test_bound (T.body i)) (test_bound (T.body j))

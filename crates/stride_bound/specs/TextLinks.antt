@@ -1,6 +1,6 @@
 -- Which texts of a program lead to which, and when it has no bound (docs/RULES.md, "A printed bound on work").
 use Rattle.std.specs.Prelude.{◌≡◌, ℕ, suc, ◌+◌, Bool, true, false, not, ◌&&◌, nat_le, List, [], ◌∷◌, ◌++◌, length, Option, Some, None, slice_get}
-use Rattle.task_model.specs.Terms.Task.{TaskTerm, edit, enter, share, fail, call_task, then_task, next_task, and_task, or_task, xor_task, let_task, if_task, case_task, new_task, put_task}
+use Rattle.task_model.specs.Terms.Task.{ChoiceTerm, TaskTerm, edit, enter, share, fail, call_task, then_task, next_task, and_task, or_task, xor_task, let_task, if_task, case_task, new_task, put_task}
 use Rattle.task_model.specs.Terms.Program.{DefBodyTerm, fun_body, task_body, ProgramTerm}
 use Rattle.task_model.specs.Checking.Names.{Numbered, first_named}
 use Rattle.stride_bound.specs.declared.links.TextLink.{TextLink}
@@ -16,7 +16,12 @@ module _ (p : ProgramTerm) where
   abbrev pub body_link : ℕ → Bool → ℕ → TextLink
   body_link n tight i = record { from = n; to = length p.defs + i; tight = tight }
 
-  -- Those of a task in text n, where this text is a body or not, and the task stands at its end or not. A link is loose to the body of a
+  -- to the bodies of choices, in order
+  abbrev pub choice_links : ℕ → Bool → List ChoiceTerm → List TextLink
+  choice_links n tight [] = []
+  choice_links n tight (c ∷ cs) = body_link n tight c.body ∷ choice_links n tight cs
+
+  -- Those of a task in text n, where this text is a body or not, and the task stands at its end or not. A link is loose to the bodies of a
   -- user step at the end, and to the task of a call at the end of a body. All others are tight. A task stands at the end where only `let`,
   -- `if`, `case`, `new` and `:=` are around it.
   abbrev pub links_of_task : ℕ → Bool → Bool → TaskTerm → List TextLink
@@ -26,7 +31,7 @@ module _ (p : ProgramTerm) where
   links_of_task n inside last (fail b) = []
   links_of_task n inside last (call_task f es) = call_links n (not (inside && last)) (first_named 0 p.defs f)
   links_of_task n inside last (then_task t i) = links_of_task n inside false t ++ body_link n true i ∷ []
-  links_of_task n inside last (next_task t i) = links_of_task n inside false t ++ body_link n (not last) i ∷ []
+  links_of_task n inside last (next_task t cs) = links_of_task n inside false t ++ choice_links n (not last) cs
   links_of_task n inside last (and_task t u) = links_of_task n inside false t ++ links_of_task n inside false u
   links_of_task n inside last (or_task t u) = links_of_task n inside false t ++ links_of_task n inside false u
   links_of_task n inside last (xor_task i j) = body_link n true i ∷ body_link n true j ∷ []

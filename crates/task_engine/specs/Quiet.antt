@@ -15,7 +15,7 @@ IsQuiet (edit_tree b v) σ (suc height) = Unit {0}
 IsQuiet (enter_tree b) σ (suc height) = Unit {0}
 IsQuiet (share_tree b n) σ (suc height) = Unit {0}
 IsQuiet (then_tree t k) σ (suc height) = IsQuiet t σ height × (value_of t σ ≡ None)
-IsQuiet (next_tree t k) σ (suc height) = IsQuiet t σ height
+IsQuiet (next_tree t bs) σ (suc height) = IsQuiet t σ height
 IsQuiet fail_tree σ (suc height) = Unit {0}
 IsQuiet (and_tree t u) σ (suc height) = IsQuiet t σ height × IsQuiet u σ height
 IsQuiet (or_tree t u) σ (suc height) = (IsQuiet t σ height × (value_of t σ ≡ None)) × (IsQuiet u σ height × (value_of u σ ≡ None))
@@ -31,7 +31,7 @@ abbrev pub IsQuietBeside : List Turn → TreeTerm → List ValueTerm → ℕ →
 IsQuietBeside path t σ zero = Unit {0}
 IsQuietBeside [] t σ (suc height) = Unit {0}
 IsQuietBeside (x ∷ path) (then_tree t k) σ (suc height) = IsQuietBeside (x ∷ path) t σ height
-IsQuietBeside (x ∷ path) (next_tree t k) σ (suc height) = IsQuietBeside (x ∷ path) t σ height
+IsQuietBeside (x ∷ path) (next_tree t bs) σ (suc height) = IsQuietBeside (x ∷ path) t σ height
 IsQuietBeside (turns.First ∷ path) (and_tree t u) σ (suc height) = IsQuietBeside path t σ height × IsQuiet u σ height
 IsQuietBeside (turns.Second ∷ path) (and_tree t u) σ (suc height) = IsQuietBeside path u σ height × IsQuiet t σ height
 IsQuietBeside (turns.First ∷ path) (or_tree t u) σ (suc height) =

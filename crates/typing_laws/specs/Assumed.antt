@@ -64,7 +64,7 @@ BindsNothing p j = (b : FullBody) → full_body_numbered 0 (bodies_in_place p) j
 abbrev pub SidesBindNothing : ProgramTerm → TaskTerm → Type 0
 SidesBindNothing p (xor_task j k) = BindsNothing p j × BindsNothing p k
 SidesBindNothing p (then_task t i) = SidesBindNothing p t
-SidesBindNothing p (next_task t i) = SidesBindNothing p t
+SidesBindNothing p (next_task t cs) = SidesBindNothing p t
 SidesBindNothing p (and_task t u) = SidesBindNothing p t × SidesBindNothing p u
 SidesBindNothing p (or_task t u) = SidesBindNothing p t × SidesBindNothing p u
 SidesBindNothing p (let_task x e t) = SidesBindNothing p t

@@ -30,7 +30,7 @@ abbrev pub TaskTextsAreShort : TaskTerm → Type 0
 TaskTextsAreShort (edit e) = HasShortTexts e
 TaskTextsAreShort (call_task f es) = HaveShortTexts (as_exprs es)
 TaskTextsAreShort (then_task t i) = TaskTextsAreShort t
-TaskTextsAreShort (next_task t i) = TaskTextsAreShort t
+TaskTextsAreShort (next_task t cs) = TaskTextsAreShort t
 TaskTextsAreShort (and_task t u) = TaskTextsAreShort t × TaskTextsAreShort u
 TaskTextsAreShort (or_task t u) = TaskTextsAreShort t × TaskTextsAreShort u
 TaskTextsAreShort (let_task x e t) = HasShortTexts e × TaskTextsAreShort t

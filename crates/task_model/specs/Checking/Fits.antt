@@ -1,18 +1,18 @@
 -- What fits a program: stores, slots, environments and trees of their types (docs/RULES.md, "Programs"). Places are referred to at their
 -- types in one list, which is given: where several of these stand over one store, one list serves all.
-use Rattle.std.specs.Prelude.{◌≡◌, ℕ, true, List, [], ◌∷◌, ◌++◌, drop, Option, None, Some, slice_get}
+use Rattle.std.specs.Prelude.{◌≡◌, ℕ, true, List, [], ◌∷◌, ◌++◌, drop, map, Option, None, Some, slice_get}
 use Rattle.task_model.specs.Terms.Text.{Text}
 use Rattle.task_model.specs.Terms.Basic.{BasicTerm, pair_type}
 use Rattle.task_model.specs.Terms.Value.{ValueTerm, value_has}
 use Rattle.task_model.specs.Terms.Env.{SlotTerm, plain_slot, place_slot, EnvTerm}
-use Rattle.task_model.specs.Terms.Tree.{LaterTerm, TreeTerm, edit_tree, enter_tree, share_tree, then_tree, next_tree, fail_tree, and_tree, or_tree, xor_tree, State}
+use Rattle.task_model.specs.Terms.Tree.{LaterTerm, BranchTerm, TreeTerm, edit_tree, enter_tree, share_tree, then_tree, next_tree, fail_tree, and_tree, or_tree, xor_tree, State}
 use Rattle.task_model.specs.Terms.Program.{KindTerm, plain_kind, ref_kind, ParamTerm, ProgramTerm}
 use Rattle.task_model.specs.Running.Checked.{CheckedTerm, param_names}
 use Rattle.task_model.specs.Checking.Names.{CallsTerm, bind_value}
 use Rattle.task_model.specs.Checking.FullTask.{FullTask, FullBody, full_body_numbered}
 use Rattle.task_model.specs.Checking.TypeOf.{listed_types}
 use Rattle.task_model.specs.Checking.TaskDemands.{bodies_in_place}
-use Rattle.task_model.specs.Checking.TaskTyping.{HasTask}
+use Rattle.task_model.specs.Checking.TaskTyping.{HasTask, AreApart}
 use Rattle.task_model.specs.Checking.Placed.{firsts_of}
 use Rattle.task_model.specs.Checking.ProgramParts.{body_part, IsPart}
 
@@ -70,13 +70,19 @@ pub record LaterHas (c : CheckedTerm) (Σ : List BasicTerm) (k : LaterTerm) (a :
   pub starts : slice_get (firsts_of c.program) k.body ≡ Some first
   pub fits : TaskFits c inner first body.task b
 
+-- each of these branches takes a value of the first type, and is of the second one
+abbrev pub BranchesHave : CheckedTerm → List BasicTerm → BasicTerm → List BranchTerm → BasicTerm → Type 0
+BranchesHave c Σ a [] b = Unit {0}
+BranchesHave c Σ a (x ∷ xs) b = LaterHas c Σ x.later (Some a) b × BranchesHave c Σ a xs b
+
 -- a tree of this type
 abbrev pub TreeHas : CheckedTerm → List BasicTerm → TreeTerm → BasicTerm → Type 0
 TreeHas c Σ (edit_tree a v) b = (b ≡ a) × (value_has v b ≡ true)
 TreeHas c Σ (enter_tree a) b = b ≡ a
 TreeHas c Σ (share_tree a n) b = (b ≡ a) × (slice_get Σ n ≡ Some b)
 TreeHas c Σ (then_tree t k) b = (a : BasicTerm) × TreeHas c Σ t a × LaterHas c Σ k (Some a) b
-TreeHas c Σ (next_tree t k) b = (a : BasicTerm) × TreeHas c Σ t a × LaterHas c Σ k (Some a) b
+TreeHas c Σ (next_tree t bs) b =
+    (a : BasicTerm) × TreeHas c Σ t a × BranchesHave c Σ a bs b × AreApart (map (λ x. x.label) bs)
 TreeHas c Σ fail_tree b = Unit {0}
 TreeHas c Σ (and_tree t u) b = (a : BasicTerm) × (d : BasicTerm) × (b ≡ pair_type a d) × TreeHas c Σ t a × TreeHas c Σ u d
 TreeHas c Σ (or_tree t u) b = TreeHas c Σ t b × TreeHas c Σ u b

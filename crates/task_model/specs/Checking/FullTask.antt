@@ -3,26 +3,39 @@ use Rattle.std.specs.Prelude.{ℕ, suc, List, [], ◌∷◌, Option, Some, None,
 use Rattle.task_model.specs.Terms.Text.{Text}
 use Rattle.task_model.specs.Terms.Basic.{BasicTerm}
 use Rattle.task_model.specs.Terms.Host.{HostTerm}
-use Rattle.task_model.specs.Terms.Task.{TaskTerm, edit, enter, share, fail, call_task, then_task, next_task, and_task, or_task, xor_task, let_task, if_task, case_task, new_task, put_task, BodyTerm}
+use Rattle.task_model.specs.Terms.Task.{ChoiceTerm, TaskTerm, edit, enter, share, fail, call_task, then_task, next_task, and_task, or_task, xor_task, let_task, if_task, case_task, new_task, put_task, BodyTerm}
 
--- A task with its bodies in place. A step has the names in scope at its body, the name that it binds, and the body. Both kinds of step are
--- typed alike. An absent body is one that no text has: its number is none of the later bodies', or a step's binds no name.
-pub data FullTask : Type 0 where
-  full_edit : HostTerm → FullTask
-  full_enter : BasicTerm → FullTask
-  full_share : Text → FullTask
-  full_fail : BasicTerm → FullTask
-  full_call : Text → List HostTerm → FullTask
-  full_step : FullTask → List Text → Text → FullTask → FullTask
-  full_and : FullTask → FullTask → FullTask
-  full_or : FullTask → FullTask → FullTask
-  full_xor : List Text → FullTask → List Text → FullTask → FullTask
-  full_let : Text → HostTerm → FullTask → FullTask
-  full_if : HostTerm → FullTask → FullTask → FullTask
-  full_case : HostTerm → FullTask → Text → Text → FullTask → FullTask
-  full_new : Text → HostTerm → FullTask → FullTask
-  full_put : Text → HostTerm → FullTask → FullTask
-  full_absent : FullTask
+mutual
+  -- A task with its bodies in place. An internal step has the names in scope at its body, the name that it binds, and the body; a user step
+  -- has its choices. An absent body is one that no text has: its number is none of the later bodies', or a step's binds no name, or a
+  -- user step has no choice.
+  pub data FullTask : Type 0 where
+    full_edit : HostTerm → FullTask
+    full_enter : BasicTerm → FullTask
+    full_share : Text → FullTask
+    full_fail : BasicTerm → FullTask
+    full_call : Text → List HostTerm → FullTask
+    full_step : FullTask → List Text → Text → FullTask → FullTask
+    full_next : FullTask → FullChoices → FullTask
+    full_and : FullTask → FullTask → FullTask
+    full_or : FullTask → FullTask → FullTask
+    full_xor : List Text → FullTask → List Text → FullTask → FullTask
+    full_let : Text → HostTerm → FullTask → FullTask
+    full_if : HostTerm → FullTask → FullTask → FullTask
+    full_case : HostTerm → FullTask → Text → Text → FullTask → FullTask
+    full_new : Text → HostTerm → FullTask → FullTask
+    full_put : Text → HostTerm → FullTask → FullTask
+    full_absent : FullTask
+
+  -- the choices of a user step, in order: of each its label, the names in scope at its body, the name that it binds, and the body
+  pub data FullChoices : Type 0 where
+    last_choice : Text → List Text → Text → FullTask → FullChoices
+    more_choices : Text → List Text → Text → FullTask → FullChoices → FullChoices
+
+-- the labels of choices, in order
+abbrev pub full_labels : FullChoices → List Text
+full_labels (last_choice l xs x u) = l ∷ []
+full_labels (more_choices l xs x u cs) = l ∷ full_labels cs
 
 -- a body in place
 pub record FullBody : Type 0 where
@@ -45,6 +58,36 @@ abbrev pub step_over : FullTask → Option FullBody → FullTask
 step_over t None = full_absent
 step_over t (Some b) = step_with t b.scope b.task b.binder
 
+-- the last choice, over a body
+abbrev pub last_with : Text → List Text → FullTask → Option Text → Option FullChoices
+last_with l xs u None = None
+last_with l xs u (Some x) = Some (last_choice l xs x u)
+
+abbrev pub last_over : Text → Option FullBody → Option FullChoices
+last_over l None = None
+last_over l (Some b) = last_with l b.scope b.task b.binder
+
+-- a choice over a body, before others
+abbrev pub more_with : Text → List Text → FullTask → Option Text → Option FullChoices → Option FullChoices
+more_with l xs u None cs = None
+more_with l xs u (Some x) None = None
+more_with l xs u (Some x) (Some cs) = Some (more_choices l xs x u cs)
+
+abbrev pub more_over : Text → Option FullBody → Option FullChoices → Option FullChoices
+more_over l None cs = None
+more_over l (Some b) cs = more_with l b.scope b.task b.binder cs
+
+-- the choices over the bodies that were found, if each was and there is one
+abbrev pub choices_over : ℕ → List FullBody → List ChoiceTerm → Option FullChoices
+choices_over i bs [] = None
+choices_over i bs (c ∷ []) = last_over c.label (full_body_numbered i bs c.body)
+choices_over i bs (c ∷ (d ∷ cs)) = more_over c.label (full_body_numbered i bs c.body) (choices_over i bs (d ∷ cs))
+
+-- a user step over these choices
+abbrev pub next_over : FullTask → Option FullChoices → FullTask
+next_over t None = full_absent
+next_over t (Some cs) = full_next t cs
+
 -- an external choice of the bodies that were found
 abbrev pub sides_of : Option FullBody → Option FullBody → FullTask
 sides_of None c = full_absent
@@ -59,7 +102,7 @@ full_in i bs (share x) = full_share x
 full_in i bs (fail b) = full_fail b
 full_in i bs (call_task f es) = full_call f es
 full_in i bs (then_task t j) = step_over (full_in i bs t) (full_body_numbered i bs j)
-full_in i bs (next_task t j) = step_over (full_in i bs t) (full_body_numbered i bs j)
+full_in i bs (next_task t cs) = next_over (full_in i bs t) (choices_over i bs cs)
 full_in i bs (and_task t u) = full_and (full_in i bs t) (full_in i bs u)
 full_in i bs (or_task t u) = full_or (full_in i bs t) (full_in i bs u)
 full_in i bs (xor_task j k) = sides_of (full_body_numbered i bs j) (full_body_numbered i bs k)

@@ -3,7 +3,7 @@ use Rattle.std.specs.Prelude.{◌≡◌, ℕ, List, [], ◌∷◌, ◌++◌, Opt
 use Rattle.task_model.specs.Terms.Text.{Text}
 use Rattle.task_model.specs.Terms.Basic.{BasicTerm}
 use Rattle.task_model.specs.Terms.Host.{HostTerm}
-use Rattle.task_model.specs.Terms.Task.{TaskTerm, edit, enter, share, fail, call_task, then_task, next_task, and_task, or_task, xor_task, let_task, if_task, case_task, new_task, put_task, BodyTerm}
+use Rattle.task_model.specs.Terms.Task.{ChoiceTerm, TaskTerm, edit, enter, share, fail, call_task, then_task, next_task, and_task, or_task, xor_task, let_task, if_task, case_task, new_task, put_task, BodyTerm}
 use Rattle.task_model.specs.Terms.Program.{KindTerm, plain_kind, ref_kind, ParamTerm, DefBodyTerm, fun_body, task_body, ProgramTerm, main_name}
 use Rattle.task_model.specs.Checking.TypeParts.{item_part}
 use Rattle.task_model.specs.Checking.Names.{bind_value, bind_place, Numbered, first_named, params_of}
@@ -44,6 +44,11 @@ abbrev pub body_parts : List ParamTerm → Option BasicTerm → Option BodyTerm 
 body_parts s a None = []
 body_parts s a (Some b) = task_of_body s b.binder a b.task
 
+-- the bodies of choices whose left part has this type, in order
+abbrev pub choice_parts : List ParamTerm → BasicTerm → List ChoiceTerm → List PartIn
+choice_parts s a [] = []
+choice_parts s a (c ∷ cs) = in_scope s (body_part c.body (Some a)) ∷ choice_parts s a cs
+
 -- what a definition has
 abbrev pub what_part : DefBodyTerm → ProgramPart
 what_part (fun_body e) = expression_part e
@@ -62,7 +67,7 @@ module _ (p : ProgramTerm) where
   task_parts s (fail b) = []
   task_parts s (call_task f es) = argument_parts s es (params_of (first_named 0 p.defs f))
   task_parts s (then_task t j) = in_scope s (task_part t) ∷ in_scope s (body_part j (Some (type_there s t))) ∷ []
-  task_parts s (next_task t j) = in_scope s (task_part t) ∷ in_scope s (body_part j (Some (type_there s t))) ∷ []
+  task_parts s (next_task t cs) = in_scope s (task_part t) ∷ choice_parts s (type_there s t) cs
   task_parts s (and_task t u) = in_scope s (task_part t) ∷ in_scope s (task_part u) ∷ []
   task_parts s (or_task t u) = in_scope s (task_part t) ∷ in_scope s (task_part u) ∷ []
   task_parts s (xor_task j k) = in_scope s (body_part j None) ∷ in_scope s (body_part k None) ∷ []

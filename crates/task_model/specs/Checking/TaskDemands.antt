@@ -1,13 +1,13 @@
 -- What tasks, definitions and programs demand, in the order in which it is looked at (docs/LANGUAGE.md, "Faults of types").
-use Rattle.std.specs.Prelude.{ℕ, suc, ◌+◌, true, not, List, [], ◌∷◌, ◌++◌, length, ◌==◌, Option, Some, None, is_some, if◌then◌else◌}
+use Rattle.std.specs.Prelude.{ℕ, suc, ◌+◌, Bool, true, false, not, ◌&&◌, nat_le, List, [], ◌∷◌, ◌++◌, length, ◌==◌, Option, Some, None, is_some, if◌then◌else◌}
 use Rattle.task_model.specs.Terms.Text.{Text, same_text}
 use Rattle.task_model.specs.Terms.Basic.{BasicTerm, bool_type}
 use Rattle.task_model.specs.Terms.Host.{as_exprs}
 use Rattle.task_model.specs.Terms.Program.{ParamTerm, DefBodyTerm, fun_body, task_body, DefTerm, ProgramTerm, main_name}
 use Rattle.task_model.specs.Checking.TypeParts.{item_part}
 use Rattle.task_model.specs.Checking.Names.{kind_in, bind_value, bind_place, basic_of, named_type, Numbered, first_named, CallsTerm, is_open, called_definition, all_open, params_of}
-use Rattle.task_model.specs.Checking.TypeFault.{Demands, TypeFaultTerm, met, unmet, ◌⨾◌, listed, first_unmet, demanded, duplicate, unknown_name, arity, unguarded, no_main, sized, is_list, ref_name, whole, wanted}
-use Rattle.task_model.specs.Checking.FullTask.{FullTask, full_edit, full_enter, full_share, full_fail, full_call, full_step, full_and, full_or, full_xor, full_let, full_if, full_case, full_new, full_put, full_absent, full_in, full_bodies, FullBody}
+use Rattle.task_model.specs.Checking.TypeFault.{Demands, TypeFaultTerm, met, unmet, ◌⨾◌, listed, first_unmet, demanded, duplicate, too_many_labels, bad_label, unknown_name, arity, unguarded, no_main, sized, is_list, ref_name, whole, wanted}
+use Rattle.task_model.specs.Checking.FullTask.{FullTask, FullChoices, last_choice, more_choices, full_labels, full_edit, full_enter, full_share, full_fail, full_call, full_step, full_next, full_and, full_or, full_xor, full_let, full_if, full_case, full_new, full_put, full_absent, full_in, full_bodies, FullBody}
 use Rattle.task_model.specs.Checking.NodeCounts.{nodes, count_all, task_nodes}
 use Rattle.task_model.specs.Checking.TypeOf.{type_of, task_type, listed_types}
 use Rattle.task_model.specs.Checking.Demands.{has_place, two_names, arguments, all_demands, demands}
@@ -23,55 +23,100 @@ abbrev pub task_call : ℕ → Option ℕ → ℕ → Option Numbered → Demand
 task_call n below args None = unmet n unknown_name
 task_call n below args (Some d) = task_kind n below d.index (length d.def.params) args d.def.what
 
--- The demands of a task of node number n, but for the size of its own type. Its expressions may call any function, and its bodies any task.
-abbrev pub task_demands : CallsTerm → List ParamTerm → ℕ → FullTask → Demands
-task_demands k s n (full_edit e) = all_demands (all_open k) s (suc n) e
-task_demands k s n (full_enter b) = met
-task_demands k s n (full_share x) = ref_name n (kind_in s x)
-task_demands k s n (full_fail b) = met
-task_demands k s n (full_call f es) =
-    task_call n k.below (count_all (as_exprs es)) (called_definition k f)
-    ⨾ arguments (all_open k) s (suc n) (as_exprs es) (params_of (called_definition k f))
-task_demands k s n (full_step t xs x u) =
-    let m = suc n + task_nodes t in
-    let inner = bind_value s x (task_type k.defs s t) in
-    has_place n s 1 ⨾ whole (suc n) (task_type k.defs s t) (task_demands k s (suc n) t)
-    ⨾ whole m (task_type k.defs inner u) (task_demands (all_open k) inner m u)
-task_demands k s n (full_and t u) =
-    let m = suc n + task_nodes t in
-    whole (suc n) (task_type k.defs s t) (task_demands k s (suc n) t) ⨾ whole m (task_type k.defs s u) (task_demands k s m u)
-task_demands k s n (full_or t u) =
-    let m = suc n + task_nodes t in
-    whole (suc n) (task_type k.defs s t) (task_demands k s (suc n) t)
-    ⨾ wanted m (task_type k.defs s t) (task_type k.defs s u) (task_demands k s m u)
-task_demands k s n (full_xor xs t ys u) =
-    let m = suc n + task_nodes t in
-    whole (suc n) (task_type k.defs s t) (task_demands (all_open k) s (suc n) t)
-    ⨾ wanted m (task_type k.defs s t) (task_type k.defs s u) (task_demands (all_open k) s m u)
-task_demands k s n (full_let x e t) =
-    let m = suc n + nodes e in
-    let inner = bind_value s x (type_of k.defs s e) in
-    has_place n s 1 ⨾ all_demands (all_open k) s (suc n) e ⨾ whole m (task_type k.defs inner t) (task_demands k inner m t)
-task_demands k s n (full_if e t u) =
-    let m = suc n + nodes e in
-    wanted (suc n) bool_type (type_of k.defs s e) (demands (all_open k) s (suc n) e)
-    ⨾ (whole m (task_type k.defs s t) (task_demands k s m t)
-    ⨾ wanted (m + task_nodes t) (task_type k.defs s t) (task_type k.defs s u) (task_demands k s (m + task_nodes t) u))
-task_demands k s n (full_case e t x y u) =
-    let m = suc n + nodes e in
-    let inner = bind_value (bind_value s x (item_part (type_of k.defs s e))) y (type_of k.defs s e) in
-    two_names n x y ⨾ has_place n s 2 ⨾ (all_demands (all_open k) s (suc n) e ⨾ is_list (suc n) (type_of k.defs s e))
-    ⨾ (whole m (task_type k.defs s t) (task_demands k s m t)
-    ⨾ wanted (m + task_nodes t) (task_type k.defs s t) (task_type k.defs inner u) (task_demands k inner (m + task_nodes t) u))
-task_demands k s n (full_new x e t) =
-    let m = suc n + nodes e in
-    let inner = bind_place s x (type_of k.defs s e) in
-    has_place n s 1 ⨾ all_demands (all_open k) s (suc n) e ⨾ whole m (task_type k.defs inner t) (task_demands k inner m t)
-task_demands k s n (full_put x e t) =
-    let m = suc n + nodes e in
-    ref_name n (kind_in s x) ⨾ wanted (suc n) (named_type (kind_in s x)) (type_of k.defs s e) (demands (all_open k) s (suc n) e)
-    ⨾ whole m (task_type k.defs s t) (task_demands k s m t)
-task_demands k s n full_absent = unmet n unknown_name
+-- ---- labels of a user step
+-- a label has 1 to 64 bytes
+abbrev pub is_label : Text → Bool
+is_label l = nat_le 1 (length l) && nat_le (length l) 64
+
+-- whether a label is one of these
+abbrev pub among_labels : Text → List Text → Bool
+among_labels l [] = false
+among_labels l (m ∷ ms) = if same_text m l then true else among_labels l ms
+
+-- each label is one, and none of those before it in its step
+abbrev pub labels_demands : ℕ → List Text → List Text → Demands
+labels_demands n before [] = met
+labels_demands n before (l ∷ ls) =
+    demanded (is_label l) n bad_label ⨾ demanded (not (among_labels l before)) n duplicate ⨾ labels_demands n (before ++ l ∷ []) ls
+
+-- a step has at most 16 labels
+abbrev pub step_labels : ℕ → List Text → Demands
+step_labels n ls = demanded (nat_le (length ls) 16) n too_many_labels ⨾ labels_demands n [] ls
+
+-- ---- bodies of choices
+-- a body that was checked whole, and then compared with the type that is wanted of it, if one is
+abbrev pub wanted_if : ℕ → Option BasicTerm → BasicTerm → Demands → Demands
+wanted_if n None b ds = whole n b ds
+wanted_if n (Some want) b ds = wanted n want b ds
+
+-- what is wanted of the choices behind one: what was wanted of it, or else its type
+abbrev pub wanted_behind : Option BasicTerm → BasicTerm → Option BasicTerm
+wanted_behind None b = Some b
+wanted_behind (Some want) b = Some want
+
+abbrev mutual
+  -- The demands of a task of node number n, but for the size of its own type. Its expressions may call any function, and its bodies any task.
+  pub task_demands : CallsTerm → List ParamTerm → ℕ → FullTask → Demands
+  task_demands k s n (full_edit e) = all_demands (all_open k) s (suc n) e
+  task_demands k s n (full_enter b) = met
+  task_demands k s n (full_share x) = ref_name n (kind_in s x)
+  task_demands k s n (full_fail b) = met
+  task_demands k s n (full_call f es) =
+      task_call n k.below (count_all (as_exprs es)) (called_definition k f)
+      ⨾ arguments (all_open k) s (suc n) (as_exprs es) (params_of (called_definition k f))
+  task_demands k s n (full_step t xs x u) =
+      let m = suc n + task_nodes t in
+      let inner = bind_value s x (task_type k.defs s t) in
+      has_place n s 1 ⨾ whole (suc n) (task_type k.defs s t) (task_demands k s (suc n) t)
+      ⨾ whole m (task_type k.defs inner u) (task_demands (all_open k) inner m u)
+  task_demands k s n (full_next t cs) =
+      step_labels n (full_labels cs) ⨾ has_place n s 1 ⨾ whole (suc n) (task_type k.defs s t) (task_demands k s (suc n) t)
+      ⨾ choices_demands k s (task_type k.defs s t) None (suc n + task_nodes t) cs
+  task_demands k s n (full_and t u) =
+      let m = suc n + task_nodes t in
+      whole (suc n) (task_type k.defs s t) (task_demands k s (suc n) t) ⨾ whole m (task_type k.defs s u) (task_demands k s m u)
+  task_demands k s n (full_or t u) =
+      let m = suc n + task_nodes t in
+      whole (suc n) (task_type k.defs s t) (task_demands k s (suc n) t)
+      ⨾ wanted m (task_type k.defs s t) (task_type k.defs s u) (task_demands k s m u)
+  task_demands k s n (full_xor xs t ys u) =
+      let m = suc n + task_nodes t in
+      whole (suc n) (task_type k.defs s t) (task_demands (all_open k) s (suc n) t)
+      ⨾ wanted m (task_type k.defs s t) (task_type k.defs s u) (task_demands (all_open k) s m u)
+  task_demands k s n (full_let x e t) =
+      let m = suc n + nodes e in
+      let inner = bind_value s x (type_of k.defs s e) in
+      has_place n s 1 ⨾ all_demands (all_open k) s (suc n) e ⨾ whole m (task_type k.defs inner t) (task_demands k inner m t)
+  task_demands k s n (full_if e t u) =
+      let m = suc n + nodes e in
+      wanted (suc n) bool_type (type_of k.defs s e) (demands (all_open k) s (suc n) e)
+      ⨾ (whole m (task_type k.defs s t) (task_demands k s m t)
+      ⨾ wanted (m + task_nodes t) (task_type k.defs s t) (task_type k.defs s u) (task_demands k s (m + task_nodes t) u))
+  task_demands k s n (full_case e t x y u) =
+      let m = suc n + nodes e in
+      let inner = bind_value (bind_value s x (item_part (type_of k.defs s e))) y (type_of k.defs s e) in
+      two_names n x y ⨾ has_place n s 2 ⨾ (all_demands (all_open k) s (suc n) e ⨾ is_list (suc n) (type_of k.defs s e))
+      ⨾ (whole m (task_type k.defs s t) (task_demands k s m t)
+      ⨾ wanted (m + task_nodes t) (task_type k.defs s t) (task_type k.defs inner u) (task_demands k inner (m + task_nodes t) u))
+  task_demands k s n (full_new x e t) =
+      let m = suc n + nodes e in
+      let inner = bind_place s x (type_of k.defs s e) in
+      has_place n s 1 ⨾ all_demands (all_open k) s (suc n) e ⨾ whole m (task_type k.defs inner t) (task_demands k inner m t)
+  task_demands k s n (full_put x e t) =
+      let m = suc n + nodes e in
+      ref_name n (kind_in s x) ⨾ wanted (suc n) (named_type (kind_in s x)) (type_of k.defs s e) (demands (all_open k) s (suc n) e)
+      ⨾ whole m (task_type k.defs s t) (task_demands k s m t)
+  task_demands k s n full_absent = unmet n unknown_name
+
+  -- the demands of choices whose left part has this type, the first one's body having node number n
+  pub choices_demands : CallsTerm → List ParamTerm → BasicTerm → Option BasicTerm → ℕ → FullChoices → Demands
+  choices_demands k s a want n (last_choice l xs x u) =
+      let inner = bind_value s x a in
+      wanted_if n want (task_type k.defs inner u) (task_demands (all_open k) inner n u)
+  choices_demands k s a want n (more_choices l xs x u cs) =
+      let inner = bind_value s x a in
+      wanted_if n want (task_type k.defs inner u) (task_demands (all_open k) inner n u)
+      ⨾ choices_demands k s a (wanted_behind want (task_type k.defs inner u)) (n + task_nodes u) cs
 
 -- ---- definitions
 -- the first definition of its name has its number

@@ -18,6 +18,8 @@ pub data TypeKindTerm : Type 0 where
   later_call : TypeKindTerm
   unguarded : TypeKindTerm
   too_many_names : TypeKindTerm
+  too_many_labels : TypeKindTerm
+  bad_label : TypeKindTerm
   big_type : TypeKindTerm
   no_main : TypeKindTerm
 

@@ -29,7 +29,7 @@ address_turns (into_second ∷ a) = turns.Second ∷ address_turns a
 abbrev pub node_at : TreeTerm → Address → Option TreeTerm
 node_at t [] = Some t
 node_at (then_tree t k) (into_left ∷ a) = node_at t a
-node_at (next_tree t k) (into_left ∷ a) = node_at t a
+node_at (next_tree t bs) (into_left ∷ a) = node_at t a
 node_at (and_tree t u) (into_first ∷ a) = node_at t a
 node_at (and_tree t u) (into_second ∷ a) = node_at u a
 node_at (or_tree t u) (into_first ∷ a) = node_at t a
@@ -40,7 +40,7 @@ node_at t (d ∷ a) = None
 abbrev pub with_node : TreeTerm → Address → TreeTerm → TreeTerm
 with_node t [] u = u
 with_node (then_tree t k) (into_left ∷ a) u = then_tree (with_node t a u) k
-with_node (next_tree t k) (into_left ∷ a) u = next_tree (with_node t a u) k
+with_node (next_tree t bs) (into_left ∷ a) u = next_tree (with_node t a u) bs
 with_node (and_tree t s) (into_first ∷ a) u = and_tree (with_node t a u) s
 with_node (and_tree t s) (into_second ∷ a) u = and_tree t (with_node s a u)
 with_node (or_tree t s) (into_first ∷ a) u = or_tree (with_node t a u) s
@@ -69,7 +69,7 @@ address_of (edit_tree b v) σ path act = address_at_editor path act
 address_of (enter_tree b) σ path act = address_at_editor path act
 address_of (share_tree b n) σ path act = address_at_editor path act
 address_of (then_tree t k) σ path act = further_down into_left (address_of t σ path act)
-address_of (next_tree t k) σ path act = address_at_step (stopped path act (value_of t σ)) (further_down into_left (address_of t σ path act))
+address_of (next_tree t bs) σ path act = address_at_step (stopped path act (value_of t σ)) (further_down into_left (address_of t σ path act))
 address_of fail_tree σ path act = None
 address_of (and_tree t u) σ [] act = None
 address_of (and_tree t u) σ (turns.First ∷ path) act = further_down into_first (address_of t σ path act)

@@ -5,7 +5,7 @@ use Rattle.task_model.specs.Terms.Text.{Text, same_text}
 use Rattle.task_model.specs.Terms.Basic.{BasicTerm, basic_term}
 use Rattle.task_model.specs.Terms.Env.{SlotTerm, EnvTerm}
 use Rattle.task_model.specs.Terms.Host.{HostTerm}
-use Rattle.task_model.specs.Terms.Task.{TaskTerm, edit, enter, share, fail, call_task, then_task, next_task, and_task, or_task, xor_task, let_task, if_task, case_task, new_task, put_task, BodyTerm}
+use Rattle.task_model.specs.Terms.Task.{ChoiceTerm, TaskTerm, edit, enter, share, fail, call_task, then_task, next_task, and_task, or_task, xor_task, let_task, if_task, case_task, new_task, put_task, BodyTerm}
 use Rattle.task_model.specs.Terms.Program.{ParamTerm, DefBodyTerm, fun_body, task_body, DefTerm, ProgramTerm, program_term}
 use Rattle.task_model.specs.declared.basic.Basic.{Basic}
 use Rattle.task_model.specs.declared.program.Program.{Program}
@@ -39,6 +39,11 @@ slot_of env x = found env.names env.slots x
 abbrev pub body_nodes : List ℕ → ℕ → ℕ → ℕ
 body_nodes counts i j = unwrap_or (slice_get counts (j - i)) 0
 
+-- how many nodes the bodies of choices have
+abbrev pub choice_nodes : List ℕ → ℕ → List ChoiceTerm → ℕ
+choice_nodes counts i [] = 0
+choice_nodes counts i (c ∷ cs) = body_nodes counts i c.body + choice_nodes counts i cs
+
 -- how many nodes a task has, those of its bodies among them
 abbrev pub nodes_in : List ℕ → ℕ → TaskTerm → ℕ
 nodes_in counts i (edit e) = 1
@@ -47,7 +52,7 @@ nodes_in counts i (share x) = 1
 nodes_in counts i (fail b) = 0
 nodes_in counts i (call_task f es) = 0
 nodes_in counts i (then_task t b) = nodes_in counts i t + body_nodes counts i b
-nodes_in counts i (next_task t b) = nodes_in counts i t + body_nodes counts i b
+nodes_in counts i (next_task t cs) = nodes_in counts i t + choice_nodes counts i cs
 nodes_in counts i (and_task t u) = nodes_in counts i t + nodes_in counts i u
 nodes_in counts i (or_task t u) = nodes_in counts i t + nodes_in counts i u
 nodes_in counts i (xor_task a b) = body_nodes counts i a + body_nodes counts i b
@@ -82,10 +87,15 @@ pub record Start : Type 0 where
   pub body : ℕ
   pub first : ℕ
 
+-- the bodies of choices, in order, each behind the nodes of those before it
+abbrev pub choice_starts : ProgramTerm → ℕ → List ChoiceTerm → List Start
+choice_starts p n [] = []
+choice_starts p n (c ∷ cs) = record { body = c.body; first = n } ∷ choice_starts p (n + body_nodes (counts_of p) 0 c.body) cs
+
 -- the bodies that stand in a task and not in another body, where so many nodes stand before the task
 abbrev pub starts_in : ProgramTerm → ℕ → TaskTerm → List Start
 starts_in p n (then_task t b) = starts_in p n t ++ record { body = b; first = n + nodes_of p t } ∷ []
-starts_in p n (next_task t b) = starts_in p n t ++ record { body = b; first = n + nodes_of p t } ∷ []
+starts_in p n (next_task t cs) = starts_in p n t ++ choice_starts p (n + nodes_of p t) cs
 starts_in p n (and_task t u) = starts_in p n t ++ starts_in p (n + nodes_of p t) u
 starts_in p n (or_task t u) = starts_in p n t ++ starts_in p (n + nodes_of p t) u
 starts_in p n (xor_task a b) = record { body = a; first = n } ∷ record { body = b; first = n + body_nodes (counts_of p) 0 a } ∷ []

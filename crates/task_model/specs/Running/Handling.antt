@@ -1,11 +1,10 @@
 -- What becomes of an input (docs/RULES.md, "Inputs"). Handling and lacking are one plan, whose result is the state, or none where
 -- the input is lacking.
 use Rattle.std.specs.Prelude.{ℕ, Bool, true, false, List, [], ◌∷◌, ◌++◌, Option, Some, None, slice_set}
-use Rattle.task_model.specs.Terms.Text.{Text, is_default_label}
 use Rattle.task_model.specs.Terms.Basic.{BasicTerm}
 use Rattle.task_model.specs.Terms.Value.{ValueTerm, value_has}
 use Rattle.task_model.specs.Terms.Env.{SlotTerm, plain_slot}
-use Rattle.task_model.specs.Terms.Tree.{LaterTerm, TreeTerm, edit_tree, enter_tree, share_tree, then_tree, next_tree, fail_tree, and_tree, or_tree, xor_tree, State, at}
+use Rattle.task_model.specs.Terms.Tree.{LaterTerm, BranchTerm, branch_of, TreeTerm, edit_tree, enter_tree, share_tree, then_tree, next_tree, fail_tree, and_tree, or_tree, xor_tree, State, at}
 use Rattle.task_model.specs.Terms.Input.{ActTerm, set_act, next_act, left_act, right_act, InputTerm}
 use Rattle.task_model.specs.Running.Checked.{CheckedTerm}
 use Rattle.task_model.specs.Running.Work.{Work}
@@ -37,18 +36,10 @@ abbrev pub stopped : List Turn → ActTerm → Option ValueTerm → Option Value
 stopped [] (next_act l) o = o
 stopped path act o = None
 
--- the branch of a user step that has a label: the step has one branch, labelled `next`
-abbrev pub if_labelled : Bool → LaterTerm → Option LaterTerm
-if_labelled true k = Some k
-if_labelled false k = None
-
-abbrev pub branch_of : Text → LaterTerm → Option LaterTerm
-branch_of l k = if_labelled (is_default_label l) k
-
--- the branch that an act takes: a Next act that of its label
-abbrev pub branch_for : ActTerm → LaterTerm → Option LaterTerm
-branch_for (next_act l) k = branch_of l k
-branch_for act k = None
+-- the branch of a user step that an act takes: a Next act that of its label
+abbrev pub branch_for : ActTerm → List BranchTerm → Option LaterTerm
+branch_for (next_act l) bs = branch_of l bs
+branch_for act bs = None
 
 module _ (c : CheckedTerm) where
   -- a body, normalised, unless that is failing
@@ -70,8 +61,8 @@ module _ (c : CheckedTerm) where
   handled (enter_tree b) σ path act = at_editor b path act (λ w. at (edit_tree b w) σ)
   handled (share_tree b n) σ path act = at_editor b path act (λ w. at (share_tree b n) (slice_set σ n w))
   handled (then_tree t k) σ path act = rebuilds (handled t σ path act) (λ t'. then_tree t' k)
-  handled (next_tree t k) σ path act = at_step (stopped path act (value_of t σ)) (branch_for act k) σ
-      (rebuilds (handled t σ path act) (λ t'. next_tree t' k))
+  handled (next_tree t bs) σ path act = at_step (stopped path act (value_of t σ)) (branch_for act bs) σ
+      (rebuilds (handled t σ path act) (λ t'. next_tree t' bs))
   handled fail_tree σ path act = give None
   handled (and_tree t u) σ [] act = give None
   handled (and_tree t u) σ (turns.First ∷ path) act = rebuilds (handled t σ path act) (λ t'. and_tree t' u)

@@ -1,13 +1,13 @@
 -- What a tree offers within a budget (docs/RULES.md, "Offers").
 use Rattle.std.specs.Prelude.{◌≡◌, ◌⊎◌, ℕ, IsTrue, List, [], ◌∷◌, ◌++◌, map}
-use Rattle.task_model.specs.Terms.Text.{Text, default_label}
+use Rattle.task_model.specs.Terms.Text.{Text}
 use Rattle.task_model.specs.Terms.Basic.{BasicTerm, basic_term}
 use Rattle.task_model.specs.Terms.Value.{ValueTerm, value_has}
-use Rattle.task_model.specs.Terms.Tree.{TreeTerm, edit_tree, enter_tree, share_tree, then_tree, next_tree, fail_tree, and_tree, or_tree, xor_tree}
+use Rattle.task_model.specs.Terms.Tree.{BranchTerm, TreeTerm, edit_tree, enter_tree, share_tree, then_tree, next_tree, fail_tree, and_tree, or_tree, xor_tree}
 use Rattle.task_model.specs.Terms.Input.{ActTerm, set_act, next_act, left_act, right_act, InputTerm}
 use Rattle.task_model.specs.Running.Checked.{CheckedTerm}
 use Rattle.task_model.specs.Running.Rules.{value_of}
-use Rattle.task_model.specs.Running.Sign.{IsSideSign, IsStepSign}
+use Rattle.task_model.specs.Running.Sign.{IsSideSign, AreSigns}
 use Rattle.task_model.specs.declared.input.Turn.{Turn}
 use Rattle.task_model.specs.declared.input.Turn.TheVariants as turns
 use Rattle.task_model.specs.declared.widget.Sign.{Sign}
@@ -50,6 +50,11 @@ offered k signs.No = []
 offered k signs.Yes = offer_here k answers.Yes ∷ []
 offered k signs.Over = offer_here k answers.Over ∷ []
 
+-- what the signs of a user step's branches offer at the step itself, in order
+abbrev pub step_offers : List BranchTerm → List Sign → List OfferTerm
+step_offers (b ∷ bs) (s ∷ ss) = offered (next_offer b.label) s ++ step_offers bs ss
+step_offers bs ss = []
+
 -- an offer of a part
 abbrev pub turned : Turn → OfferTerm → OfferTerm
 turned t o = record { path = t ∷ o.path; kind = o.kind; answer = o.answer }
@@ -64,8 +69,8 @@ module _ (c : CheckedTerm) (budget : ℕ) where
   AreOffers (enter_tree b) σ os = os ≡ offered (set_offer b) signs.Yes
   AreOffers (share_tree b n) σ os = os ≡ offered (set_offer b) signs.Yes
   AreOffers (then_tree t k) σ os = AreOffers t σ os
-  AreOffers (next_tree t k) σ os =
-      (s : Sign) × (us : List OfferTerm) × IsStepSign c budget (value_of t σ) k σ s × AreOffers t σ us × (os ≡ offered (next_offer default_label) s ++ us)
+  AreOffers (next_tree t bs) σ os =
+      (ss : List Sign) × (us : List OfferTerm) × AreSigns c budget (value_of t σ) bs σ ss × AreOffers t σ us × (os ≡ step_offers bs ss ++ us)
   AreOffers fail_tree σ os = os ≡ []
   AreOffers (and_tree t u) σ os = (xs : List OfferTerm) × (ys : List OfferTerm) × AreOffers t σ xs × AreOffers u σ ys
       × (os ≡ both_offers xs ys)

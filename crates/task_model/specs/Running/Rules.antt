@@ -1,15 +1,15 @@
 -- The rules, a case for each form, in the order of docs/RULES.md. They are read for one checked program.
-use Rattle.std.specs.Prelude.{ℕ, ◌+◌, Bool, true, false, List, [], ◌∷◌, ◌++◌, length, Option, Some, None, slice_get, slice_set}
+use Rattle.std.specs.Prelude.{ℕ, ◌+◌, Bool, true, false, List, [], ◌∷◌, ◌++◌, length, map, Option, Some, None, slice_get, slice_set}
 use Rattle.std.specs.Option.{option_or}
 use Rattle.task_model.specs.Terms.Text.{Text}
 use Rattle.task_model.specs.Terms.Value.{ValueTerm, unit_value, bool_value, int_value, text_value, pair_value, list_value, no_values, more_values}
 use Rattle.task_model.specs.Running.Operators.{list_of, operated, negated, opposite, first_of, second_of, length_of}
 use Rattle.task_model.specs.Terms.Env.{SlotTerm, plain_slot, place_slot, EnvTerm}
 use Rattle.task_model.specs.Terms.Host.{HostTerm, unit_expr, bool_expr, int_expr, text_expr, name_expr, read_expr, call_expr, pair_expr, list_expr, nil_expr, neg_expr, not_expr, fst_expr, snd_expr, len_expr, op_expr, let_expr, if_expr, case_expr, HostTerms, no_exprs, more_exprs}
-use Rattle.task_model.specs.Terms.Task.{TaskTerm, edit, enter, share, fail, call_task, then_task, next_task, and_task, or_task, xor_task, let_task, if_task, case_task, new_task, put_task, BodyTerm}
+use Rattle.task_model.specs.Terms.Task.{ChoiceTerm, TaskTerm, edit, enter, share, fail, call_task, then_task, next_task, and_task, or_task, xor_task, let_task, if_task, case_task, new_task, put_task, BodyTerm}
 use Rattle.task_model.specs.Terms.Program.{KindTerm, plain_kind, ref_kind, ParamTerm}
 use Rattle.task_model.specs.Running.Checked.{CheckedTerm, slot_of, nodes_of, body_first, fun_named, task_named, param_names, names_with}
-use Rattle.task_model.specs.Terms.Tree.{LaterTerm, TreeTerm, edit_tree, enter_tree, share_tree, then_tree, next_tree, fail_tree, and_tree, or_tree, xor_tree, State, at}
+use Rattle.task_model.specs.Terms.Tree.{LaterTerm, BranchTerm, TreeTerm, edit_tree, enter_tree, share_tree, then_tree, next_tree, fail_tree, and_tree, or_tree, xor_tree, State, at}
 use Rattle.task_model.specs.Running.Plan.{Judgement, gives_value, evaluates, fails, strides, settles, normal, Derived, Plan, give, stuck, ask, unit, stride_on, after, known}
 use Rattle.task_model.specs.declared.host.Op.{Op}
 use Rattle.task_model.specs.declared.host.Op.TheVariants as ops
@@ -88,7 +88,7 @@ value_of (edit_tree b v) σ = Some v
 value_of (enter_tree b) σ = None
 value_of (share_tree b n) σ = slice_get σ n
 value_of (then_tree t k) σ = None
-value_of (next_tree t k) σ = None
+value_of (next_tree t bs) σ = None
 value_of fail_tree σ = None
 value_of (and_tree t u) σ = paired (value_of t σ) (value_of u σ)
 value_of (or_tree t u) σ = option_or (value_of t σ) (value_of u σ)
@@ -108,6 +108,10 @@ or_of (Some v) t u = u
 -- a body of the program with a slot for each name of its scope
 abbrev pub later : ℕ → EnvTerm → LaterTerm
 later i env = record { body = i; slots = env.slots }
+
+-- a choice of a user step with a slot for each name of its body's scope
+abbrev pub branch_there : EnvTerm → ChoiceTerm → BranchTerm
+branch_there env c = record { label = c.label; later = later c.body env }
 
 module _ (c : CheckedTerm) where
   -- ---- expressions (docs/RULES.md, "Expressions")
@@ -157,7 +161,7 @@ module _ (c : CheckedTerm) where
       (λ d. unit (after (slots_for env σ [] es d.params)
       (λ vs. ask (evaluates d.task (record { names = param_names d.params; slots = vs; first = d.first }) σ) give)))
   evaluate_rule (then_task t i) env σ = ask (evaluates t env σ) (λ s. give (at (then_tree s.tree (later i env)) s.store))
-  evaluate_rule (next_task t i) env σ = ask (evaluates t env σ) (λ s. give (at (next_tree s.tree (later i env)) s.store))
+  evaluate_rule (next_task t cs) env σ = ask (evaluates t env σ) (λ s. give (at (next_tree s.tree (map (branch_there env) cs)) s.store))
   evaluate_rule (and_task t u) env σ =
       ask (evaluates t env σ)
       (λ s. ask (evaluates u (later_by (nodes_of c.program t) env) s.store) (λ s'. give (at (and_tree s.tree s'.tree) s'.store)))
@@ -207,7 +211,7 @@ module _ (c : CheckedTerm) where
   fail_rule (enter_tree b) σ = give false
   fail_rule (share_tree b n) σ = give false
   fail_rule (then_tree t k) σ = ask (fails (at t σ)) give
-  fail_rule (next_tree t k) σ = ask (fails (at t σ)) give
+  fail_rule (next_tree t bs) σ = ask (fails (at t σ)) give
   fail_rule fail_tree σ = give true
   fail_rule (and_tree t u) σ = ask (fails (at t σ)) (λ no. branch no (ask (fails (at u σ)) give) (give false))
   fail_rule (or_tree t u) σ = ask (fails (at t σ)) (λ no. branch no (ask (fails (at u σ)) give) (give false))
@@ -225,7 +229,7 @@ module _ (c : CheckedTerm) where
   stride_rule (share_tree b n) σ = give (at (share_tree b n) σ)
   stride_rule fail_tree σ = give (at fail_tree σ)
   stride_rule (xor_tree j k) σ = give (at (xor_tree j k) σ)
-  stride_rule (next_tree t k) σ = ask (strides (at t σ)) (λ s. give (at (next_tree s.tree k) s.store))
+  stride_rule (next_tree t bs) σ = ask (strides (at t σ)) (λ s. give (at (next_tree s.tree bs) s.store))
   stride_rule (and_tree t u) σ = ask (strides (at t σ))
       (λ s. ask (strides (at u s.store)) (λ s'. give (at (and_tree s.tree s'.tree) s'.store)))
   stride_rule (then_tree t k) σ = ask (strides (at t σ)) (λ s. fired (value_of s.tree s.store) k s)

@@ -1,7 +1,7 @@
 -- How a test within a budget ends (docs/RULES.md, "Offers").
-use Rattle.std.specs.Prelude.{◌≡◌, ℕ, Bool, true, false, List, Option, Some, None}
+use Rattle.std.specs.Prelude.{◌≡◌, ℕ, Bool, true, false, List, [], ◌∷◌, Option, Some, None}
 use Rattle.task_model.specs.Terms.Value.{ValueTerm}
-use Rattle.task_model.specs.Terms.Tree.{LaterTerm}
+use Rattle.task_model.specs.Terms.Tree.{LaterTerm, BranchTerm, branch_of}
 use Rattle.task_model.specs.Running.Checked.{CheckedTerm}
 use Rattle.task_model.specs.Running.Work.{Work}
 use Rattle.task_model.specs.Running.Plan.{Plan, plan_work, Derives}
@@ -25,7 +25,18 @@ module _ (c : CheckedTerm) (budget : ℕ) where
   abbrev pub IsSideSign : LaterTerm → List ValueTerm → Sign → Type 0
   IsSideSign k σ s = IsSign budget (Test c (side c k σ)) s
 
-  -- the sign of a user step: that of its cont at the value of its left, and No where that has none
-  abbrev pub IsStepSign : Option ValueTerm → LaterTerm → List ValueTerm → Sign → Type 0
-  IsStepSign None k σ s = s ≡ signs.No
-  IsStepSign (Some v) k σ s = IsSign budget (Test c (trial c k v σ)) s
+  -- the sign of a branch at the value of its step's left, and No where that has none, or where there is no branch
+  abbrev pub IsBranchSign : Option ValueTerm → Option LaterTerm → List ValueTerm → Sign → Type 0
+  IsBranchSign None b σ s = s ≡ signs.No
+  IsBranchSign (Some v) None σ s = s ≡ signs.No
+  IsBranchSign (Some v) (Some k) σ s = IsSign budget (Test c (trial c k v σ)) s
+
+  -- The signs of a user step whose branches are all these, one for each of those that follow, in order: the sign of the branch that its
+  -- label names. Labels of a step in an accepted program differ, so that is the branch itself.
+  abbrev pub AreSignsFor : Option ValueTerm → List BranchTerm → List BranchTerm → List ValueTerm → List Sign → Type 0
+  AreSignsFor o all [] σ [] = Unit {0}
+  AreSignsFor o all (b ∷ bs) σ (s ∷ ss) = IsBranchSign o (branch_of b.label all) σ s × AreSignsFor o all bs σ ss
+  AreSignsFor o all bs σ ss = ⊥
+
+  abbrev pub AreSigns : Option ValueTerm → List BranchTerm → List ValueTerm → List Sign → Type 0
+  AreSigns o bs σ ss = AreSignsFor o bs bs σ ss

@@ -1,10 +1,10 @@
 -- The HTML page (docs/FORMATS.md, "HTML pages").
 use Rattle.std.specs.Prelude.{ℕ, ◌==◌, List, [], ◌∷◌, ◌++◌, codes, decimal, if◌then◌else◌}
-use Rattle.task_model.specs.Terms.Text.{Text}
+use Rattle.task_model.specs.Terms.Text.{Text, is_default_label}
 use Rattle.task_model.specs.Terms.Basic.{BasicTerm, text_type}
 use Rattle.task_model.specs.Terms.Value.{ValueTerm, text_value}
 use Rattle.task_model.specs.Syntax.Literal.{basic_text, value_text}
-use Rattle.task_model.specs.Showing.Widget.{ShapeTerm, edit_shape, enter_shape, share_shape, then_shape, step_shape, fail_shape, and_shape, or_shape, pick_shape, WidgetTerm}
+use Rattle.task_model.specs.Showing.Widget.{MarkedTerm, ShapeTerm, edit_shape, enter_shape, share_shape, then_shape, step_shape, fail_shape, and_shape, or_shape, pick_shape, WidgetTerm}
 use Rattle.task_model.specs.Showing.Page.{path_text}
 use Rattle.task_model.specs.declared.widget.Sign.{Sign}
 use Rattle.task_model.specs.declared.widget.Sign.TheVariants as signs
@@ -56,13 +56,27 @@ sign_form path act signs.No = []
 sign_form path act signs.Yes = form_text path act [] act
 sign_form path act signs.Over = form_text path act [] (act ++ codes "?")
 
+-- the field of a label: none for the default one
+abbrev pub label_field : Text → Text
+label_field l = if is_default_label l then [] else codes "<input type=\"hidden\" name=\"label\" value=\"" ++ html_escaped l ++ codes "\">"
+
+-- a form for a branch of a user step where it is offered, with a question mark where that went over the budget
+abbrev pub mark_form : Text → Text → Sign → Text
+mark_form path l signs.No = []
+mark_form path l signs.Yes = form_text path (codes "next") (label_field l) (html_escaped l)
+mark_form path l signs.Over = form_text path (codes "next") (label_field l) (html_escaped l ++ codes "?")
+
+abbrev pub mark_forms : Text → List MarkedTerm → Text
+mark_forms path [] = []
+mark_forms path (m ∷ ms) = mark_form path m.label m.sign ++ mark_forms path ms
+
 -- what is shown of a node, at a path
 abbrev pub shape_fragment : Text → ShapeTerm → Text
 shape_fragment path (edit_shape b v) = editor_text path (codes "edit") b (shown_value b v)
 shape_fragment path (enter_shape b) = editor_text path (codes "enter") b []
 shape_fragment path (share_shape b v) = editor_text path (codes "share") b (shown_value b v)
 shape_fragment path then_shape = paragraph (path ++ codes " then")
-shape_fragment path (step_shape s) = paragraph (path ++ codes " step") ++ sign_form path (codes "next") s
+shape_fragment path (step_shape ms) = paragraph (path ++ codes " step") ++ mark_forms path ms
 shape_fragment path fail_shape = paragraph (path ++ codes " fail")
 shape_fragment path and_shape = paragraph (path ++ codes " and")
 shape_fragment path or_shape = paragraph (path ++ codes " or")

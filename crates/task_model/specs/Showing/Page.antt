@@ -1,8 +1,9 @@
 -- The terminal page (docs/FORMATS.md, "Pages").
-use Rattle.std.specs.Prelude.{ℕ, List, [], ◌∷◌, ◌++◌, codes, decimal}
-use Rattle.task_model.specs.Terms.Text.{Text}
+use Rattle.std.specs.Prelude.{ℕ, Bool, true, false, List, [], ◌∷◌, ◌++◌, codes, decimal}
+use Rattle.task_model.specs.Terms.Text.{Text, is_default_label}
+use Rattle.task_model.specs.Terms.Value.{text_value}
 use Rattle.task_model.specs.Syntax.Literal.{basic_text, value_text}
-use Rattle.task_model.specs.Showing.Widget.{ShapeTerm, edit_shape, enter_shape, share_shape, then_shape, step_shape, fail_shape, and_shape, or_shape, pick_shape, WidgetTerm}
+use Rattle.task_model.specs.Showing.Widget.{MarkedTerm, ShapeTerm, edit_shape, enter_shape, share_shape, then_shape, step_shape, fail_shape, and_shape, or_shape, pick_shape, WidgetTerm}
 use Rattle.task_model.specs.declared.input.Turn.{Turn}
 use Rattle.task_model.specs.declared.input.Turn.TheVariants as turns
 use Rattle.task_model.specs.declared.widget.Sign.{Sign}
@@ -24,12 +25,31 @@ sign_text word signs.No = []
 sign_text word signs.Yes = codes " " ++ word
 sign_text word signs.Over = codes " " ++ word ++ codes "?"
 
+-- what stands behind `next` for a label: nothing for the default one, and else a space and the label's literal
+abbrev pub unless_default : Bool → Text → Text
+unless_default true l = []
+unless_default false l = codes " " ++ value_text (text_value l)
+
+abbrev pub label_text : Text → Text
+label_text l = unless_default (is_default_label l) l
+
+-- a mark where it is offered
+abbrev pub mark_text : Text → Sign → Text
+mark_text l signs.No = []
+mark_text l signs.Yes = codes " next" ++ label_text l
+mark_text l signs.Over = codes " next?" ++ label_text l
+
+-- the marks of a user step that are offered, in order
+abbrev pub marks_text : List MarkedTerm → Text
+marks_text [] = []
+marks_text (m ∷ ms) = mark_text m.label m.sign ++ marks_text ms
+
 abbrev pub shape_text : ShapeTerm → Text
 shape_text (edit_shape b v) = codes " edit " ++ basic_text b ++ codes " " ++ value_text v
 shape_text (enter_shape b) = codes " enter " ++ basic_text b
 shape_text (share_shape b v) = codes " share " ++ basic_text b ++ codes " " ++ value_text v
 shape_text then_shape = codes " then"
-shape_text (step_shape s) = codes " step" ++ sign_text (codes "next") s
+shape_text (step_shape ms) = codes " step" ++ marks_text ms
 shape_text fail_shape = codes " fail"
 shape_text and_shape = codes " and"
 shape_text or_shape = codes " or"

@@ -1,24 +1,40 @@
 -- The interface of a tree (docs/RULES.md, "Interfaces").
 use Rattle.std.specs.Prelude.{◌≡◌, ℕ, List, [], ◌∷◌, ◌++◌, map, slice_get, unwrap_or}
+use Rattle.task_model.specs.Terms.Text.{Text}
 use Rattle.task_model.specs.Terms.Basic.{BasicTerm, basic_term}
 use Rattle.task_model.specs.Terms.Value.{ValueTerm, unit_value, value_term}
-use Rattle.task_model.specs.Terms.Tree.{TreeTerm, edit_tree, enter_tree, share_tree, then_tree, next_tree, fail_tree, and_tree, or_tree, xor_tree}
+use Rattle.task_model.specs.Terms.Tree.{BranchTerm, TreeTerm, edit_tree, enter_tree, share_tree, then_tree, next_tree, fail_tree, and_tree, or_tree, xor_tree}
 use Rattle.task_model.specs.Running.Checked.{CheckedTerm}
 use Rattle.task_model.specs.Running.Rules.{value_of}
-use Rattle.task_model.specs.Running.Sign.{IsSideSign, IsStepSign}
+use Rattle.task_model.specs.Running.Sign.{IsSideSign, AreSigns}
 use Rattle.task_model.specs.declared.input.Turn.{Turn}
 use Rattle.task_model.specs.declared.input.Turn.TheVariants as turns
 use Rattle.task_model.specs.declared.widget.Sign.{Sign}
+use Rattle.task_model.specs.declared.widget.Marked.{Marked}
 use Rattle.task_model.specs.declared.widget.Shape.{Shape}
 use Rattle.task_model.specs.declared.widget.Shape.TheVariants as shapes
 use Rattle.task_model.specs.declared.widget.Widget.{Widget}
+
+-- a mark of a user step: a branch's label, and its sign
+pub record MarkedTerm : Type 0 where
+  pub label : Text
+  pub sign : Sign
+
+-- a mark as a plain term
+abbrev pub marked_term : Marked → MarkedTerm
+marked_term m = record { label = m.label; sign = m.sign }
+
+-- the marks of a user step, one for each branch in order
+abbrev pub step_marks : List BranchTerm → List Sign → List MarkedTerm
+step_marks (b ∷ bs) (s ∷ ss) = record { label = b.label; sign = s } ∷ step_marks bs ss
+step_marks bs ss = []
 
 pub data ShapeTerm : Type 0 where
   edit_shape : BasicTerm → ValueTerm → ShapeTerm
   enter_shape : BasicTerm → ShapeTerm
   share_shape : BasicTerm → ValueTerm → ShapeTerm
   then_shape : ShapeTerm
-  step_shape : Sign → ShapeTerm
+  step_shape : List MarkedTerm → ShapeTerm
   fail_shape : ShapeTerm
   and_shape : ShapeTerm
   or_shape : ShapeTerm
@@ -29,7 +45,7 @@ shape_term (shapes.Edit b v) = edit_shape (basic_term b) (value_term v)
 shape_term (shapes.Enter b) = enter_shape (basic_term b)
 shape_term (shapes.Share b v) = share_shape (basic_term b) (value_term v)
 shape_term shapes.Then = then_shape
-shape_term (shapes.Step s) = step_shape s
+shape_term (shapes.Step ms) = step_shape (map marked_term ms.list)
 shape_term shapes.Fail = fail_shape
 shape_term shapes.And = and_shape
 shape_term shapes.Or = or_shape
@@ -65,8 +81,9 @@ module _ (c : CheckedTerm) (budget : ℕ) where
   AreWidgets (enter_tree b) σ ws = ws ≡ here (enter_shape b) ∷ []
   AreWidgets (share_tree b n) σ ws = ws ≡ here (share_shape b (stored σ n)) ∷ []
   AreWidgets (then_tree t k) σ ws = (us : List WidgetTerm) × AreWidgets t σ us × (ws ≡ here then_shape ∷ us)
-  AreWidgets (next_tree t k) σ ws =
-      (s : Sign) × (us : List WidgetTerm) × IsStepSign c budget (value_of t σ) k σ s × AreWidgets t σ us × (ws ≡ here (step_shape s) ∷ us)
+  AreWidgets (next_tree t bs) σ ws =
+      (ss : List Sign) × (us : List WidgetTerm) × AreSigns c budget (value_of t σ) bs σ ss × AreWidgets t σ us
+      × (ws ≡ here (step_shape (step_marks bs ss)) ∷ us)
   AreWidgets fail_tree σ ws = ws ≡ here fail_shape ∷ []
   AreWidgets (and_tree t u) σ ws =
       (xs : List WidgetTerm) × (ys : List WidgetTerm) × AreWidgets t σ xs × AreWidgets u σ ys × (ws ≡ here and_shape ∷ both_widgets xs ys)

@@ -1,6 +1,6 @@
 -- What parses stand for (docs/LANGUAGE.md, "Expressions", "Tasks", "Bodies").
 use Rattle.std.specs.Prelude.{ℕ, pos, suc, ◌+◌, None, Some, List, [], ◌∷◌, ◌++◌, map}
-use Rattle.task_model.specs.Terms.Text.{Text}
+use Rattle.task_model.specs.Terms.Text.{Text, default_label}
 use Rattle.task_model.specs.Terms.Token.{number_from}
 use Rattle.task_model.specs.Terms.Basic.{BasicTerm}
 use Rattle.task_model.specs.Terms.Basic as types
@@ -153,7 +153,8 @@ meaning (task_new p x q r e s t) = λ next. tasks.new_task x (meaning e) (meanin
 meaning (task_put x p q e r t) = λ next. tasks.put_task x (meaning e) (meaning t next)
 meaning (task_plain t) = meaning t
 meaning (task_then t p x q r u) = λ next. tasks.then_task (meaning t next) (next + bodies t)
-meaning (task_next t p x q r u) = λ next. tasks.next_task (meaning t next) (next + bodies t)
+meaning (task_next t p x q r u) = λ next.
+    tasks.next_task (meaning t next) (record { label = default_label; body = next + bodies t } ∷ [])
 meaning (task_edit p e) = λ next. tasks.edit (meaning e)
 meaning (task_enter p b) = λ next. tasks.enter (meaning b)
 meaning (task_share p x q) = λ next. tasks.share x

@@ -1,7 +1,7 @@
 -- The text that a program is written as, with the fewest parentheses (docs/LANGUAGE.md, "Printing").
 use Rattle.std.specs.Prelude.{ℕ, suc, ◌==◌, nat_lt, Option, None, Some, List, [], ◌∷◌, ◌++◌, codes, if◌then◌else◌}
 use Rattle.std.specs.Fmt.{signed_decimal}
-use Rattle.task_model.specs.Terms.Text.{Text}
+use Rattle.task_model.specs.Terms.Text.{Text, is_default_label}
 use Rattle.task_model.specs.Terms.Basic.{BasicTerm, unit_type, bool_type, int_type, text_type, pair_type, list_type}
 use Rattle.task_model.specs.Terms.Value.{text_value}
 use Rattle.task_model.specs.Syntax.Literal.{bool_text, value_text}
@@ -9,7 +9,7 @@ use Rattle.task_model.specs.Terms.Host.{HostTerm, unit_expr, bool_expr, int_expr
 use Rattle.task_model.specs.declared.host.Op.{Op}
 use Rattle.task_model.specs.declared.host.Op.TheVariants as ops
 use Rattle.task_model.specs.Syntax.Grammar.{Form, program, definition, parameter, basic, task, task_atom, expression, comparison, listed, operand, atom, series, enclosed, list, choice, chain, either, both, sum, product}
-use Rattle.task_model.specs.Terms.Task.{TaskTerm, edit, enter, share, fail, call_task, then_task, next_task, and_task, or_task, xor_task, let_task, if_task, case_task, new_task, put_task, BodyTerm}
+use Rattle.task_model.specs.Terms.Task.{ChoiceTerm, TaskTerm, edit, enter, share, fail, call_task, then_task, next_task, and_task, or_task, xor_task, let_task, if_task, case_task, new_task, put_task, BodyTerm}
 use Rattle.task_model.specs.Terms.Program.{KindTerm, plain_kind, ref_kind, ParamTerm, DefBodyTerm, fun_body, task_body, DefTerm, ProgramTerm}
 
 -- ---- parentheses
@@ -199,7 +199,7 @@ task_rank (and_task t u) = place (series chain)
 task_rank (or_task t u) = place (series choice)
 task_rank (xor_task i j) = place (series choice)
 task_rank (then_task t i) = place task
-task_rank (next_task t i) = place task
+task_rank (next_task t cs) = place task
 task_rank (let_task x e t) = place task
 task_rank (if_task e t u) = place task
 task_rank (case_task e t x y u) = place task
@@ -232,6 +232,26 @@ body_at place b = placed place b.rank b.tokens
 abbrev pub step_tokens : BodyText → List Text
 step_tokens b = b.binder ∷ codes "." ∷ body_at (place task) b
 
+-- a choice of a label over a body
+abbrev pub choice_tokens : Text → BodyText → List Text
+choice_tokens l b = value_text (text_value l) ∷ step_tokens b
+
+-- choices with commas between them, where the bodies that they may name begin with this number
+abbrev pub choices_tokens : ℕ → List BodyText → List ChoiceTerm → List Text
+choices_tokens first bs [] = []
+choices_tokens first bs (c ∷ []) = choice_tokens c.label (body_numbered first bs c.body)
+choices_tokens first bs (c ∷ (d ∷ cs)) = choice_tokens c.label (body_numbered first bs c.body) ++ codes "," ∷ choices_tokens first bs (d ∷ cs)
+
+-- choices in braces
+abbrev pub braced_tokens : ℕ → List BodyText → List ChoiceTerm → List Text
+braced_tokens first bs cs = codes "{" ∷ choices_tokens first bs cs ++ codes "}" ∷ []
+
+-- what stands behind a user step: a single choice labelled `next` has neither label nor braces
+abbrev pub continued_tokens : ℕ → List BodyText → List ChoiceTerm → List Text
+continued_tokens first bs (c ∷ []) =
+    if is_default_label c.label then step_tokens (body_numbered first bs c.body) else braced_tokens first bs (c ∷ [])
+continued_tokens first bs cs = braced_tokens first bs cs
+
 -- the tokens of a task by its own production, where the bodies that it may name begin with this number
 abbrev pub task_tokens : ℕ → List BodyText → TaskTerm → List Text
 task_tokens first bs (edit e) = codes "edit" ∷ expression_at (place atom) e
@@ -241,8 +261,8 @@ task_tokens first bs (fail b) = codes "fail" ∷ basic_tokens b
 task_tokens first bs (call_task f es) = f ∷ codes "(" ∷ listed_tokens (as_exprs es) ++ codes ")" ∷ []
 task_tokens first bs (then_task t i) =
     placed (place (series choice)) (task_rank t) (task_tokens first bs t) ++ codes ">>=" ∷ step_tokens (body_numbered first bs i)
-task_tokens first bs (next_task t i) =
-    placed (place (series choice)) (task_rank t) (task_tokens first bs t) ++ codes ">>?" ∷ step_tokens (body_numbered first bs i)
+task_tokens first bs (next_task t cs) =
+    placed (place (series choice)) (task_rank t) (task_tokens first bs t) ++ codes ">>?" ∷ continued_tokens first bs cs
 task_tokens first bs (and_task t u) = placed (place (series chain)) (task_rank t) (task_tokens first bs t) ++ codes "<&>"
     ∷ placed (place task_atom) (task_rank u) (task_tokens first bs u)
 task_tokens first bs (or_task t u) = placed (place (series choice)) (task_rank t) (task_tokens first bs t) ++ codes "<|>"

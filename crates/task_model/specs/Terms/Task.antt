@@ -5,7 +5,17 @@ use Rattle.task_model.specs.Terms.Basic.{BasicTerm, basic_term}
 use Rattle.task_model.specs.Terms.Host.{HostTerm, host_term}
 use Rattle.task_model.specs.Terms.Scope.{scope_names}
 use Rattle.task_model.specs.declared.task.Body.{Body}
+use Rattle.task_model.specs.declared.task.Choice.{Choice}
 use Rattle.task_model.specs.declared.task.Task as task
+
+-- a choice of a user step: its label, and the number of the body that it goes on with
+pub record ChoiceTerm : Type 0 where
+  pub label : Text
+  pub body : ℕ
+
+-- a choice as a plain term
+abbrev pub choice_term : Choice → ChoiceTerm
+choice_term c = record { label = c.label; body = c.body }
 
 pub data TaskTerm : Type 0 where
   edit : HostTerm → TaskTerm
@@ -14,7 +24,7 @@ pub data TaskTerm : Type 0 where
   fail : BasicTerm → TaskTerm
   call_task : Text → List HostTerm → TaskTerm
   then_task : TaskTerm → ℕ → TaskTerm
-  next_task : TaskTerm → ℕ → TaskTerm
+  next_task : TaskTerm → List ChoiceTerm → TaskTerm
   and_task : TaskTerm → TaskTerm → TaskTerm
   or_task : TaskTerm → TaskTerm → TaskTerm
   xor_task : ℕ → ℕ → TaskTerm
@@ -32,7 +42,7 @@ task_term (task.Share x) = share x
 task_term (task.Fail b) = fail (basic_term b)
 task_term (task.Call f es) = call_task f (map host_term es.list)
 task_term (task.Then' p t i) = then_task (task_term t) i
-task_term (task.Next' p t i) = next_task (task_term t) i
+task_term (task.Next' p t cs) = next_task (task_term t) (map choice_term cs.list)
 task_term (task.And' p t q u) = and_task (task_term t) (task_term u)
 task_term (task.Or' p t q u) = or_task (task_term t) (task_term u)
 task_term (task.Xor i j) = xor_task i j
