@@ -1,6 +1,7 @@
 use crate::basic::Basic;
 use crate::env::Slot;
 use crate::row::Row;
+use crate::text::TaskText;
 use crate::value::Value;
 use std::sync::Arc;
 
@@ -18,6 +19,13 @@ pub struct Delay {
     pub slots: Arc<Row<Slot>>,
 }
 
+/// A branch of a user step: its label, and the right side that the step goes on with by it.
+#[derive(Drop)]
+pub struct Branch {
+    pub label: TaskText,
+    pub cont: Cont,
+}
+
 /// A task that is under way. Its copies share their parts.
 #[derive(Drop)]
 pub enum Tree {
@@ -25,7 +33,7 @@ pub enum Tree {
     Enter(Basic),
     Share(Basic, u64),
     Then(Arc<Tree>, Cont),
-    Next(Arc<Tree>, Cont),
+    Next(Arc<Tree>, Arc<Row<Branch>>),
     Fail,
     And(Arc<Tree>, Arc<Tree>),
     Or(Arc<Tree>, Arc<Tree>),

@@ -42,9 +42,9 @@ pub fn copy_tree(t: &Tree) -> Result<Tree, OutOfMemory>
             let left = share(left)?;
             Ok(Tree::Then(left, copy_cont(k)?))
         }
-        Tree::Next(left, k) => {
+        Tree::Next(left, branches) => {
             let left = share(left)?;
-            Ok(Tree::Next(left, copy_cont(k)?))
+            Ok(Tree::Next(left, share(branches)?))
         }
         Tree::Fail => Ok(Tree::Fail),
         Tree::And(first, second) => {

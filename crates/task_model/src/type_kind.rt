@@ -25,6 +25,10 @@ pub enum TypeKind {
     Unguarded,
     /// More names would be in scope than may be.
     TooManyNames,
+    /// The step has more choices than a step may have.
+    TooManyLabels,
+    /// A choice's label has no byte, or too many of them.
+    BadLabel,
     /// The node's type has more symbols than a type may have.
     BigType,
     /// There is no task `main`.

@@ -1,5 +1,7 @@
 use crate::basic::Basic;
 use crate::input::Path;
+use crate::row::Row;
+use crate::text::TaskText;
 use crate::value::Value;
 
 /// Whether a step or a side is offered: it isn't, it is, or its test went over the budget.
@@ -10,6 +12,13 @@ pub enum Sign {
     Over,
 }
 
+/// A mark of a user step: a branch's label, and its sign.
+#[derive(Drop)]
+pub struct Marked {
+    pub label: TaskText,
+    pub sign: Sign,
+}
+
 /// What is shown of a node.
 #[derive(Drop)]
 pub enum Shape {
@@ -17,7 +26,7 @@ pub enum Shape {
     Enter(Basic),
     Share(Basic, Value),
     Then,
-    Step(Sign),
+    Step(Row<Marked>),
     Fail,
     And,
     Or,
