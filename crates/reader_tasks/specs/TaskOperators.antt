@@ -2,8 +2,8 @@
 use Rattle.std.specs.Prelude.{ℕ, [], ◌∷◌}
 use Rattle.reader_tasks.specs.declared.binding.Binding.{Binding}
 use Rattle.reader_tasks.specs.declared.binding.Binding.TheVariants as bindings
-use Rattle.reader_tasks.specs.declared.choice.Choice.{Choice}
-use Rattle.reader_tasks.specs.declared.choice.Choice.TheVariants as choices
+use Rattle.reader_tasks.specs.declared.choice.Chooser.{Chooser}
+use Rattle.reader_tasks.specs.declared.choice.Chooser.TheVariants as choices
 use Rattle.reader_tasks.specs.declared.step.Step.{Step}
 use Rattle.reader_tasks.specs.declared.step.Step.TheVariants as steps
 use Rattle.task_model.specs.Terms.Text.{Text, default_label}
@@ -16,9 +16,9 @@ use Rattle.task_model.specs.Syntax.Grammar as grammar
 use Rattle.task_model.specs.Terms.Task.{TaskTerm, then_task, next_task, let_task, new_task}
 
 -- a choice, as an operator of the grammar
-abbrev pub choice_term : Choice → grammar.Operator grammar.choice
-choice_term choices.Internal = grammar.internal
-choice_term choices.External = grammar.external
+abbrev pub chooser_operator : Chooser → grammar.Operator grammar.choice
+chooser_operator choices.Internal = grammar.internal
+chooser_operator choices.External = grammar.external
 
 -- the symbol of a step
 abbrev pub step_symbol : Step → Symbol

@@ -3,10 +3,10 @@ ghost use Rattle.task_model.specs.Terms.Task as tasks;
 ghost use Rattle.task_model.specs.Terms.Scope.{scope_names};
 ghost use Rattle.reader_grammar.specs.Parts.{parts_term, over_two};
 ghost use Rattle.reader_tasks.specs.Numbers.{IsNumberedBelow, IsBodyNumberedBelow};
-ghost use Rattle.reader_tasks.specs.TaskOperators.{choice_term};
+ghost use Rattle.reader_tasks.specs.TaskOperators.{chooser_operator};
 ghost use Rattle.reader_tasks.specs.Tasks.{parsed_task, body_part, chosen_task, followed_task};
 
-use crate::choice::Choice;
+use crate::choice::Chooser;
 use crate::numbers::{number_behind, renumbered_task};
 use crate::step::Step;
 use exact_reading::ParseStop;
@@ -54,7 +54,7 @@ pub fn choice_task(
     scope: &Scope,
     next: u32,
     left: Parsed<Task>,
-    choice: Choice,
+    choice: Chooser,
     right: Parsed<Task>,
 ) -> Result<Parsed<Task>, ParseStop>
     requires left { left.levels + 1 < 2 ^ 64 }
@@ -62,17 +62,17 @@ pub fn choice_task(
     requires numbers { suc (next + length (parsed_task left).bodies) < 2 ^ 32 }
     requires term { IsNumberedBelow 4294967295 (parsed_task left).term }
     requires bodies { All (IsBodyNumberedBelow 4294967295) (parsed_task left).bodies }
-    ensures shown { IfOk result (λ r. parsed_task r ≡ chosen_task (scope_names scope.now) next (choice_term choice) (parsed_task left)
+    ensures shown { IfOk result (λ r. parsed_task r ≡ chosen_task (scope_names scope.now) next (chooser_operator choice) (parsed_task left)
         (parsed_task right)) }
     ensures memory { IfErr result (λ e. e ≡ ParseStop.Memory) }
 {
     let start = left.start;
     match choice {
-        Choice::Internal => {
+        Chooser::Internal => {
             let (left, right, parts) = left.beside(right)?;
             parts.node(alloc, Task::Or(left, right), start)
         }
-        Choice::External => {
+        Chooser::External => {
             let other = number_behind(next, &left) + 1;
             let parts = body_of(scope, None, renumbered_task(left))?;
             let others = body_of(scope, None, right)?;

@@ -16,7 +16,7 @@ pub use binders::{binding_task, put_task};
 pub use binding::{Binding, binding_word};
 pub use bodies::{and_task, choice_task, step_task};
 pub use branches::{case_task, if_task};
-pub use choice::{Choice, choice_sign};
+pub use choice::{Chooser, choice_sign};
 pub use numbers::{number_behind, number_of_choice, number_of_step};
 pub use scopes::{inner_scope, parameter_scope};
 pub use step::{Step, step_sign};

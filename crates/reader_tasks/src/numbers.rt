@@ -1,10 +1,10 @@
 ghost use Rattle.std.specs.Prelude.{◌≡◌, ◌+◌, ◌<◌, ◌^◌, suc, length, map, All};
 ghost use Rattle.task_model.specs.Terms.Task.{task_term, body_term};
 ghost use Rattle.reader_tasks.specs.Numbers.{renumbered, body_renumbered, parsed_renumbered, IsNumberedBelow, IsBodyNumberedBelow};
-ghost use Rattle.reader_tasks.specs.TaskOperators.{choice_term};
+ghost use Rattle.reader_tasks.specs.TaskOperators.{chooser_operator};
 ghost use Rattle.reader_tasks.specs.Tasks.{parsed_task, choice_number};
 
-use crate::choice::Choice;
+use crate::choice::Chooser;
 use reader_grammar::Parsed;
 use task_model::{Body, Task};
 
@@ -96,12 +96,12 @@ pub fn number_of_step(next: u32, task: &Parsed<Task>) -> u32
 }
 
 /// The number of the first body in the right side of a choice: where both sides are bodies, they have numbers too.
-pub fn number_of_choice(next: u32, left: &Parsed<Task>, choice: Choice) -> u32
-    requires { choice_number (choice_term choice) next (length (parsed_task left.now).bodies) < 2 ^ 32 }
-    ensures { result ≡ choice_number (choice_term choice) next (length (parsed_task left.now).bodies) }
+pub fn number_of_choice(next: u32, left: &Parsed<Task>, choice: Chooser) -> u32
+    requires { choice_number (chooser_operator choice) next (length (parsed_task left.now).bodies) < 2 ^ 32 }
+    ensures { result ≡ choice_number (chooser_operator choice) next (length (parsed_task left.now).bodies) }
 {
     match choice {
-        Choice::Internal => number_behind(next, left),
-        Choice::External => number_behind(next, left) + 2,
+        Chooser::Internal => number_behind(next, left),
+        Chooser::External => number_behind(next, left) + 2,
     }
 }

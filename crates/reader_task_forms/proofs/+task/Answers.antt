@@ -9,7 +9,7 @@ use Rattle.reader_grammar.proofs.RuleLemmas.{by_rule, too_deep}
 use Rattle.reader_grammar.proofs.PartlyRead.{begun, past_one, past_part, stop_one, stop_part, whole}
 use Rattle.task_model.specs.Terms.Scope.{scope_names}
 use Rattle.reader_tasks.specs.Tasks.{parsed_task, shown_task, shown_atom, shown_chain, shown_choice}
-use Rattle.reader_tasks.specs.TaskOperators.{choice_term}
+use Rattle.reader_tasks.specs.TaskOperators.{chooser_operator}
 use Rattle.reader_expressions.proofs.ReadingLemmas.{counted_at, at_reading}
 use Rattle.exact_reading.proofs.Whole.{rest_within}
 use Rattle.reader_task_forms.proofs.ReadingLemmas.{onto_language, read_past}
@@ -455,7 +455,7 @@ series::choice-returns-then-left-room t c =
     let full : c.args.room < 1 + c.loop-choice.left.levels = omega arith in
     rw c.too_nested.ensures
     (counted_at _ (loops.no_room choice (shown_choice (scope_names c.args.scope.now) c.args.next) c.loop-choice.invariant
-    (choice_term c.in-Some.choice) c.in-Some.field-0-1 c.in-Some.ensures (λ q. q.levels) (λ d. refl) full))
+    (chooser_operator c.in-Some.choice) c.in-Some.field-0-1 c.in-Some.ensures (λ q. q.levels) (λ d. refl) full))
 
 pub series::choice-returns-in_err-right : goal.series::choice-returns-in_err-right
 series::choice-returns-in_err-right t c =
@@ -464,7 +464,7 @@ series::choice-returns-in_err-right t c =
     let show = shown_choice (scope_names c.args.scope.now) c.args.next in
     let enough = loops.enough choice show c.loop-choice.invariant (λ q. q.levels) (λ d. refl) le in
     rw (handed_on c.from_residual-in_err-right.result c.from_residual-in_err-right.ensures.1)
-    (loops.next_stop choice show c.loop-choice.invariant (choice_term c.in-Some.choice) c.in-Some.field-0-1 c.in-Some.ensures
+    (loops.next_stop choice show c.loop-choice.invariant (chooser_operator c.in-Some.choice) c.in-Some.field-0-1 c.in-Some.ensures
     up enough
     (shown_chain (scope_names c.args.scope.now) c.number_of_choice-number.result) c.in_err-right.ensures)
 
@@ -474,16 +474,16 @@ series::choice-loop-choice-preserved t c =
     let up : 1 + (c.args.room - 1) ≡ c.args.room = omega (arith, le) in
     let show = shown_choice (scope_names c.args.scope.now) c.args.next in
     let enough = loops.enough choice show c.loop-choice.invariant (λ q. q.levels) (λ d. refl) le in
-    loops.next choice show c.loop-choice.invariant (choice_term c.in-Some.choice) c.in-Some.field-0-1 c.in-Some.ensures up enough
+    loops.next choice show c.loop-choice.invariant (chooser_operator c.in-Some.choice) c.in-Some.field-0-1 c.in-Some.ensures up enough
     (λ x y ex ey.
-    shows.choice_shown (scope_names c.args.scope.now) c.args.next x (choice_term c.in-Some.choice) c.in-Some.field-0-1 y
+    shows.choice_shown (scope_names c.args.scope.now) c.args.next x (chooser_operator c.in-Some.choice) c.in-Some.field-0-1 y
     c.number_of_choice-number.ensures ex ey ∙ sym c.in_ok-left-2.ensures.shown)
     c.in_ok-right.ensures
 
 pub series::choice-loop-choice-smaller : goal.series::choice-loop-choice-smaller
 series::choice-loop-choice-smaller t c =
     let lt : c.loop-choice.left.levels < c.args.room = omega arith in
-    let more = sym (shows.chosen_levels (scope_names c.args.scope.now) c.args.next (choice_term c.in-Some.choice) _ _)
+    let more = sym (shows.chosen_levels (scope_names c.args.scope.now) c.args.next (chooser_operator c.in-Some.choice) _ _)
     ∙ ap (λ q. q.levels) (sym c.in_ok-left-2.ensures.shown) in
     omega (arith, lt, more)
 
@@ -602,7 +602,7 @@ pub series::choice-number_of_choice-number-requires : goal.series::choice-number
 series::choice-number_of_choice-number-requires t c =
     let read = choice_going (scope_names c.args.scope.now) c.args.next c.loop-choice.invariant in
     let one = ap length c.in-Some.ensures in
-    let most = choice_number_most (choice_term c.in-Some.choice) c.args.next (length (parsed_task c.loop-choice.left).bodies) in
+    let most = choice_number_most (chooser_operator c.in-Some.choice) c.args.next (length (parsed_task c.loop-choice.left).bodies) in
     let few = c.requires in
     omega (arith, read, one, most, few)
 
@@ -610,7 +610,7 @@ pub series::choice-chain-requires-in-Some : goal.series::choice-chain-requires-i
 series::choice-chain-requires-in-Some t c =
     let read = choice_going (scope_names c.args.scope.now) c.args.next c.loop-choice.invariant in
     let one = ap length c.in-Some.ensures in
-    let most = choice_number_most (choice_term c.in-Some.choice) c.args.next (length (parsed_task c.loop-choice.left).bodies) in
+    let most = choice_number_most (chooser_operator c.in-Some.choice) c.args.next (length (parsed_task c.loop-choice.left).bodies) in
     let number_is = c.number_of_choice-number.ensures in
     let few = c.requires in
     omega (arith, read, one, most, number_is, few)
