@@ -10,12 +10,12 @@ use Rattle.observe_inputs.specs.OffersFollow.{OffersFollow}
 use Rattle.node_rows.specs.Rows.{SignsTerm, untested, widget_signs}
 
 -- the signs of the first node
-abbrev pub head_signs : List SignsTermTerm → SignsTerm
+abbrev pub head_signs : List SignsTerm → SignsTerm
 head_signs [] = untested
 head_signs (s ∷ rest) = s
 
 -- the signs of a tree's nodes, and then others
-pub record SignsLead (c : CheckedTerm) (budget : ℕ) (t : TreeTerm) (σ : List ValueTerm) (signs others : List SignsTermTerm) : Type 0 where
+pub record SignsLead (c : CheckedTerm) (budget : ℕ) (t : TreeTerm) (σ : List ValueTerm) (signs others : List SignsTerm) : Type 0 where
   pub own : List WidgetTerm
   pub are : AreWidgets c budget t σ own
   pub first : signs ≡ map widget_signs own ++ others

@@ -1,5 +1,5 @@
 -- Tasks and bodies whose bodies all have the next number.
-use Rattle.std.specs.Prelude.{ℕ, suc, ◌<◌, List, map}
+use Rattle.std.specs.Prelude.{ℕ, suc, ◌<◌, map}
 use Rattle.std.specs.List.{All}
 use Rattle.task_model.specs.Terms.Task.{ChoiceTerm, TaskTerm, edit, enter, share, fail, call_task, then_task, next_task, and_task, or_task, xor_task, let_task, if_task, case_task, new_task, put_task, BodyTerm}
 use Rattle.reader_grammar.specs.Parts.{ParsedTerm}
