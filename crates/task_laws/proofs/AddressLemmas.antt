@@ -106,15 +106,15 @@ module _ (c : CheckedTerm) where
           subst (λ p. Does p r n h) (sym plan) (rebuilds_out (handled c part σ rest act) f r inner n h d (w.2 ∙ sym (built w.0)))
 
   -- a user step at which the act doesn't stop passes it on
-  passed_on : (t : TreeTerm) (k : LaterTerm) (σ : List ValueTerm) (path : List Turn) (act : ActTerm) (a : Address)
-      → stopped path act (value_of t σ) ≡ None → address_of (next_tree t k) σ path act ≡ Some a
-      → ((b : Address) → address_of t σ path act ≡ Some b → ActsAt c t σ path act b) → ActsAt c (next_tree t k) σ path act a
-  passed_on t k σ path act a f e inner =
+  passed_on : (t : TreeTerm) (bs : List BranchTerm) (σ : List ValueTerm) (path : List Turn) (act : ActTerm) (a : Address)
+      → stopped path act (value_of t σ) ≡ None → address_of (next_tree t bs) σ path act ≡ Some a
+      → ((b : Address) → address_of t σ path act ≡ Some b → ActsAt c t σ path act b) → ActsAt c (next_tree t bs) σ path act a
+  passed_on t bs σ path act a f e inner =
       let g = subst (λ o. address_at_step o (further_down into_left (address_of t σ path act)) ≡ Some a) f e in
       let w = below_some into_left (address_of t σ path act) a g in
-      let down = rebuilds (handled c t σ path act) (λ u. next_tree u k) in
-      subst (λ z. ActsAt c (next_tree t k) σ path act z) (sym w.2)
-      (acts_below (next_tree t k) t σ path path act (into_left ∷ w.0) w.0 (λ u. next_tree u k) (ap (λ o. at_step c o (branch_for act k) σ down) f) refl
+      let down = rebuilds (handled c t σ path act) (λ u. next_tree u bs) in
+      subst (λ z. ActsAt c (next_tree t bs) σ path act z) (sym w.2)
+      (acts_below (next_tree t bs) t σ path path act (into_left ∷ w.0) w.0 (λ u. next_tree u bs) (ap (λ o. at_step c o (branch_for act bs) σ down) f) refl
       (λ u. refl)
       (inner w.0 w.1))
 
@@ -136,13 +136,13 @@ module _ (c : CheckedTerm) where
   at_root t σ act a e = let same : [] ≡ a = cc in subst (λ z. ActsAt c t σ [] act z) same (acts_here t σ act)
 
   -- a Next act at a user step, where its left has a value and where it has none
-  by_value : (l : Text) (t : TreeTerm) (k : LaterTerm) (σ : List ValueTerm) (a : Address) (o : Option ValueTerm) → value_of t σ ≡ o
-      → address_of (next_tree t k) σ [] (next_act l) ≡ Some a
-      → ((b : Address) → address_of t σ [] (next_act l) ≡ Some b → ActsAt c t σ [] (next_act l) b) → ActsAt c (next_tree t k) σ [] (next_act l) a
-  by_value l t k σ a (Some v) f e inner =
-      at_root (next_tree t k) σ (next_act l) a
+  by_value : (l : Text) (t : TreeTerm) (bs : List BranchTerm) (σ : List ValueTerm) (a : Address) (o : Option ValueTerm) → value_of t σ ≡ o
+      → address_of (next_tree t bs) σ [] (next_act l) ≡ Some a
+      → ((b : Address) → address_of t σ [] (next_act l) ≡ Some b → ActsAt c t σ [] (next_act l) b) → ActsAt c (next_tree t bs) σ [] (next_act l) a
+  by_value l t bs σ a (Some v) f e inner =
+      at_root (next_tree t bs) σ (next_act l) a
       (subst (λ o. address_at_step o (further_down into_left (address_of t σ [] (next_act l))) ≡ Some a) f e)
-  by_value l t k σ a None f e inner = passed_on t k σ [] (next_act l) a f e inner
+  by_value l t bs σ a None f e inner = passed_on t bs σ [] (next_act l) a f e inner
 
   -- where an address is found, the input acts there
   pub acts_at_address : (t : TreeTerm) (σ : List ValueTerm) (path : List Turn) (act : ActTerm) (a : Address)
@@ -166,13 +166,13 @@ module _ (c : CheckedTerm) where
   acts_at_address (then_tree t k) σ path act a e =
       in_part (then_tree t k) t σ path path act a into_left (λ u. then_tree u k) refl refl (λ b. refl) (λ b u. refl) e
       (λ b f. acts_at_address t σ path act b f)
-  acts_at_address (next_tree t k) σ [] (next_act l) a e =
-      by_value l t k σ a (value_of t σ) refl e (λ b g. acts_at_address t σ [] (next_act l) b g)
-  acts_at_address (next_tree t k) σ [] (set_act v) a e = passed_on t k σ [] (set_act v) a refl e
+  acts_at_address (next_tree t bs) σ [] (next_act l) a e =
+      by_value l t bs σ a (value_of t σ) refl e (λ b g. acts_at_address t σ [] (next_act l) b g)
+  acts_at_address (next_tree t bs) σ [] (set_act v) a e = passed_on t bs σ [] (set_act v) a refl e
       (λ b g. acts_at_address t σ [] (set_act v) b g)
-  acts_at_address (next_tree t k) σ [] left_act a e = passed_on t k σ [] left_act a refl e (λ b g. acts_at_address t σ [] left_act b g)
-  acts_at_address (next_tree t k) σ [] right_act a e = passed_on t k σ [] right_act a refl e (λ b g. acts_at_address t σ [] right_act b g)
-  acts_at_address (next_tree t k) σ (p ∷ path) act a e = passed_on t k σ (p ∷ path) act a refl e
+  acts_at_address (next_tree t bs) σ [] left_act a e = passed_on t bs σ [] left_act a refl e (λ b g. acts_at_address t σ [] left_act b g)
+  acts_at_address (next_tree t bs) σ [] right_act a e = passed_on t bs σ [] right_act a refl e (λ b g. acts_at_address t σ [] right_act b g)
+  acts_at_address (next_tree t bs) σ (p ∷ path) act a e = passed_on t bs σ (p ∷ path) act a refl e
       (λ b g. acts_at_address t σ (p ∷ path) act b g)
   acts_at_address fail_tree σ path act a e = absurd (cc)
   acts_at_address (and_tree t u) σ [] act a e = absurd (cc)
@@ -196,15 +196,15 @@ module _ (c : CheckedTerm) where
   acts_at_address (xor_tree j k) σ (p ∷ path) act a e = absurd (cc)
 
   -- at a user step, where the act stops and where it doesn't
-  by_stop : (t : TreeTerm) (k : LaterTerm) (σ : List ValueTerm) (path : List Turn) (act : ActTerm) (o : Option ValueTerm)
-      → stopped path act (value_of t σ) ≡ o → address_of (next_tree t k) σ path act ≡ None
-      → (address_of t σ path act ≡ None → handled c t σ path act ≡ give None) → handled c (next_tree t k) σ path act ≡ give None
-  by_stop t k σ path act (Some v) f e inner =
+  by_stop : (t : TreeTerm) (bs : List BranchTerm) (σ : List ValueTerm) (path : List Turn) (act : ActTerm) (o : Option ValueTerm)
+      → stopped path act (value_of t σ) ≡ o → address_of (next_tree t bs) σ path act ≡ None
+      → (address_of t σ path act ≡ None → handled c t σ path act ≡ give None) → handled c (next_tree t bs) σ path act ≡ give None
+  by_stop t bs σ path act (Some v) f e inner =
       let g = subst (λ o. address_at_step o (further_down into_left (address_of t σ path act)) ≡ None) f e in absurd (cc)
-  by_stop t k σ path act None f e inner =
+  by_stop t bs σ path act None f e inner =
       let g = subst (λ o. address_at_step o (further_down into_left (address_of t σ path act)) ≡ None) f e in
-      let down = rebuilds (handled c t σ path act) (λ u. next_tree u k) in
-      ap (λ o. at_step c o (branch_for act k) σ down) f ∙ ap (λ p. rebuilds p (λ u. next_tree u k))
+      let down = rebuilds (handled c t σ path act) (λ u. next_tree u bs) in
+      ap (λ o. at_step c o (branch_for act bs) σ down) f ∙ ap (λ p. rebuilds p (λ u. next_tree u bs))
       (inner (below_none into_left (address_of t σ path act) g))
 
   -- where none is found, the input is lacking at once
@@ -227,8 +227,8 @@ module _ (c : CheckedTerm) where
   lacks_without_address (share_tree b n) σ (p ∷ path) act e = refl
   lacks_without_address (then_tree t k) σ path act e =
       ap (λ p. rebuilds p (λ u. then_tree u k)) (lacks_without_address t σ path act (below_none into_left (address_of t σ path act) e))
-  lacks_without_address (next_tree t k) σ path act e =
-      by_stop t k σ path act (stopped path act (value_of t σ)) refl e (λ g. lacks_without_address t σ path act g)
+  lacks_without_address (next_tree t bs) σ path act e =
+      by_stop t bs σ path act (stopped path act (value_of t σ)) refl e (λ g. lacks_without_address t σ path act g)
   lacks_without_address fail_tree σ path act e = refl
   lacks_without_address (and_tree t u) σ [] act e = refl
   lacks_without_address (and_tree t u) σ (turns.First ∷ path) act e =
@@ -279,7 +279,7 @@ turns_of_address (enter_tree b) σ path act a e = turns_at_editor path act a e
 turns_of_address (share_tree b n) σ path act a e = turns_at_editor path act a e
 turns_of_address (then_tree t k) σ path act a e =
     turns_below into_left (address_of t σ path act) a path (λ b f. turns_of_address t σ path act b f) e
-turns_of_address (next_tree t k) σ path act a e =
+turns_of_address (next_tree t bs) σ path act a e =
     turns_at_step path act (value_of t σ) (further_down into_left (address_of t σ path act)) a
     (λ g. turns_below into_left (address_of t σ path act) a path (λ b f. turns_of_address t σ path act b f) g) e
 turns_of_address fail_tree σ path act a e = absurd (cc)

@@ -2,7 +2,6 @@
 use Rattle.std.proofs.Common.{◌≡◌, ◌≤◌, ℕ, Bool, true, false, List, [], ◌++◌, None, refl, sym, ap, ◌∙◌, subst, arith, le_refl}
 use Rattle.std.specs.Option.{option_or}
 use Rattle.task_model.specs.Terms.Basic.{BasicTerm}
-use Rattle.task_model.specs.Terms.Text.{default_label}
 use Rattle.task_model.specs.Terms.Value.{ValueTerm}
 use Rattle.task_model.specs.Terms.Env.{SlotTerm}
 use Rattle.task_model.specs.Terms.Tree.{LaterTerm, TreeTerm, edit_tree, enter_tree, share_tree, then_tree, next_tree, fail_tree, and_tree, or_tree, xor_tree, at}
@@ -10,8 +9,8 @@ use Rattle.task_model.specs.Running.Checked.{CheckedTerm}
 use Rattle.task_model.specs.Running.Plan.{fails, Plan, give, ask, plan_work, Derives}
 use Rattle.task_model.specs.Running.Rules.{branch, paired, value_of, tested, side, fail_rule, rule_of}
 use Rattle.task_model.specs.Running.Judgements.{Fails, IsWithinBudget}
-use Rattle.task_model.specs.Running.Sign.{Test, IsStepSign}
-use Rattle.task_model.specs.Running.Offer.{OfferTerm, next_offer, left_offer, right_offer, offered, both_offers, AreOffers}
+use Rattle.task_model.specs.Running.Sign.{Test, AreSignsFor}
+use Rattle.task_model.specs.Running.Offer.{OfferTerm, next_offer, left_offer, right_offer, offered, step_offers, both_offers, AreOffers}
 use Rattle.task_model.specs.declared.widget.Sign.TheVariants as signs
 use Rattle.task_laws.proofs.PlanLemmas.{work_after, by_rule}
 use Rattle.task_laws.proofs.SignLemmas.{sign_failing}
@@ -134,16 +133,24 @@ both_empty : (os us : List OfferTerm) → os ≡ [] → us ≡ [] → both_offer
 both_empty os us e q = let a = ap (λ z. both_offers z us) e in let b = ap (λ z. both_offers [] z) q in a ∙ b
 
 module _ (c : CheckedTerm) (budget : ℕ) where
+  -- a user step whose left has no value offers nothing itself
+  none_offered : (all bs : List BranchTerm) (σ : List ValueTerm) (ss : List Sign) → AreSignsFor c budget None all bs σ ss
+      → step_offers bs ss ≡ []
+  none_offered all [] σ ss d = refl
+  none_offered all (b ∷ bs) σ [] d = refl
+  none_offered all (b ∷ bs) σ (s ∷ ss) d =
+      ap (λ z. offered (next_offer b.label) z ++ step_offers bs ss) d.0 ∙ none_offered all bs σ ss d.1
+
   no_offers : (t : TreeTerm) (σ : List ValueTerm) → FailsHere c budget 1000 t σ → (os : List OfferTerm) → AreOffers c budget t σ os
       → os ≡ []
   no_offers (edit_tree b v) σ f os h = absurd (edit_stands c budget 1000 b v σ f)
   no_offers (enter_tree b) σ f os h = absurd (enter_stands c budget 1000 b σ f)
   no_offers (share_tree b n) σ f os h = absurd (share_stands c budget 1000 b n σ f)
   no_offers (then_tree t k) σ f os h = no_offers t σ (one_fails c budget 1000 t (then_tree t k) σ refl f) os h
-  no_offers (next_tree t k) σ f os h =
-      let g = one_fails c budget 1000 t (next_tree t k) σ refl f in
-      let none : h.0 ≡ signs.No = subst (λ z. IsStepSign c budget z k σ h.0) (no_value c budget 1000 t σ g) h.2 in
-      h.4 ∙ ap (λ z. offered (next_offer default_label) z ++ h.1) none ∙ no_offers t σ g h.1 h.3
+  no_offers (next_tree t bs) σ f os h =
+      let g = one_fails c budget 1000 t (next_tree t bs) σ refl f in
+      let none = none_offered bs bs σ h.0 (subst (λ z. AreSignsFor c budget z bs bs σ h.0) (no_value c budget 1000 t σ g) h.2) in
+      h.4 ∙ ap (λ z. z ++ h.1) none ∙ no_offers t σ g h.1 h.3
   no_offers fail_tree σ f os h = h
   no_offers (and_tree t u) σ f os h = let g = and_fail c budget 1000 t u σ f in
       h.4 ∙ both_empty h.0 h.1 (no_offers t σ g.0 h.0 h.2) (no_offers u σ g.1 h.1 h.3)

@@ -147,6 +147,11 @@ module _ (c : CheckedTerm) (budget : ℕ) where
   editor_once b f (t ∷ path) act (inr h) d = h
 
   -- ---- a tested offer
+  -- where the sign is No the input lacks
+  pub test_lacks : (i : ℕ) (ss : List SlotTerm) (σ : List ValueTerm) → IsSign budget (Test c (test_of c i ss σ)) signs.No
+      → Lacking (unless_failing c i ss σ)
+  test_lacks i ss σ d = fails_lacks i ss σ d
+
   pub tested_total : (i : ℕ) (ss : List SlotTerm) (σ : List ValueTerm) (k : OfferKindTerm) (s : Sign) (act : ActTerm)
       → IsSign budget (Test c (test_of c i ss σ)) s → IsFor k act → Matches (offered k s) [] act ⊎ Lacking (unless_failing c i ss σ)
   tested_total i ss σ k s act d m = by_sign (offered_some k s act m)

@@ -1,85 +1,145 @@
 -- An input matches an offer exactly where it isn't lacking within the budget.
 use Rattle.std.proofs.Common.{◌≡◌, ◌↔◌, ℕ, Bool, true, false, List, [], ◌∷◌, ◌++◌, Option, Some, None, refl, sym, subst}
-use Rattle.std.specs.Prelude.{◌⊎◌}
+use Rattle.std.specs.Prelude.{◌⊎◌, if◌then◌else◌}
 use mathlib.Core.Logic.{inl, inr}
 use Rattle.std.proofs.lemmas.Slice.Eq.{bytes_eq-Decides}
-use Rattle.task_model.specs.Terms.Text.{Text, default_label, is_default_label}
+use Rattle.task_model.specs.Terms.Text.{Text, same_text}
 use Rattle.task_model.specs.Terms.Value.{ValueTerm}
 use Rattle.task_model.specs.Terms.Env.{plain_slot}
-use Rattle.task_model.specs.Terms.Tree.{LaterTerm, TreeTerm, edit_tree, enter_tree, share_tree, then_tree, next_tree, fail_tree, and_tree, or_tree, xor_tree, State, at}
+use Rattle.task_model.specs.Terms.Tree.{LaterTerm, BranchTerm, branch_of, TreeTerm, edit_tree, enter_tree, share_tree, then_tree, next_tree, fail_tree, and_tree, or_tree, xor_tree, State, at}
 use Rattle.task_model.specs.Terms.Input.{ActTerm, set_act, next_act, left_act, right_act}
 use Rattle.task_model.specs.Running.Checked.{CheckedTerm}
 use Rattle.task_model.specs.Running.Plan.{Plan, give, after}
-use Rattle.task_model.specs.Running.Rules.{value_of}
-use Rattle.task_model.specs.Running.Handling.{at_editor, rebuilt, rebuilds, stopped, if_labelled, branch_of, branch_for, unless_failing, chosen_branch, at_step, handled}
+use Rattle.task_model.specs.Running.Rules.{value_of, trial}
+use Rattle.task_model.specs.Running.Handling.{at_editor, rebuilt, rebuilds, stopped, branch_for, unless_failing, chosen_branch, at_step, handled}
 use Rattle.task_model.specs.Running.Outcome.{IsNotOffered}
-use Rattle.task_model.specs.Running.Sign.{IsStepSign}
-use Rattle.task_model.specs.Running.Offer.{OfferTerm, next_offer, left_offer, right_offer, offered, both_offers, AreOffers}
+use Rattle.task_model.specs.Running.Sign.{IsSign, Test, IsBranchSign, AreSignsFor, AreSigns}
+use Rattle.task_model.specs.Running.Offer.{OfferTerm, next_offer, left_offer, right_offer, offered, step_offers, both_offers, AreOffers, IsFor}
 use Rattle.task_model.specs.declared.input.Turn.{Turn}
 use Rattle.task_model.specs.declared.input.Turn.TheVariants as turns
 use Rattle.task_model.specs.declared.widget.Sign.{Sign}
 use Rattle.task_model.specs.declared.widget.Sign.TheVariants as signs
 use Rattle.task_laws.proofs.NextLemmas.{NoNexts, valued_no_next}
-use Rattle.task_laws.proofs.OfferListLemmas.{Matches, match_split, match_left, match_right, offered_only, no_next-matches, sides_here, sides_first, sides_second, to_first, to_second}
-use Rattle.task_laws.proofs.LackingLemmas.{Lacking, lacks_now, part_lacks, whole_lacks, editor_total, editor_once, tested_total, tested_once}
-
--- the one label that picks the branch
-label_is : (l : Text) → is_default_label l ≡ true → default_label ≡ l
-label_is l e = sym ((bytes_eq-Decides l default_label).0 e)
+use Rattle.task_laws.proofs.OfferListLemmas.{Matches, match_split, match_left, match_right, offered_some, offered_only, no_next-matches, sides_here, sides_first, sides_second, to_first, to_second}
+use Rattle.task_laws.proofs.LackingLemmas.{Lacking, lacks_now, part_lacks, whole_lacks, editor_total, editor_once, test_lacks, tested_total, tested_once}
 
 module _ (c : CheckedTerm) (budget : ℕ) where
-  -- ---- at a user step
-  -- the step's own Next matches, or what its left part offers, or the input lacks
-  next_total : (o : Option ValueTerm) (k : LaterTerm) (σ : List ValueTerm) (s : Sign) (us : List OfferTerm) (path : List Turn)
-      (act : ActTerm) (q : Plan (Option State)) → IsStepSign c budget o k σ s → Matches us path act ⊎ Lacking c budget q
-      → Matches (offered (next_offer default_label) s ++ us) path act ⊎ Lacking c budget (at_step c (stopped path act o) (branch_for act k) σ q)
-  next_total o k σ s us path act q d (inl h) = inl (match_right (offered (next_offer default_label) s) us path act h)
-  next_total None k σ s us [] (next_act l) q d (inr h) = inr h
-  next_total (Some v) k σ s us [] (next_act l) q d (inr h) = by_label (is_default_label l) refl
+  -- ---- the offers of a user step itself
+  -- they are for acts that go on, at the step's own path
+  step_only : (bs : List BranchTerm) (ss : List Sign) (path : List Turn) (act : ActTerm) → Matches (step_offers bs ss) path act
+      → ([] ≡ path) × ((l : Text) × IsFor (next_offer l) act)
+  step_only [] ss path act m = absurd m
+  step_only (b ∷ bs) [] path act m = absurd m
+  step_only (b ∷ bs) (s ∷ ss) path act m = by_part (match_split (offered (next_offer b.label) s) (step_offers bs ss) path act m)
     where
-      by_test : Matches (offered (next_offer default_label) s) [] (next_act l) ⊎ Lacking c budget (unless_failing c k.body (k.slots ++ plain_slot v ∷ []) σ)
-          → Matches (offered (next_offer default_label) s ++ us) [] (next_act l) ⊎ Lacking c budget (unless_failing c k.body (k.slots ++ plain_slot v ∷ []) σ)
-      by_test (inl m) = inl (match_left (offered (next_offer default_label) s) us [] (next_act l) m)
-      by_test (inr lacks) = inr lacks
+      by_part : Matches (offered (next_offer b.label) s) path act ⊎ Matches (step_offers bs ss) path act
+          → ([] ≡ path) × ((l : Text) × IsFor (next_offer l) act)
+      by_part (inl h) = let o = offered_only (next_offer b.label) s path act h in (o.0, (b.label, o.1))
+      by_part (inr h) = step_only bs ss path act h
 
-      by_label : (b : Bool) → is_default_label l ≡ b
-          → Matches (offered (next_offer default_label) s ++ us) [] (next_act l) ⊎ Lacking c budget (chosen_branch c (if_labelled b k) v σ)
-      by_label true e = by_test
-          (tested_total c budget k.body (k.slots ++ plain_slot v ∷ []) σ (next_offer default_label) s (next_act l) d (label_is l e))
-      by_label false e = inr (lacks_now c budget)
-  next_total o k σ s us [] (set_act w) q d (inr h) = inr h
-  next_total o k σ s us [] left_act q d (inr h) = inr h
-  next_total o k σ s us [] right_act q d (inr h) = inr h
-  next_total o k σ s us (t ∷ path) act q d (inr h) = inr h
+  -- the sign of what a label names, where it names a branch: the step offers the label unless that is No
+  named_total : (v : ValueTerm) (all bs : List BranchTerm) (σ : List ValueTerm) (ss : List Sign) (l : Text) (k : LaterTerm)
+      → AreSignsFor c budget (Some v) all bs σ ss → branch_of l bs ≡ Some k
+      → (s : Sign) × IsBranchSign c budget (Some v) (branch_of l all) σ s × ((s ≡ signs.No) ⊎ Matches (step_offers bs ss) [] (next_act l))
+  named_total v all [] σ ss l k d e = absurd (cc)
+  named_total v all (b ∷ bs) σ [] l k d e = absurd d
+  named_total v all (b ∷ bs) σ (s ∷ ss) l k d e = by_label (same_text b.label l) refl e
+    where
+      here : (s ≡ signs.No) ⊎ Matches (offered (next_offer b.label) s) [] (next_act l)
+          → (s ≡ signs.No) ⊎ Matches (step_offers (b ∷ bs) (s ∷ ss)) [] (next_act l)
+      here (inl no) = inl no
+      here (inr m) = inr (match_left (offered (next_offer b.label) s) (step_offers bs ss) [] (next_act l) m)
+
+      behind : (z : Sign) → (z ≡ signs.No) ⊎ Matches (step_offers bs ss) [] (next_act l)
+          → (z ≡ signs.No) ⊎ Matches (step_offers (b ∷ bs) (s ∷ ss)) [] (next_act l)
+      behind z (inl no) = inl no
+      behind z (inr m) = inr (match_right (offered (next_offer b.label) s) (step_offers bs ss) [] (next_act l) m)
+
+      by_label : (t : Bool) → same_text b.label l ≡ t → (if t then Some b.later else branch_of l bs) ≡ Some k
+          → (z : Sign) × IsBranchSign c budget (Some v) (branch_of l all) σ z
+          × ((z ≡ signs.No) ⊎ Matches (step_offers (b ∷ bs) (s ∷ ss)) [] (next_act l))
+      by_label true is q =
+          let same = (bytes_eq-Decides b.label l).0 is in
+          (s, subst (λ z. IsBranchSign c budget (Some v) (branch_of z all) σ s) same d.0, here (offered_some (next_offer b.label) s (next_act l) same))
+      by_label false is q = let w = named_total v all bs σ ss l k d.1 q in (w.0, w.1, behind w.0 w.2)
+
+  -- a label that the step offers has a sign that offers it
+  named_once : (o : Option ValueTerm) (all bs : List BranchTerm) (σ : List ValueTerm) (ss : List Sign) (l : Text)
+      → AreSignsFor c budget o all bs σ ss → Matches (step_offers bs ss) [] (next_act l)
+      → (s : Sign) × IsBranchSign c budget o (branch_of l all) σ s × Matches (offered (next_offer l) s) [] (next_act l)
+  named_once o all [] σ ss l d m = absurd m
+  named_once o all (b ∷ bs) σ [] l d m = absurd m
+  named_once o all (b ∷ bs) σ (s ∷ ss) l d m =
+      by_part (match_split (offered (next_offer b.label) s) (step_offers bs ss) [] (next_act l) m)
+    where
+      by_part : Matches (offered (next_offer b.label) s) [] (next_act l) ⊎ Matches (step_offers bs ss) [] (next_act l)
+          → (z : Sign) × IsBranchSign c budget o (branch_of l all) σ z × Matches (offered (next_offer l) z) [] (next_act l)
+      by_part (inl h) =
+          let same = (offered_only (next_offer b.label) s [] (next_act l) h).1 in (
+            s,
+            subst (λ z. IsBranchSign c budget o (branch_of z all) σ s) same d.0,
+            subst (λ z. Matches (offered (next_offer z) s) [] (next_act l)) same h,
+          )
+      by_part (inr h) = named_once o all bs σ ss l d.1 h
+
+  -- ---- at a user step
+  -- one of the step's own offers matches, or what its left part offers, or the input lacks
+  next_total : (o : Option ValueTerm) (bs : List BranchTerm) (σ : List ValueTerm) (ss : List Sign) (us : List OfferTerm) (path : List Turn)
+      (act : ActTerm) (q : Plan (Option State)) → AreSigns c budget o bs σ ss → Matches us path act ⊎ Lacking c budget q
+      → Matches (step_offers bs ss ++ us) path act ⊎ Lacking c budget (at_step c (stopped path act o) (branch_for act bs) σ q)
+  next_total o bs σ ss us path act q d (inl h) = inl (match_right (step_offers bs ss) us path act h)
+  next_total None bs σ ss us [] (next_act l) q d (inr h) = inr h
+  next_total (Some v) bs σ ss us [] (next_act l) q d (inr h) = by_branch (branch_of l bs) refl
+    where
+      by_test : (k : LaterTerm) (s : Sign) → IsSign budget (Test c (trial c k v σ)) s
+          → (s ≡ signs.No) ⊎ Matches (step_offers bs ss) [] (next_act l)
+          → Matches (step_offers bs ss ++ us) [] (next_act l) ⊎ Lacking c budget (unless_failing c k.body (k.slots ++ plain_slot v ∷ []) σ)
+      by_test k s i (inr m) = inl (match_left (step_offers bs ss) us [] (next_act l) m)
+      by_test k s i (inl no) =
+          inr (test_lacks c budget k.body (k.slots ++ plain_slot v ∷ []) σ (subst (IsSign budget (Test c (trial c k v σ))) no i))
+
+      by_branch : (r : Option LaterTerm) → branch_of l bs ≡ r
+          → Matches (step_offers bs ss ++ us) [] (next_act l) ⊎ Lacking c budget (chosen_branch c r v σ)
+      by_branch None e = inr (lacks_now c budget)
+      by_branch (Some k) e =
+          let w = named_total v bs bs σ ss l k d e in
+          by_test k w.0 (subst (λ r. IsBranchSign c budget (Some v) r σ w.0) e w.1) w.2
+  next_total o bs σ ss us [] (set_act w) q d (inr h) = inr h
+  next_total o bs σ ss us [] left_act q d (inr h) = inr h
+  next_total o bs σ ss us [] right_act q d (inr h) = inr h
+  next_total o bs σ ss us (t ∷ path) act q d (inr h) = inr h
 
   -- never both
-  next_once : (o : Option ValueTerm) (k : LaterTerm) (σ : List ValueTerm) (s : Sign) (us : List OfferTerm) (path : List Turn)
-      (act : ActTerm) (q : Plan (Option State)) → IsStepSign c budget o k σ s → ((v : ValueTerm) → o ≡ Some v → NoNexts us)
-      → (Matches us path act → Lacking c budget q → ⊥) → Matches (offered (next_offer default_label) s ++ us) path act
-      → Lacking c budget (at_step c (stopped path act o) (branch_for act k) σ q) → ⊥
-  next_once o k σ s us path act q d alone r m = by_part o path act d alone r (match_split (offered (next_offer default_label) s) us path act m)
+  next_once : (o : Option ValueTerm) (bs : List BranchTerm) (σ : List ValueTerm) (ss : List Sign) (us : List OfferTerm) (path : List Turn)
+      (act : ActTerm) (q : Plan (Option State)) → AreSigns c budget o bs σ ss → ((v : ValueTerm) → o ≡ Some v → NoNexts us)
+      → (Matches us path act → Lacking c budget q → ⊥) → Matches (step_offers bs ss ++ us) path act
+      → Lacking c budget (at_step c (stopped path act o) (branch_for act bs) σ q) → ⊥
+  next_once o bs σ ss us path act q d alone r m = by_part o path act d alone r (match_split (step_offers bs ss) us path act m)
     where
-      none_next : (z : Sign) (path : List Turn) (act : ActTerm) → z ≡ signs.No → Matches (offered (next_offer default_label) z) path act → ⊥
-      none_next z path act e m = subst (λ y. Matches (offered (next_offer default_label) y) path act) e m
+      by_branch : (v : ValueTerm) (l : Text) (s : Sign) (b : Option LaterTerm) → IsBranchSign c budget (Some v) b σ s
+          → Matches (offered (next_offer l) s) [] (next_act l) → Lacking c budget (chosen_branch c b v σ) → ⊥
+      by_branch v l s None i h lacks = subst (λ z. Matches (offered (next_offer l) z) [] (next_act l)) i h
+      by_branch v l s (Some k) i h lacks =
+          tested_once c budget k.body (k.slots ++ plain_slot v ∷ []) σ (next_offer l) s [] (next_act l) i h lacks
 
-      by_part : (o : Option ValueTerm) (path : List Turn) (act : ActTerm) → IsStepSign c budget o k σ s
+      by_part : (o : Option ValueTerm) (path : List Turn) (act : ActTerm) → AreSigns c budget o bs σ ss
           → ((v : ValueTerm) → o ≡ Some v → NoNexts us) → (Matches us path act → Lacking c budget q → ⊥)
-          → Matches (offered (next_offer default_label) s) path act ⊎ Matches us path act → Lacking c budget (at_step c (stopped path act o) (branch_for act k) σ q) → ⊥
-      by_part None [] (next_act l) d alone r (inl m) lacks = none_next s [] (next_act l) d m
+          → Matches (step_offers bs ss) path act ⊎ Matches us path act
+          → Lacking c budget (at_step c (stopped path act o) (branch_for act bs) σ q) → ⊥
+      by_part None [] (next_act l) d alone r (inl m) lacks =
+          let w = named_once None bs bs σ ss l d m in subst (λ z. Matches (offered (next_offer l) z) [] (next_act l)) w.1 w.2
       by_part None [] (next_act l) d alone r (inr m) lacks = r m lacks
       by_part (Some v) [] (next_act l) d alone r (inl m) lacks =
-          let same = (offered_only (next_offer default_label) s [] (next_act l) m).1 in
-          tested_once c budget k.body (k.slots ++ plain_slot v ∷ []) σ (next_offer default_label) s [] (next_act l) d m
-          (subst (λ z. Lacking c budget (chosen_branch c (branch_of z k) v σ)) (sym same) lacks)
+          let w = named_once (Some v) bs bs σ ss l d m in by_branch v l w.0 (branch_of l bs) w.1 w.2 lacks
       by_part (Some v) [] (next_act l) d alone r (inr m) lacks = no_next-matches us l (alone v refl) m
-      by_part o [] (set_act w) d alone r (inl m) l = (offered_only (next_offer default_label) s [] (set_act w) m).1
-      by_part o [] (set_act w) d alone r (inr m) l = r m l
-      by_part o [] left_act d alone r (inl m) l = (offered_only (next_offer default_label) s [] left_act m).1
-      by_part o [] left_act d alone r (inr m) l = r m l
-      by_part o [] right_act d alone r (inl m) l = (offered_only (next_offer default_label) s [] right_act m).1
-      by_part o [] right_act d alone r (inr m) l = r m l
-      by_part o (t ∷ path) act d alone r (inl m) l = let e = (offered_only (next_offer default_label) s (t ∷ path) act m).0 in absurd (cc)
-      by_part o (t ∷ path) act d alone r (inr m) l = r m l
+      by_part o [] (set_act w) d alone r (inl m) lacks = (step_only bs ss [] (set_act w) m).1.1
+      by_part o [] (set_act w) d alone r (inr m) lacks = r m lacks
+      by_part o [] left_act d alone r (inl m) lacks = (step_only bs ss [] left_act m).1.1
+      by_part o [] left_act d alone r (inr m) lacks = r m lacks
+      by_part o [] right_act d alone r (inl m) lacks = (step_only bs ss [] right_act m).1.1
+      by_part o [] right_act d alone r (inr m) lacks = r m lacks
+      by_part o (t ∷ path) act d alone r (inl m) lacks = let e = (step_only bs ss (t ∷ path) act m).0 in absurd (cc)
+      by_part o (t ∷ path) act d alone r (inr m) lacks = r m lacks
 
   -- ---- parts
   side_total : (f : TreeTerm → TreeTerm) (q : Plan (Option State)) (os : List OfferTerm) (path : List Turn) (act : ActTerm)
@@ -115,10 +175,10 @@ module _ (c : CheckedTerm) (budget : ℕ) where
   matched_or_lacking fail_tree σ os path act h = inr (lacks_now c budget)
   matched_or_lacking (then_tree t k) σ os path act h =
       side_total (λ t'. then_tree t' k) (handled c t σ path act) os path act (matched_or_lacking t σ os path act h)
-  matched_or_lacking (next_tree t k) σ os path act h =
-      subst (λ z. Matches z path act ⊎ Lacking c budget (handled c (next_tree t k) σ path act)) (sym h.4)
-      (next_total (value_of t σ) k σ h.0 h.1 path act _ h.2
-      (side_total (λ t'. next_tree t' k) (handled c t σ path act) h.1 path act (matched_or_lacking t σ h.1 path act h.3)))
+  matched_or_lacking (next_tree t bs) σ os path act h =
+      subst (λ z. Matches z path act ⊎ Lacking c budget (handled c (next_tree t bs) σ path act)) (sym h.4)
+      (next_total (value_of t σ) bs σ h.0 h.1 path act _ h.2
+      (side_total (λ t'. next_tree t' bs) (handled c t σ path act) h.1 path act (matched_or_lacking t σ h.1 path act h.3)))
   matched_or_lacking (and_tree t u) σ os [] act h = inr (lacks_now c budget)
   matched_or_lacking (and_tree t u) σ os (turns.First ∷ path) act h = first_total t u σ os path act h.0 h.1 h.4 and_tree
       (matched_or_lacking t σ h.0 path act h.2)
@@ -158,9 +218,9 @@ module _ (c : CheckedTerm) (budget : ℕ) where
   matched_not_lacking fail_tree σ os path act h m l = subst (λ z. Matches z path act) h m
   matched_not_lacking (then_tree t k) σ os path act h m l = matched_not_lacking t σ os path act h m
       (part_lacks c budget (λ t'. then_tree t' k) (handled c t σ path act) l)
-  matched_not_lacking (next_tree t k) σ os path act h m l =
-      next_once (value_of t σ) k σ h.0 h.1 path act _ h.2 (λ v e. valued_no_next c budget t σ v h.1 e h.3)
-      (λ m' l'. matched_not_lacking t σ h.1 path act h.3 m' (part_lacks c budget (λ t'. next_tree t' k) (handled c t σ path act) l'))
+  matched_not_lacking (next_tree t bs) σ os path act h m l =
+      next_once (value_of t σ) bs σ h.0 h.1 path act _ h.2 (λ v e. valued_no_next c budget t σ v h.1 e h.3)
+      (λ m' l'. matched_not_lacking t σ h.1 path act h.3 m' (part_lacks c budget (λ t'. next_tree t' bs) (handled c t σ path act) l'))
       (subst (λ z. Matches z path act) h.4 m) l
   matched_not_lacking (and_tree t u) σ os [] act h m l = sides_here h.0 h.1 act (subst (λ z. Matches z [] act) h.4 m)
   matched_not_lacking (and_tree t u) σ os (turns.First ∷ path) act h m l =

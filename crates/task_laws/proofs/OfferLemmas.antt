@@ -1,13 +1,12 @@
 -- Each tree has exactly one list of offers, and exactly one list of widgets.
 use Rattle.std.proofs.Common.{◌≡◌, ℕ, List, [], ◌∷◌, ◌++◌, refl, sym, ap, ◌∙◌}
-use Rattle.task_model.specs.Terms.Text.{default_label}
 use Rattle.task_model.specs.Terms.Value.{ValueTerm}
 use Rattle.task_model.specs.Terms.Tree.{TreeTerm, edit_tree, enter_tree, share_tree, then_tree, next_tree, fail_tree, and_tree, or_tree, xor_tree}
 use Rattle.task_model.specs.Running.Checked.{CheckedTerm}
 use Rattle.task_model.specs.Running.Rules.{value_of, side}
-use Rattle.task_model.specs.Running.Offer.{OfferTerm, next_offer, left_offer, right_offer, offered, both_offers, AreOffers}
-use Rattle.task_model.specs.Showing.Widget.{WidgetTerm, then_shape, step_shape, and_shape, or_shape, pick_shape, here, both_widgets, AreWidgets}
-use Rattle.task_laws.proofs.SignLemmas.{sign_exists, sign_once, step_sign_exists, step_sign_once}
+use Rattle.task_model.specs.Running.Offer.{OfferTerm, left_offer, right_offer, offered, step_offers, both_offers, AreOffers}
+use Rattle.task_model.specs.Showing.Widget.{WidgetTerm, then_shape, step_shape, and_shape, or_shape, pick_shape, here, step_marks, both_widgets, AreWidgets}
+use Rattle.task_laws.proofs.SignLemmas.{sign_exists, sign_once, signs_exist, signs_once}
 
 both_offers-same : (xs ys us zs : List OfferTerm) → xs ≡ us → ys ≡ zs → both_offers xs ys ≡ both_offers us zs
 both_offers-same xs ys us zs e q = ap (λ z. both_offers z ys) e ∙ ap (both_offers us) q
@@ -21,8 +20,8 @@ module _ (c : CheckedTerm) (budget : ℕ) where
   offers_exist (enter_tree b) σ = (_, refl)
   offers_exist (share_tree b n) σ = (_, refl)
   offers_exist (then_tree t k) σ = offers_exist t σ
-  offers_exist (next_tree t k) σ = let s = step_sign_exists c budget (value_of t σ) k σ in let us = offers_exist t σ in
-      (_, (s.0, us.0, s.1, us.1, refl))
+  offers_exist (next_tree t bs) σ = let ss = signs_exist c budget (value_of t σ) bs bs σ in let us = offers_exist t σ in
+      (_, (ss.0, us.0, ss.1, us.1, refl))
   offers_exist fail_tree σ = ([], refl)
   offers_exist (and_tree t u) σ = let xs = offers_exist t σ in let ys = offers_exist u σ in (_, (xs.0, ys.0, xs.1, ys.1, refl))
   offers_exist (or_tree t u) σ = let xs = offers_exist t σ in let ys = offers_exist u σ in (_, (xs.0, ys.0, xs.1, ys.1, refl))
@@ -35,9 +34,9 @@ module _ (c : CheckedTerm) (budget : ℕ) where
   offers_once (enter_tree b) σ os us d e = d ∙ sym e
   offers_once (share_tree b n) σ os us d e = d ∙ sym e
   offers_once (then_tree t k) σ os us d e = offers_once t σ os us d e
-  offers_once (next_tree t k) σ os us d e =
-      d.4 ∙ ap (λ z. offered (next_offer default_label) z ++ d.1) (step_sign_once c budget (value_of t σ) k σ d.0 e.0 d.2 e.2)
-      ∙ ap (λ z. offered (next_offer default_label) e.0 ++ z) (offers_once t σ d.1 e.1 d.3 e.3) ∙ sym e.4
+  offers_once (next_tree t bs) σ os us d e =
+      d.4 ∙ ap (λ z. step_offers bs z ++ d.1) (signs_once c budget (value_of t σ) bs bs σ d.0 e.0 d.2 e.2)
+      ∙ ap (λ z. step_offers bs e.0 ++ z) (offers_once t σ d.1 e.1 d.3 e.3) ∙ sym e.4
   offers_once fail_tree σ os us d e = d ∙ sym e
   offers_once (and_tree t u) σ os us d e = d.4 ∙ both_offers-same d.0 d.1 e.0 e.1 (offers_once t σ d.0 e.0 d.2 e.2)
       (offers_once u σ d.1 e.1 d.3 e.3) ∙ sym e.4
@@ -52,8 +51,8 @@ module _ (c : CheckedTerm) (budget : ℕ) where
   widgets_exist (enter_tree b) σ = (_, refl)
   widgets_exist (share_tree b n) σ = (_, refl)
   widgets_exist (then_tree t k) σ = let us = widgets_exist t σ in (_, (us.0, us.1, refl))
-  widgets_exist (next_tree t k) σ = let s = step_sign_exists c budget (value_of t σ) k σ in let us = widgets_exist t σ in
-      (_, (s.0, us.0, s.1, us.1, refl))
+  widgets_exist (next_tree t bs) σ = let ss = signs_exist c budget (value_of t σ) bs bs σ in let us = widgets_exist t σ in
+      (_, (ss.0, us.0, ss.1, us.1, refl))
   widgets_exist fail_tree σ = (_, refl)
   widgets_exist (and_tree t u) σ = let xs = widgets_exist t σ in let ys = widgets_exist u σ in (_, (xs.0, ys.0, xs.1, ys.1, refl))
   widgets_exist (or_tree t u) σ = let xs = widgets_exist t σ in let ys = widgets_exist u σ in (_, (xs.0, ys.0, xs.1, ys.1, refl))
@@ -66,9 +65,9 @@ module _ (c : CheckedTerm) (budget : ℕ) where
   widgets_once (enter_tree b) σ ws us d e = d ∙ sym e
   widgets_once (share_tree b n) σ ws us d e = d ∙ sym e
   widgets_once (then_tree t k) σ ws us d e = d.2 ∙ ap (λ z. here then_shape ∷ z) (widgets_once t σ d.0 e.0 d.1 e.1) ∙ sym e.2
-  widgets_once (next_tree t k) σ ws us d e =
-      d.4 ∙ ap (λ z. here (step_shape z) ∷ d.1) (step_sign_once c budget (value_of t σ) k σ d.0 e.0 d.2 e.2)
-      ∙ ap (λ z. here (step_shape e.0) ∷ z) (widgets_once t σ d.1 e.1 d.3 e.3) ∙ sym e.4
+  widgets_once (next_tree t bs) σ ws us d e =
+      d.4 ∙ ap (λ z. here (step_shape (step_marks bs z)) ∷ d.1) (signs_once c budget (value_of t σ) bs bs σ d.0 e.0 d.2 e.2)
+      ∙ ap (λ z. here (step_shape (step_marks bs e.0)) ∷ z) (widgets_once t σ d.1 e.1 d.3 e.3) ∙ sym e.4
   widgets_once fail_tree σ ws us d e = d ∙ sym e
   widgets_once (and_tree t u) σ ws us d e = d.4 ∙ ap (λ z. here and_shape ∷ z)
       (both_widgets-same d.0 d.1 e.0 e.1 (widgets_once t σ d.0 e.0 d.2 e.2) (widgets_once u σ d.1 e.1 d.3 e.3)) ∙ sym e.4

@@ -1,12 +1,12 @@
 -- A test within a budget has exactly one sign.
-use Rattle.std.proofs.Common.{◌≡◌, ℕ, Bool, true, false, List, Option, Some, None, refl, sym, ◌∙◌}
+use Rattle.std.proofs.Common.{◌≡◌, ℕ, Bool, true, false, List, [], ◌∷◌, Option, Some, None, refl, sym, ap, ◌∙◌}
 use Rattle.task_model.specs.Terms.Value.{ValueTerm}
-use Rattle.task_model.specs.Terms.Tree.{LaterTerm}
+use Rattle.task_model.specs.Terms.Tree.{LaterTerm, BranchTerm, branch_of}
 use Rattle.task_model.specs.Running.Checked.{CheckedTerm}
 use Rattle.task_model.specs.Running.Plan.{Plan, Derives}
 use Rattle.task_model.specs.Running.Rules.{trial, rule_of}
 use Rattle.task_model.specs.Running.Judgements.{IsWithinBudget}
-use Rattle.task_model.specs.Running.Sign.{IsSign, Test, IsStepSign}
+use Rattle.task_model.specs.Running.Sign.{IsSign, Test, IsBranchSign, AreSignsFor}
 use Rattle.task_model.specs.declared.widget.Sign.{Sign}
 use Rattle.task_model.specs.declared.widget.Sign.TheVariants as signs
 use Rattle.task_laws.proofs.WorkLemmas.{Agree}
@@ -42,11 +42,31 @@ module _ (c : CheckedTerm) (budget : ℕ) where
   sign_once p signs.Over signs.Yes d e = absurd (d false e.0 e.1 e.2 e.3)
   sign_once p signs.Over signs.Over d e = refl
 
-  pub step_sign_exists : (o : Option ValueTerm) (k : LaterTerm) (σ : List ValueTerm) → (s : Sign) × IsStepSign c budget o k σ s
-  step_sign_exists None k σ = (signs.No, refl)
-  step_sign_exists (Some v) k σ = sign_exists (trial c k v σ)
+  branch_sign_exists : (o : Option ValueTerm) (b : Option LaterTerm) (σ : List ValueTerm) → (s : Sign) × IsBranchSign c budget o b σ s
+  branch_sign_exists None b σ = (signs.No, refl)
+  branch_sign_exists (Some v) None σ = (signs.No, refl)
+  branch_sign_exists (Some v) (Some k) σ = sign_exists (trial c k v σ)
 
-  pub step_sign_once : (o : Option ValueTerm) (k : LaterTerm) (σ : List ValueTerm) (s z : Sign) → IsStepSign c budget o k σ s
-      → IsStepSign c budget o k σ z → s ≡ z
-  step_sign_once None k σ s z d e = d ∙ sym e
-  step_sign_once (Some v) k σ s z d e = sign_once (trial c k v σ) s z d e
+  pub branch_sign_once : (o : Option ValueTerm) (b : Option LaterTerm) (σ : List ValueTerm) (s z : Sign) → IsBranchSign c budget o b σ s
+      → IsBranchSign c budget o b σ z → s ≡ z
+  branch_sign_once None b σ s z d e = d ∙ sym e
+  branch_sign_once (Some v) None σ s z d e = d ∙ sym e
+  branch_sign_once (Some v) (Some k) σ s z d e = sign_once (trial c k v σ) s z d e
+
+  -- a user step has exactly one list of signs
+  pub signs_exist : (o : Option ValueTerm) (all bs : List BranchTerm) (σ : List ValueTerm)
+      → (ss : List Sign) × AreSignsFor c budget o all bs σ ss
+  signs_exist o all [] σ = ([], tt)
+  signs_exist o all (b ∷ bs) σ =
+      let s = branch_sign_exists o (branch_of b.label all) σ in let ss = signs_exist o all bs σ in (s.0 ∷ ss.0, (s.1, ss.1))
+
+  pub signs_once : (o : Option ValueTerm) (all bs : List BranchTerm) (σ : List ValueTerm) (ss zs : List Sign)
+      → AreSignsFor c budget o all bs σ ss → AreSignsFor c budget o all bs σ zs → ss ≡ zs
+  signs_once o all [] σ [] [] d e = refl
+  signs_once o all [] σ [] (z ∷ zs) d e = absurd e
+  signs_once o all [] σ (s ∷ ss) zs d e = absurd d
+  signs_once o all (b ∷ bs) σ [] zs d e = absurd d
+  signs_once o all (b ∷ bs) σ (s ∷ ss) [] d e = absurd e
+  signs_once o all (b ∷ bs) σ (s ∷ ss) (z ∷ zs) d e =
+      ap (λ x. x ∷ ss) (branch_sign_once o (branch_of b.label all) σ s z d.0 e.0)
+      ∙ ap (λ xs. z ∷ xs) (signs_once o all bs σ ss zs d.1 e.1)
