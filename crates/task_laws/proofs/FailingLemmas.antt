@@ -4,7 +4,7 @@ use Rattle.std.specs.Option.{option_or}
 use Rattle.task_model.specs.Terms.Basic.{BasicTerm}
 use Rattle.task_model.specs.Terms.Value.{ValueTerm}
 use Rattle.task_model.specs.Terms.Env.{SlotTerm}
-use Rattle.task_model.specs.Terms.Tree.{LaterTerm, TreeTerm, edit_tree, enter_tree, share_tree, then_tree, next_tree, fail_tree, and_tree, or_tree, xor_tree, at}
+use Rattle.task_model.specs.Terms.Tree.{LaterTerm, BranchTerm, TreeTerm, edit_tree, enter_tree, share_tree, then_tree, next_tree, fail_tree, and_tree, or_tree, xor_tree, at}
 use Rattle.task_model.specs.Running.Checked.{CheckedTerm}
 use Rattle.task_model.specs.Running.Plan.{fails, Plan, give, ask, plan_work, Derives}
 use Rattle.task_model.specs.Running.Rules.{branch, paired, value_of, tested, side, fail_rule, rule_of}
