@@ -1,0 +1,4 @@
+pub mod KeptEnds
+pub mod KeptPrograms
+pub mod JournalCourses
+pub mod KeptCommands

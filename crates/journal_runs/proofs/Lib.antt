@@ -1,0 +1,4 @@
+pub mod LineLemmas
+pub mod ReplyLemmas
+pub mod ResultLemmas
+pub mod RunLemmas

@@ -1,0 +1,5 @@
+pub mod KeptAnswers
+pub mod KeptLines
+pub mod ReplyTexts
+pub mod Moves
+pub mod KeptRuns
