@@ -20,40 +20,51 @@ use Rattle.command_words.proofs.Found.{apart}
 use Rattle.command_words.proofs.Strict.{dash, same_by_both}
 
 -- the words' meaning, which is nothing where an option has the value `-`
-module _ (meaning : Values → Option CommandTerm) (words arguments options : List Text) (table : is_table arguments options ≡ true)
+module _ {T : Type 0} (meaning : Values → Option T) (words arguments options : List Text) (table : is_table arguments options ≡ true)
     (fails : (uses : List Use) (name : Text) → has name options ≡ true → value_given name uses ≡ Some dash
     → meaning (λ n. value_given n uses) ≡ None) where
-  same : looked_up meaning (clap_read words arguments options None) ≡ looked_up meaning (read words arguments options None)
+  pub same : looked_up meaning (clap_read words arguments options None) ≡ looked_up meaning (read words arguments options None)
   same =
       let more = (and_parts (is_distinct arguments) _ table).1 in
       let names = (and_parts (list_all (λ p. not (has p options)) arguments) _ more).0 in
       same_by_both (looked_up meaning) words arguments options (apart arguments options names) refl fails
 
+  -- what holds of the meaning of what `clap` found holds of what is read
+  pub meant_so : (Holds : Option T → Type 0) (m : ArgMatches) → HasUses (clap_read words arguments options None) m
+      → Holds (meaning (first_value (found_of m))) → Holds (looked_up meaning (read words arguments options None))
+  meant_so Holds m found given = subst Holds same (go (clap_read words arguments options None) found)
+    where
+      go : (o : Option (List Use)) → HasUses o m → Holds (looked_up meaning o)
+      go None h = absurd h
+      go (Some uses) h = subst (λ (v : Values). Holds (meaning v)) (λ i name. h name i) given
+
+  pub nothing_meant : clap_read words arguments options None ≡ None → looked_up meaning (read words arguments options None) ≡ None
+  nothing_meant h = sym same ∙ ap (looked_up meaning) h
+
+module _ (meaning : Values → Option CommandTerm) (words arguments options : List Text) (table : is_table arguments options ≡ true)
+    (fails : (uses : List Use) (name : Text) → has name options ≡ true → value_given name uses ≡ Some dash
+    → meaning (λ n. value_given n uses) ≡ None) where
   pub meant : (m : ArgMatches) (r : Result Command WordStop) → HasUses (clap_read words arguments options None) m
       → IsAsked (meaning (first_value (found_of m))) r → IsAsked (looked_up meaning (read words arguments options None)) r
-  meant m r found given = subst (λ o. IsAsked o r) same (go (clap_read words arguments options None) found)
-    where
-      go : (o : Option (List Use)) → HasUses o m → IsAsked (looked_up meaning o) r
-      go None h = absurd h
-      go (Some uses) h = subst (λ (v : Values). IsAsked (meaning v) r) (λ i name. h name i) given
+  meant m r found given = meant_so meaning words arguments options table fails (λ o. IsAsked o r) m found given
 
   pub refuses : (e : WordStop) → Finds (clap_read words arguments options None) (Err e)
       → IsAsked (looked_up meaning (read words arguments options None)) (Err e)
-  refuses Outside h = sym same ∙ ap (looked_up meaning) h
+  refuses Outside h = nothing_meant meaning words arguments options table fails h
   refuses Memory h = tt
 
 -- a command without options has none with the value `-`
-pub no_options : (meaning : Values → Option CommandTerm) (uses : List Use) (name : Text) → has name [] ≡ true
+pub no_options : {T : Type 0} (meaning : Values → Option T) (uses : List Use) (name : Text) → has name [] ≡ true
     → value_given name uses ≡ Some dash → meaning (λ n. value_given n uses) ≡ None
 no_options meaning uses name h e = absurd (true≢false (sym h))
 
 -- ---- the word `-` is no number
 
-either_name : (a name : Text) (rest : List Text) → has name (a ∷ rest) ≡ true → (a ≡ name) ⊎ (has name rest ≡ true)
+pub either_name : (a name : Text) (rest : List Text) → has name (a ∷ rest) ≡ true → (a ≡ name) ⊎ (has name rest ≡ true)
 either_name a name rest h =
     ⊎_elim (λ e. inl ((bytes_eq-Decides a name).0 e)) (λ e. inr e) (or_cases (bytes_eq a name) (has name rest) h)
 
-given_dash : (a name : Text) (uses : List Use) → a ≡ name → value_given name uses ≡ Some dash → value_given a uses ≡ Some dash
+pub given_dash : (a name : Text) (uses : List Use) → a ≡ name → value_given name uses ≡ Some dash → value_given a uses ≡ Some dash
 given_dash a name uses same e = ap (λ n. value_given n uses) same ∙ e
 
 run_needs : (file : Option Text) → run_with file None ≡ None

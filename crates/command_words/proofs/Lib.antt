@@ -13,3 +13,6 @@ pub mod Given
 pub mod Ranges
 pub mod NumberLemmas
 pub mod RunWords
+pub mod GivenRuns
+pub mod WiderRanges
+pub mod HubWords

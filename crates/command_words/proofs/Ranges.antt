@@ -34,7 +34,7 @@ at_between : (low high : ℕ) (o : Option Text) → IsBetween low high (number_a
 at_between low high None = tt
 at_between low high (Some t) = in_between low high t
 
-or_between : (usual low high : ℕ) (o : Option Text) → low ≤ usual → usual ≤ high → IsBetween low high (number_or usual low high o)
+pub or_between : (usual low high : ℕ) (o : Option Text) → low ≤ usual → usual ≤ high → IsBetween low high (number_or usual low high o)
 or_between usual low high None l h = (l, h)
 or_between usual low high (Some t) l h = in_between low high t
 

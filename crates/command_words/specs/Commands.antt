@@ -61,7 +61,7 @@ abbrev pub Values : Type 0
 Values = Text → Option Text
 
 -- the uses are looked up by name
-abbrev pub looked_up : (Values → Option CommandTerm) → Option (List Use) → Option CommandTerm
+abbrev pub looked_up : {T : Type 0} → (Values → Option T) → Option (List Use) → Option T
 looked_up meaning None = None
 looked_up meaning (Some uses) = meaning (λ name. value_given name uses)
 

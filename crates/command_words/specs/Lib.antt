@@ -4,3 +4,4 @@ pub mod CommandTables
 pub mod WordNumbers
 pub mod Commands
 pub mod WordGrammar
+pub mod WiderRuns

@@ -10,9 +10,12 @@ mod reading;
 mod serve_words;
 mod stop;
 mod top;
+mod wider_reading;
+mod wider_run;
 
 pub use command::Command;
 pub use laws::{runs_are_read, usual_serving, words_follow_the_grammar};
 pub use serve_words::ServeWords;
 pub use stop::WordStop;
-pub use top::read_command;
+pub use top::{read_command, read_wider_run};
+pub use wider_run::WiderRun;

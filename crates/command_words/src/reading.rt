@@ -192,8 +192,8 @@ fn serving_found(found: &ArgMatches<'_>) -> Result<ServeWords, WordStop>
     })
 }
 
-// The budget, in units.
-fn budget_found(found: &ArgMatches<'_>) -> Result<u32, WordStop>
+/// The budget, in units.
+pub(crate) fn budget_found(found: &ArgMatches<'_>) -> Result<u32, WordStop>
     ensures { IsReadAs (budget_in (first_value (found_of found.now))) result }
 {
     let budget = option_found(
@@ -206,8 +206,12 @@ fn budget_found(found: &ArgMatches<'_>) -> Result<u32, WordStop>
     Ok(budget as u32)
 }
 
-// The text of an argument.
-fn text_found(alloc: Global, found: &ArgMatches<'_>, argument: &str) -> Result<TaskText, WordStop>
+/// The text of an argument.
+pub(crate) fn text_found(
+    alloc: Global,
+    found: &ArgMatches<'_>,
+    argument: &str,
+) -> Result<TaskText, WordStop>
     ensures { IsReadAs (first_value (found_of found.now) argument.now) result }
 {
     match found.get_str(argument) {

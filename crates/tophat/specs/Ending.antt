@@ -42,7 +42,7 @@ status_of GateFault = 9
 -- ---- texts
 abbrev pub usage : Text
 usage = codes
-    "usage: tophat run FILE [--budget N] | check FILE | soak N SEED | drill SEATS N | serve FILE [--budget N] [--seats N] [--workers N] [--port N] [--connections N] | json FILE [--budget N] | bound FILE\n"
+    "usage: tophat run FILE [--budget N] | check FILE | soak N SEED | drill SEATS N | serve FILE [--budget N] [--seats N] [--workers N] [--port N] [--connections N] | json FILE [--budget N] | hub FILE... [--budget N] | bound FILE\n"
 
 -- a text about a file
 abbrev pub about_file : Text → Text → Text

@@ -9,7 +9,7 @@ use line_frame::Finish;
 use outer_io::{Sink, Written, write_all, write_four};
 
 const USAGE: &[u8] =
-    b"usage: tophat run FILE [--budget N] | check FILE | soak N SEED | drill SEATS N | serve FILE [--budget N] [--seats N] [--workers N] [--port N] [--connections N] | json FILE [--budget N] | bound FILE\n";
+    b"usage: tophat run FILE [--budget N] | check FILE | soak N SEED | drill SEATS N | serve FILE [--budget N] [--seats N] [--workers N] [--port N] [--connections N] | json FILE [--budget N] | hub FILE... [--budget N] | bound FILE\n";
 
 /// How a command ends, by its cause.
 #[derive(Drop)]

@@ -4,4 +4,5 @@ pub mod Servable
 pub mod Serves
 pub mod Drills
 pub mod FulfilsCommand
+pub mod FulfilsWider
 pub mod Again

@@ -9,6 +9,7 @@ mod laws;
 mod opening;
 mod serving;
 mod top;
+mod wider;
 
 pub use done::Done;
 pub use laws::served_histories_are_replayed;

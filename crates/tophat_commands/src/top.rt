@@ -1,6 +1,7 @@
 ghost use Rattle.std.specs.Prelude.{◌≡◌, ◌≤◌, ◌↔◌, [], IfOk, IsTrue, Some, option_map};
 ghost use Rattle.task_model.specs.Running.State.{IsSeat};
 ghost use Rattle.command_words.specs.Commands.{AreServeNumbers, IsInRange, command_of, command_term, serve_term};
+ghost use Rattle.command_words.specs.WiderRuns.{wider_of};
 ghost use Rattle.tophat.specs.Asks.{AsksOnce};
 ghost use Rattle.tophat.specs.Ended.{Heard, file_faults_after, output_faults_after};
 ghost use Rattle.tophat.specs.Ending.{status_of, text_of};
@@ -8,12 +9,14 @@ ghost use Rattle.tophat.specs.Objects.{around};
 ghost use Rattle.tophat.specs.Top.{limits, NeedsMore};
 ghost use Rattle.tophat_commands.specs.Drills.{WritesDrill};
 ghost use Rattle.tophat_commands.specs.FulfilsCommand.{FulfilsCommand};
+ghost use Rattle.tophat_commands.specs.FulfilsWider.{FulfilsWider};
 ghost use Rattle.tophat_commands.specs.Serves.{HasCome};
 
 use crate::done::Done;
 use crate::drilling::drill_seats;
 use crate::serving::{Come, serve_file};
-use command_words::{Command, ServeWords, WordStop, read_command};
+use crate::wider::wider_run;
+use command_words::{Command, ServeWords, WordStop, read_command, read_wider_run};
 use outer_io::{Files, Sink, Source};
 use outer_ports::Ports;
 use std::alloc::Global;
@@ -26,7 +29,8 @@ use tophat::{CommandEnding, perform};
 ///
 /// `run FILE` reads the program in FILE, opens it, and runs the script on the input; `check FILE` writes the program's text again;
 /// `bound FILE` writes what the program costs at most; `soak N SEED` runs inputs of its own; `drill SEATS N` lets seats act at once;
-/// `serve FILE` opens the program in FILE, and serves it over HTTP at a port (docs/FORMATS.md, "Words" and "Statuses"). A fault of
+/// `serve FILE` opens the program in FILE, and serves it over HTTP at a port; `hub FILE..` runs the script on several programs
+/// (docs/FORMATS.md, "Words" and "Statuses"). A fault of
 /// `err` changes no status. A gate that was had comes back in each case.
 pub fn tophat<
     F: Files,
@@ -46,6 +50,44 @@ pub fn tophat<
     ports: &mut P,
 ) -> Done<P::Gate>
     // The status, what the objects and the gate tell before and after, and their counts of faults keep the promise.
+    ensures { FulfilsWider limits (wider_of words.now) (command_of words.now) (record {
+      files = around F.holds F.faults files.old files.new;
+      input = around I.left I.faults input.old input.new;
+      out = around O.taken O.faults out.old out.new;
+      err = around E.taken E.faults err.old err.new;
+    }) (around P.opens P.faults ports.old ports.new) (option_map P.Gate.told result.gate) result.status }
+{
+    match read_wider_run(alloc, words) {
+        Ok(run) => {
+            let status = wider_run(rt, alloc, &run, files, input, out, err);
+            Done { status, gate: None }
+        }
+        Err(WordStop::Outside) => one_program(rt, alloc, words, files, input, out, err, ports),
+        Err(WordStop::Memory) => {
+            let status = perform(alloc, &Err(WordStop::Memory), files, input, out, err);
+            Done { status, gate: None }
+        }
+    }
+}
+
+// Does what the words ask for, where they ask for no run that needs more than one file and a script.
+fn one_program<
+    F: Files,
+    I: Source,
+    O: Sink,
+    E: Sink,
+    P: Ports,
+    R: Threads + Wait + Copy + Send + Sync,
+>(
+    rt: &R,
+    alloc: Global,
+    words: &[TaskText],
+    files: &mut F,
+    input: &mut I,
+    out: &mut O,
+    err: &mut E,
+    ports: &mut P,
+) -> Done<P::Gate>
     ensures { FulfilsCommand limits (command_of words.now) (record {
       files = around F.holds F.faults files.old files.new;
       input = around I.left I.faults input.old input.new;

@@ -35,6 +35,16 @@ const CASES: &[(Case<'static>, usize)] = &[
     // Plain commands leave the ports alone.
     (CHECK, 4_096),
     (NO_WORDS, 4_096),
+    (rows::HUB, 1),
+    (rows::HUB, 4_096),
+    (rows::HUB_TWICE, 3),
+    (rows::HUB_BAD_LINE, 7),
+    (rows::HUB_NO_FILE, 7),
+    (rows::HUB_OVER, 7),
+    (rows::HUB_BAD_FILE, 7),
+    (rows::HUB_WRITE_FAILS, 6),
+    (rows::HUB_OF_17, 4_096),
+    (rows::HUB_OF_NONE, 4_096),
 ];
 
 const CHECK: Case<'static> = Case {

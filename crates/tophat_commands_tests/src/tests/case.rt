@@ -15,7 +15,7 @@ use std::thread::Threads;
 use task_model::{OutOfMemory, Row, TaskText};
 use tophat_commands::{Done, tophat};
 
-/// The words with spaces between them, the program in the file `p.th`, the script, the requests of each link of the gate at port 8080, and the
+/// The words with spaces between them, the program in the file `p.th`, beside which `q.th` has an editor of 1, the script, the requests of each link of the gate at port 8080, and the
 /// numbers of the calls of the gate and of the output that fail; and what comes of it: the status, the output, the text on the error sink, and
 /// what each finished link took, each behind a line `link`.
 #[derive(Clone, Copy)]
@@ -60,8 +60,10 @@ pub(super) fn words(alloc: Global, text: &str) -> Result<Row<TaskText>, OutOfMem
 }
 
 pub(super) fn files(alloc: Global, program: &str) -> Result<MemFiles, OutOfMemory> {
-    let names = one(alloc, TaskText::of(alloc, "p.th")?)?;
-    let contents = one(alloc, bytes(alloc, program)?)?;
+    let mut names = one(alloc, TaskText::of(alloc, "p.th")?)?;
+    let mut contents = one(alloc, bytes(alloc, program)?)?;
+    names.push(TaskText::of(alloc, "q.th")?)?;
+    contents.push(bytes(alloc, "task main() : int = edit 1")?)?;
     Ok(MemFiles::new(names, contents, Row::new(alloc)))
 }
 

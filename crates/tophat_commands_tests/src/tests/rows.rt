@@ -4,7 +4,7 @@ use super::case::{Case, SERVE};
 use super::requests::{AHEAD, NEXT, SET, SET_AND_PAGE};
 
 pub(super) const USAGE: &str = "status 2\n\
-    usage: tophat run FILE [--budget N] | check FILE | soak N SEED | drill SEATS N | serve FILE [--budget N] [--seats N] [--workers N] [--port N] [--connections N] | json FILE [--budget N] | bound FILE\n";
+    usage: tophat run FILE [--budget N] | check FILE | soak N SEED | drill SEATS N | serve FILE [--budget N] [--seats N] [--workers N] [--port N] [--connections N] | json FILE [--budget N] | hub FILE... [--budget N] | bound FILE\n";
 
 pub(super) const INPUT_AND_PAGE: Case<'static> = Case {
     links: &[SET_AND_PAGE],
@@ -136,4 +136,71 @@ pub(super) const DRILL_FAILS: Case<'static> = Case {
     failing_write: 4,
     want: "status 6\nseat 1 taken 100\nseat 2 tophat: write fault\n",
     ..DRILL
+};
+
+// Two worlds, one script.
+pub(super) const HUB: Case<'static> = Case {
+    words: "hub p.th q.th",
+    script: "1 1 . set 4\n2 1 . set 9\n1 1 show\n",
+    want: "status 0\n1 taken 1\n2 taken 1\n1 version 1 seat 1\n1 . step next\n1 . edit int 4\n",
+    ..SERVE
+};
+
+// A file that is named twice is two worlds.
+pub(super) const HUB_TWICE: Case<'static> = Case {
+    words: "hub q.th -- q.th",
+    script: "# both\n2 1 . set 9\n\n1 2 show\n2 # of the second\n2 2 show",
+    want: "status 0\n2 taken 1\n1 version 0 seat 2\n1 . edit int 1\n2 version 1 seat 2\n2 . edit int 9\n",
+    ..SERVE
+};
+
+// The lines before a bad one are run.
+pub(super) const HUB_BAD_LINE: Case<'static> = Case {
+    words: "hub p.th q.th",
+    script: "2 3 show\n3 1 show\n1 1 show\n",
+    want: "status 3\n2 version 0 seat 3\n2 . edit int 1\ntophat: line 2 column 1\n",
+    ..SERVE
+};
+
+pub(super) const HUB_NO_FILE: Case<'static> = Case {
+    words: "hub q.th none.th p.th",
+    script: "0\n",
+    want: "status 7\ntophat: none.th: no such file\n",
+    ..SERVE
+};
+
+pub(super) const HUB_WRITE_FAILS: Case<'static> = Case {
+    words: "hub q.th",
+    script: "1 1 . set 9\n1 1 show\n",
+    failing_write: 2,
+    want: "status 6\n1 taketophat: write fault\n",
+    ..SERVE
+};
+
+pub(super) const HUB_OF_17: Case<'static> = Case {
+    words: "hub q.th q.th q.th q.th q.th q.th q.th q.th q.th q.th q.th q.th q.th q.th q.th q.th q.th",
+    want: USAGE,
+    ..SERVE
+};
+
+pub(super) const HUB_OF_NONE: Case<'static> = Case {
+    words: "hub --budget 5",
+    want: USAGE,
+    ..SERVE
+};
+
+pub(super) const HUB_OVER: Case<'static> = Case {
+    words: "hub q.th p.th q.th --budget 3",
+    program: "task loop() : int = edit 1 >>= x . loop()\ntask main() : int = loop()",
+    script: "0\n",
+    want: "status 4\ntophat: opening over budget\n",
+    ..SERVE
+};
+
+// A bad second file behind a good first.
+pub(super) const HUB_BAD_FILE: Case<'static> = Case {
+    words: "hub q.th p.th none.th",
+    program: "task main() : int = edit (1 + true)",
+    want: "status 1\ntophat: p.th: byte 30: Mismatch want int got bool\n",
+    ..SERVE
 };

@@ -2,7 +2,7 @@ use Rattle.std.proofs.Common.{refl}
 use Rattle.command_words.specs.Commands.{command_of}
 use Rattle.tophat.specs.Top.{limits}
 use Rattle.tophat_commands.proofs.TopLemmas.{plain_command}
-use Rattle.tophat_commands.proofs.top.tophat.Goals as goal
+use Rattle.tophat_commands.proofs.top.one_program.Goals as goal
 
 pub returns-then-is_plain : goal.returns-then-is_plain
 returns-then-is_plain g c =

@@ -1,0 +1,4 @@
+pub mod HubFiles
+pub mod HubRequests
+pub mod HubReports
+pub mod HubWorked

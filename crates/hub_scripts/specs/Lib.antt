@@ -1,0 +1,2 @@
+pub mod HubScripts
+pub mod HubSteps
