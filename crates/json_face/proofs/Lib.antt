@@ -10,3 +10,6 @@ pub mod WidgetLemmas
 pub mod ValueDecisions
 pub mod LineDecisions
 pub mod OnePage
+pub mod ReadBack
+pub mod PlainLemmas
+pub mod WritingLemmas

@@ -4,3 +4,5 @@ pub mod JsonLines
 pub mod JsonReplies
 pub mod JsonPages
 pub mod WidgetKinds
+pub mod Scalars
+pub mod Writing

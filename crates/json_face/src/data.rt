@@ -1,38 +1,41 @@
-ghost use Rattle.std.specs.Prelude.{◌≡◌, map, IfOk};
-ghost use Rattle.task_model.specs.Terms.Value.{value_term, as_values};
+ghost use Rattle.std.specs.Prelude.{map, OnOk};
+ghost use Rattle.task_model.specs.Terms.Value.{value_term, list_value, as_values};
 ghost use Rattle.json_face.specs.JsonValues as form;
-ghost use Rattle.serde_json.specs.View.{view, items_view};
+ghost use Rattle.json_face.specs.Writing.{Wrote};
 
-use serde_json::{Value as Json, json};
-use std::alloc::{AllocError, Global};
+use json::{Token, Writer};
+use std::alloc::AllocError;
 use task_model::Value;
 
-/// A value as JSON.
+/// Writes a value.
 #[cycle(data)]
-pub fn value_json(alloc: Global, v: &Value) -> Result<Json, AllocError>
-    ensures { IfOk result (λ j. view j ≡ form.value_data (value_term v.now)) }
+pub(crate) fn put_value(out: &mut Writer, v: &Value) -> Result<(), AllocError>
+    ensures { OnOk result (Wrote out.old out.new (form.value_data (value_term v.now))) }
 {
     match v {
-        Value::Unit => Ok(Json::Null),
-        Value::Bool(b) => Ok(Json::from(*b)),
-        Value::Int(i) => Ok(Json::from(*i)),
-        Value::Text(content) => Json::try_from_str(alloc, content.as_str()),
+        Value::Unit => out.token(Token::Null),
+        Value::Bool(b) => out.token(Token::Bool(*b)),
+        Value::Int(i) => out.i64(*i),
+        Value::Text(content) => out.string(content.as_str()),
         Value::Pair(first, second) => {
-            let first = value_json(alloc, first)?;
-            let second = value_json(alloc, second)?;
-            json!(in alloc; {"first": first, "second": second})
+            out.begin_object()?;
+            out.key("first")?;
+            put_value(out, first)?;
+            out.key("second")?;
+            put_value(out, second)?;
+            out.end_object()
         }
-        Value::List(items) => Ok(Json::Array(items_json(alloc, items.as_slice())?)),
+        Value::List(items) => put_items(out, items.as_slice()),
     }
 }
 
 #[cycle(data)]
-fn items_json(alloc: Global, items: &[Value]) -> Result<Vec<Json>, AllocError>
-    ensures { IfOk result (λ js. items_view js.items ≡ form.values_data (as_values (map value_term items.now))) }
+fn put_items(out: &mut Writer, items: &[Value]) -> Result<(), AllocError>
+    ensures { OnOk result (Wrote out.old out.new (form.value_data (list_value (as_values (map value_term items.now))))) }
 {
-    let mut all = Vec::with_capacity(alloc, items.len())?;
+    out.begin_array()?;
     for item in items {
-        all.push(value_json(alloc, item)?)?;
+        put_value(out, item)?;
     }
-    Ok(all)
+    out.end_array()
 }

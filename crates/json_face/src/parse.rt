@@ -4,6 +4,7 @@ ghost use Rattle.json_face.specs.JsonLines.{IsJsonLine, IsJsonText, without_retu
 ghost use Rattle.json_face.specs.declared.stop.JsonStop.TheVariants as JsonStop;
 
 use crate::line::read_line;
+use crate::quick::quick_line;
 use crate::stop::JsonStop;
 use crate::whole::read_json;
 use input_lines::Line;
@@ -39,6 +40,9 @@ fn text_asks(alloc: Global, text: &[u8]) -> Result<Line, JsonStop>
 {
     if text.is_empty() {
         return Ok(Line::Blank);
+    }
+    if let Some(line) = quick_line(alloc, text)? {
+        return Ok(line);
     }
     let json = read_json(alloc, text)?;
     read_line(alloc, &json)

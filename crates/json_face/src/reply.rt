@@ -1,9 +1,11 @@
-ghost use Rattle.std.specs.Prelude.{◌≡◌, false, IfOk};
+ghost use Rattle.std.specs.Prelude.{◌≡◌, IfOk, OnOk};
+ghost use Rattle.std.specs.Str.{IsUtf8};
 ghost use Rattle.json_face.specs.JsonReplies.{reply_data, taken_data, refused_data};
-ghost use Rattle.serde_json.specs.View.{view};
-ghost use Rattle.serde_json.specs.Written.{compact_text, has_float};
+ghost use Rattle.json_face.specs.Writing.{Wrote};
+ghost use Rattle.serde_json.specs.Written.{compact_text};
 
-use serde_json::{Value as Json, json};
+use crate::text::{new_writer, put_number, put_text, text_of};
+use json::Writer;
 use std::alloc::{AllocError, Global};
 use task_model::{OutOfMemory, TaskText};
 
@@ -19,32 +21,54 @@ pub enum JsonReply {
 pub fn write_reply(alloc: Global, reply: JsonReply) -> Result<TaskText, OutOfMemory>
     ensures { IfOk result (λ t. t ≡ compact_text (reply_data reply)) }
 {
+    text_of(reply_bytes(alloc, reply)?)
+}
+
+/// The bytes of that text.
+pub fn reply_bytes(alloc: Global, reply: JsonReply) -> Result<Vec<u8>, OutOfMemory>
+    ensures text { IfOk result (λ bytes. bytes.items ≡ compact_text (reply_data reply)) }
+    ensures utf8 { IfOk result (λ bytes. IsUtf8 bytes.items) }
+{
     match reply {
-        JsonReply::Taken { version } => text_of(alloc, &taken_json(alloc, version)?),
-        JsonReply::NotOffered { version } => {
-            text_of(alloc, &refused_json(alloc, "not offered", version)?)
-        }
-        JsonReply::OverBudget { version } => {
-            text_of(alloc, &refused_json(alloc, "over budget", version)?)
-        }
+        JsonReply::Taken { version } => Ok(taken_bytes(alloc, version)?),
+        JsonReply::NotOffered { version } => Ok(refused_bytes(alloc, "not offered", version)?),
+        JsonReply::OverBudget { version } => Ok(refused_bytes(alloc, "over budget", version)?),
     }
 }
 
-fn text_of(alloc: Global, json: &Json) -> Result<TaskText, OutOfMemory>
-    requires { has_float (view json.now) ≡ false }
-    ensures { IfOk result (λ t. t ≡ compact_text (view json.now)) }
+#[tactic(auto, using(crate::proofs::WritingLemmas::written_text))]
+fn taken_bytes(alloc: Global, version: u64) -> Result<Vec<u8>, AllocError>
+    ensures text { IfOk result (λ bytes. bytes.items ≡ compact_text (taken_data version)) }
+    ensures utf8 { IfOk result (λ bytes. IsUtf8 bytes.items) }
 {
-    TaskText::of_string(json.to_string(alloc)?)
+    let mut out = new_writer(alloc)?;
+    put_taken(&mut out, version)?;
+    Ok(out.into_inner())
 }
 
-fn taken_json(alloc: Global, version: u64) -> Result<Json, AllocError>
-    ensures { IfOk result (λ j. view j ≡ taken_data version) }
+#[tactic(auto, using(crate::proofs::WritingLemmas::written_text))]
+fn refused_bytes(alloc: Global, why: &str, version: u64) -> Result<Vec<u8>, AllocError>
+    ensures text { IfOk result (λ bytes. bytes.items ≡ compact_text (refused_data why.now version)) }
+    ensures utf8 { IfOk result (λ bytes. IsUtf8 bytes.items) }
 {
-    json!(in alloc; {"taken": version})
+    let mut out = new_writer(alloc)?;
+    put_refused(&mut out, why, version)?;
+    Ok(out.into_inner())
 }
 
-fn refused_json(alloc: Global, why: &str, version: u64) -> Result<Json, AllocError>
-    ensures { IfOk result (λ j. view j ≡ refused_data why.now version) }
+fn put_taken(out: &mut Writer, version: u64) -> Result<(), AllocError>
+    ensures { OnOk result (Wrote out.old out.new (taken_data version)) }
 {
-    json!(in alloc; {"refused": why, "version": version})
+    out.begin_object()?;
+    put_number(out, "taken", version)?;
+    out.end_object()
+}
+
+fn put_refused(out: &mut Writer, why: &str, version: u64) -> Result<(), AllocError>
+    ensures { OnOk result (Wrote out.old out.new (refused_data why.now version)) }
+{
+    out.begin_object()?;
+    put_text(out, "refused", why)?;
+    put_number(out, "version", version)?;
+    out.end_object()
 }

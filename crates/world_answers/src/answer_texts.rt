@@ -6,9 +6,9 @@ ghost use Rattle.world_answers.specs.LineAnswers as answers;
 
 use crate::line_form::LineForm;
 use itoa::Buffer;
-use json_face::{JsonPage, JsonReply, write_page, write_reply};
+use json_face::{JsonPage, JsonReply, page_bytes, reply_bytes};
 use std::alloc::Global;
-use task_model::{OutOfMemory, Row, TaskText, Widget};
+use task_model::{OutOfMemory, Row, Widget};
 
 /// The answer to an input that was taken, and led to this version.
 pub(crate) fn taken_line(
@@ -66,15 +66,13 @@ pub(crate) fn page_line(
         seat,
         widgets,
     };
-    let text = write_page(alloc, &page)?;
-    with_end(alloc, &text)
+    with_end(page_bytes(alloc, &page)?)
 }
 
 fn reply_line(alloc: Global, reply: JsonReply) -> Result<Row<u8>, OutOfMemory>
     ensures { IfOk result (λ row. row.list ≡ answers.json_line (reply_data reply)) }
 {
-    let text = write_reply(alloc, reply)?;
-    with_end(alloc, &text)
+    with_end(reply_bytes(alloc, reply)?)
 }
 
 fn script_taken(alloc: Global, version: u64) -> Result<Row<u8>, OutOfMemory>
@@ -87,11 +85,11 @@ fn script_taken(alloc: Global, version: u64) -> Result<Row<u8>, OutOfMemory>
     Ok(row)
 }
 
-// A text with an LF at its end.
-fn with_end(alloc: Global, text: &TaskText) -> Result<Row<u8>, OutOfMemory>
-    ensures { IfOk result (λ row. row.list ≡ text.now ++ codes "\n") }
+// Bytes with an LF at their end.
+fn with_end(bytes: Vec<u8>) -> Result<Row<u8>, OutOfMemory>
+    ensures { IfOk result (λ row. row.list ≡ bytes.items ++ codes "\n") }
 {
-    let mut row = row_of(alloc, text.as_str().as_bytes())?;
+    let mut row = Row::of_vec(bytes);
     row.extend(b"\n")?;
     Ok(row)
 }

@@ -1,8 +1,12 @@
-use Rattle.std.proofs.Common.{◌≡◌, take, map}
+use Rattle.std.proofs.Common.{[], ◌∷◌, map, drop}
 use Rattle.task_model.specs.Terms.Value.{value_term}
-use Rattle.serde_json.specs.View.{view}
+use Rattle.json.specs.Token.{begin_array}
 use Rattle.json_face.specs.JsonValues.{value_data}
+use Rattle.json_face.proofs.WritingLemmas.{IsOnWay}
 use Rattle.json_face.proofs.data.+data.Given as goal
 
-abbrev pub invariant-items_json-loop-item : goal.invariant-items_json-loop-item
-invariant-items_json-loop-item l = map view l.all.items ≡ map (λ v. value_data (value_term v)) (take l.item-index l.items)
+-- The forms of the items before this one were written.
+abbrev pub invariant-put_items-loop-item : goal.invariant-put_items-loop-item
+invariant-put_items-loop-item l =
+    IsOnWay l.fn.out l.out (begin_array ∷ []) (map (λ v. value_data (value_term v)) (drop l.item-index l.items))
+    (map (λ v. value_data (value_term v)) l.items)

@@ -1,7 +1,8 @@
-use Rattle.std.proofs.Common.{◌≡◌, ◌==◌, [], length, sym, ap, ◌∙◌}
+use Rattle.std.proofs.Common.{◌≡◌, ◌==◌, [], length, IfSome, sym, ap, ◌∙◌, subst}
 use Rattle.std.proofs.lemmas.Result.{IfOk-weaker}
 use Rattle.serde_json.specs.View.{view}
-use Rattle.json_face.specs.JsonLines.{json}
+use Rattle.input_lines.specs.ScriptLines.{line_term}
+use Rattle.json_face.specs.JsonLines.{json, IsJsonText}
 use Rattle.json_face.proofs.parse.text_asks.Goals as goal
 
 pub returns-clause-found : goal.returns-clause-found
@@ -11,3 +12,7 @@ returns-clause-found c =
     cc in
     let held = c.in_ok-json.ensures.found in
     IfOk-weaker _ _ _ (λ l is. json (view c.in_ok-json.json) some held.0 held.1 is) c.read_line.ensures.found
+
+pub returns-in-Some-clause-found : goal.returns-in-Some-clause-found
+returns-in-Some-clause-found c =
+    subst (λ o. IfSome o (λ l. IsJsonText c.args.text.now (line_term l))) c.in-Some.is c.in_ok-line.ensures
