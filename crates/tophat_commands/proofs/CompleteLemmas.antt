@@ -25,6 +25,7 @@ use Rattle.tophat_commands.specs.Servable.{HasFailed, HasGateRisen, IsServable}
 use Rattle.tophat_commands.specs.Courses.{GateCourse, WritesServed}
 use Rattle.tophat_commands.specs.ServedFiles.{HasNoOpening, IsNotOpened}
 use Rattle.tophat_commands.specs.Serves.{HasCome, HasListened}
+use Rattle.world_lock.specs.declared.closed.Closed.{Closed}
 
 -- all was written, or memory ran out
 abbrev IsWholeOrMemory : CommandEnding → Type 0
@@ -110,34 +111,34 @@ served_whole state text old new endings.FileFault entry now out w g count fine =
 served_whole state text old new (endings.Ran finish) entry now out w g count fine = absurd w
 
 -- by the course of a gate that was had
-gated_whole : (start : List ItemTerm) (asked : ServeTerm) (entry now : GateTold) (old new : Option Text) (ending : CommandEnding)
-    (out : Counted) → GateCourse start asked entry now old new ending → out.now ≡ output_faults_after out.before ending
+gated_whole : (start : List ItemTerm) (asked : ServeTerm) (entry now : GateTold) (old new : Option Text) (closed : Option Closed)
+    (ending : CommandEnding) (out : Counted) → GateCourse start asked entry now old new closed ending → out.now ≡ output_faults_after out.before ending
     → (HasRisen out ⊎ Rose entry.faults now.faults → ⊥) → IsWholeOrMemory ending
-gated_whole start asked entry now old new ending out (inl untold) count fine =
+gated_whole start asked entry now old new closed ending out (inl untold) count fine =
     absurd (fine (inl (risen out.before out.now (count ∙ ap (output_faults_after out.before) untold.ending_is))))
-gated_whole start asked entry now old new ending out (inr (inl starved)) count fine = inr (ap status_of starved.ending_is)
-gated_whole start asked entry now old new ending out (inr (inr whole)) count fine =
+gated_whole start asked entry now old new closed ending out (inr (inl starved)) count fine = inr (ap status_of starved.ending_is)
+gated_whole start asked entry now old new closed ending out (inr (inr whole)) count fine =
     served_whole whole.state _ old new ending entry now out whole.wrote whole.served.state_is count fine
 
 -- by what came of listening
 listened_whole : (start : List ItemTerm) (asked : ServeTerm) (out : Around (Option Text)) (ports : Around (ℕ → Option GateTold))
-    (gate : Option GateTold) (ending : CommandEnding) → HasListened start asked out ports gate ending
+    (gate : Option GateTold) (closed : Option Closed) (ending : CommandEnding) → HasListened start asked out ports gate closed ending
     → out.faults.now ≡ output_faults_after out.faults.before ending
     → (HasRisen out.faults ⊎ (HasRisen ports.faults ⊎ HasGateRisen (ports.before asked.port) gate) → ⊥) → IsWholeOrMemory ending
-listened_whole start asked out ports None endings.GateFault (same, kept, failed) count fine =
+listened_whole start asked out ports None closed endings.GateFault (same, kept, failed, none) count fine =
     absurd (fine (inr (inl (risen ports.faults.before ports.faults.now failed))))
-listened_whole start asked out ports None (endings.Unopened reasons.Memory) (same, kept, failed) count fine = inr refl
-listened_whole start asked out ports None (endings.Unopened (reasons.Refused place refusal)) (same, kept, failed) count fine = absurd failed
-listened_whole start asked out ports None (endings.Unopened reasons.OverBudget) (same, kept, failed) count fine = absurd failed
-listened_whole start asked out ports None endings.Usage (same, kept, failed) count fine = absurd failed
-listened_whole start asked out ports None endings.Absent (same, kept, failed) count fine = absurd failed
-listened_whole start asked out ports None endings.FileTooLong (same, kept, failed) count fine = absurd failed
-listened_whole start asked out ports None endings.FileFault (same, kept, failed) count fine = absurd failed
-listened_whole start asked out ports None (endings.Ran finish) (same, kept, failed) count fine = absurd failed
-listened_whole start asked out ports None endings.Wrote (same, kept, failed) count fine = absurd failed
-listened_whole start asked out ports None endings.WriteFault (same, kept, failed) count fine = absurd failed
-listened_whole start asked out ports (Some now) ending gated count fine =
-    gated_whole start asked gated.entry now out.before out.now ending out.faults gated.course count (λ failed. still failed)
+listened_whole start asked out ports None closed (endings.Unopened reasons.Memory) (same, kept, failed, none) count fine = inr refl
+listened_whole start asked out ports None closed (endings.Unopened (reasons.Refused place refusal)) (same, kept, failed, none) count fine = absurd failed
+listened_whole start asked out ports None closed (endings.Unopened reasons.OverBudget) (same, kept, failed, none) count fine = absurd failed
+listened_whole start asked out ports None closed endings.Usage (same, kept, failed, none) count fine = absurd failed
+listened_whole start asked out ports None closed endings.Absent (same, kept, failed, none) count fine = absurd failed
+listened_whole start asked out ports None closed endings.FileTooLong (same, kept, failed, none) count fine = absurd failed
+listened_whole start asked out ports None closed endings.FileFault (same, kept, failed, none) count fine = absurd failed
+listened_whole start asked out ports None closed (endings.Ran finish) (same, kept, failed, none) count fine = absurd failed
+listened_whole start asked out ports None closed endings.Wrote (same, kept, failed, none) count fine = absurd failed
+listened_whole start asked out ports None closed endings.WriteFault (same, kept, failed, none) count fine = absurd failed
+listened_whole start asked out ports (Some now) closed ending gated count fine =
+    gated_whole start asked gated.entry now out.before out.now closed ending out.faults gated.course count (λ failed. still failed)
   where
     still : HasRisen out.faults ⊎ Rose gated.entry.faults now.faults → ⊥
     still (inl rose) = fine (inl rose)
@@ -145,11 +146,11 @@ listened_whole start asked out ports (Some now) ending gated count fine =
 
 -- a serving that can be, where no call failed, by its end
 pub complete : (l : Limits) (name : Text) (asked : ServeTerm) (o : Objects) (ports : Around (ℕ → Option GateTold)) (gate : Option GateTold)
-    (status : ℕ) (ending : CommandEnding) → status ≡ status_of ending
+    (closed : Option Closed) (status : ℕ) (ending : CommandEnding) → status ≡ status_of ending
     → o.files.faults.now ≡ file_faults_after o.files.faults.before ending → o.out.faults.now ≡ output_faults_after o.out.faults.before ending
-    → HasCome l name asked o.files o.out ports gate ending → (c : CheckedTerm) (s : State)
+    → HasCome l name asked o.files o.out ports gate closed ending → (c : CheckedTerm) (s : State)
     → IsServable l.file asked.budget (o.files.before name) c s → (HasFailed o ports asked.port gate → ⊥) → (status ≡ 0) ⊎ (status ≡ 8)
-complete l name asked o ports gate status ending is file_count output_count come c s can fine = by_status (by_course come)
+complete l name asked o ports gate closed status ending is file_count output_count come c s can fine = by_status (by_course come)
   where
     by_status : IsWholeOrMemory ending → (status ≡ 0) ⊎ (status ≡ 8)
     by_status (inl e) = inl (is ∙ e)
@@ -160,7 +161,7 @@ complete l name asked o ports gate status ending is file_count output_count come
         (file_count ∙ ap (file_faults_after o.files.faults.before) e))))
     by_file (inr e) = inr (ap status_of e)
 
-    by_course : HasCome l name asked o.files o.out ports gate ending → IsWholeOrMemory ending
+    by_course : HasCome l name asked o.files o.out ports gate closed ending → IsWholeOrMemory ending
     by_course (inl unopened_is) = by_file (unopened l.file asked.budget (o.files.before name) c s can ending unopened_is.none)
-    by_course (inr opened_is) = listened_whole opened_is.opening asked o.out ports gate ending opened_is.listened output_count
+    by_course (inr opened_is) = listened_whole opened_is.opening asked o.out ports gate closed ending opened_is.listened output_count
         (λ failed. fine (inr failed))

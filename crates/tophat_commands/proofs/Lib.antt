@@ -3,3 +3,4 @@ pub mod OpeningLemmas
 pub mod AgainLemmas
 pub mod CompleteLemmas
 pub mod TopLemmas
+pub mod ReplyLemmas

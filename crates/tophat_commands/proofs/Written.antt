@@ -1,5 +1,5 @@
 -- What is written of a served gate.
-use Rattle.std.proofs.Common.{◌≡◌, ℕ, List, [], ◌∷◌, ◌++◌, Option, refl, sym, ap, ◌∙◌, append_assoc}
+use Rattle.std.proofs.Common.{◌≡◌, ℕ, List, [], ◌∷◌, ◌++◌, Option, Some, refl, sym, ap, ◌∙◌, append_assoc}
 use Rattle.std.specs.Io.KnownBytes.{Appends}
 use Rattle.std.proofs.KnownBytes.{Appends-trans}
 use Rattle.outer_io.specs.Sink.{IsStart}
@@ -80,12 +80,13 @@ served_count state before whole entries.Memory is = refl
 pub course_whole : (start : List ItemTerm) (asked : ServeTerm) (entry now : GateTold) (first new : Option Text) (state : GateState)
     (served : Served) (ending : CommandEnding) → IsServedTo start asked.seats 0 asked.connections entry now state served
     → WritesServed state (serve_text asked.port (history_term served.closed.world.history)) first new ending
-    → IsServedWhole start asked entry now first new ending
+    → IsServedWhole start asked entry now first new (Some served.closed) ending
 course_whole start asked entry now first new state served ending is wrote = record {
   state = state;
-  history = history_term served.closed.world.history;
-  taken = served.closed.taken.list;
+  world = served.closed;
   connections = served.connections;
+  closed_is = refl;
+  rest = is.rest;
   served = is.is;
   wrote = wrote;
 }

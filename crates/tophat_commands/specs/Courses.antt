@@ -1,14 +1,18 @@
 -- What a served gate comes to, and what is written of it (docs/RULES.md, "Serving").
-use Rattle.std.specs.Prelude.{◌≡◌, ◌⊎◌, ℕ, List, ◌++◌, Option, codes, decimal}
+use Rattle.std.specs.Prelude.{◌≡◌, ◌⊎◌, ℕ, List, ◌++◌, Option, None, Some, Result, Ok, Err, codes, decimal}
 use Rattle.std.specs.Io.KnownBytes.{Appends}
 use Rattle.outer_gates.specs.Gates.{GateTold}
 use Rattle.outer_io.specs.Sink.{IsStart}
 use Rattle.task_model.specs.Terms.Text.{Text}
-use Rattle.task_model.specs.Terms.Item.{ItemTerm}
+use Rattle.task_model.specs.Terms.Item.{ItemTerm, history_term}
 use Rattle.command_words.specs.Commands.{ServeTerm}
 use Rattle.task_server.specs.Porches.{IsFailed}
 use Rattle.task_server.specs.Servings.{IsServed}
 use Rattle.task_server.specs.declared.gate_state.GateState.{GateState}
+use Rattle.task_server.specs.declared.serving.Served.{Served}
+use Rattle.task_server.specs.declared.serving.ServeStop.{ServeStop}
+use Rattle.task_server.specs.declared.serving.ServeStop.TheVariants as stops
+use Rattle.world_lock.specs.declared.closed.Closed.{Closed}
 use Rattle.history_lines.specs.EntryLines.{entries_text}
 use Rattle.history_lines.specs.declared.entries_written.EntriesWritten.{EntriesWritten}
 use Rattle.history_lines.specs.declared.entries_written.EntriesWritten.TheVariants as entries
@@ -48,29 +52,38 @@ end_of_entries whole entries.Whole = whole
 end_of_entries whole entries.Failed = WriteFault
 end_of_entries whole entries.Memory = Unopened Memory
 
--- The line that tells the port was not written whole. Nothing was asked of the gate.
-pub record IsUntold (port : ℕ) (entry now : GateTold) (old new : Option Text) (ending : CommandEnding) : Type 0 where
+-- The world that was closed, by what the call that serves answers.
+abbrev pub answered_world : Result Served ServeStop → Option Closed
+answered_world (Ok served) = Some served.closed
+answered_world (Err (stops.GateFault served)) = Some served.closed
+answered_world (Err stops.Memory) = None
+
+-- The line that tells the port was not written whole. Nothing was asked of the gate, and no world comes back.
+pub record IsUntold (port : ℕ) (entry now : GateTold) (old new : Option Text) (closed : Option Closed) (ending : CommandEnding) : Type 0 where
   pub ending_is : ending ≡ WriteFault
   pub part : TakesPart (port_line port) old new
   pub gate : now ≡ entry
+  pub no_world : closed ≡ None
 
--- Memory ran out while the gate was served. Nothing was written but the line that tells the port.
-pub record IsStarved (port : ℕ) (old new : Option Text) (ending : CommandEnding) : Type 0 where
+-- Memory ran out while the gate was served. Nothing was written but the line that tells the port, and no world comes back.
+pub record IsStarved (port : ℕ) (old new : Option Text) (closed : Option Closed) (ending : CommandEnding) : Type 0 where
   pub ending_is : ending ≡ Unopened Memory
   pub line : Appends old new (port_line port)
+  pub no_world : closed ≡ None
 
--- The gate was served over the world, which was then closed, and its history was written.
-pub record IsServedWhole (start : List ItemTerm) (asked : ServeTerm) (entry now : GateTold) (old new : Option Text) (ending : CommandEnding)
-    : Type 0 where
+-- The gate was served over the world, which was then closed. It comes back at rest, and its history was written.
+pub record IsServedWhole (start : List ItemTerm) (asked : ServeTerm) (entry now : GateTold) (old new : Option Text) (closed : Option Closed)
+    (ending : CommandEnding) : Type 0 where
   pub state : GateState
-  pub history : List ItemTerm
-  pub taken : List ℕ
+  pub world : Closed
   pub connections : ℕ
-  pub served : IsServed start asked.seats 0 asked.connections entry now state history taken connections
-  pub wrote : WritesServed state (serve_text asked.port history) old new ending
+  pub closed_is : closed ≡ Some world
+  pub rest : world.world.next ≡ None
+  pub served : IsServed start asked.seats 0 asked.connections entry now state (history_term world.world.history) world.taken.list connections
+  pub wrote : WritesServed state (serve_text asked.port (history_term world.world.history)) old new ending
 
 -- What a gate that was had came to.
-abbrev pub GateCourse : List ItemTerm → ServeTerm → (entry now : GateTold) → (old new : Option Text) → CommandEnding → Type 0
-GateCourse start asked entry now old new ending =
-    IsUntold asked.port entry now old new ending
-    ⊎ (IsStarved asked.port old new ending ⊎ IsServedWhole start asked entry now old new ending)
+abbrev pub GateCourse : List ItemTerm → ServeTerm → (entry now : GateTold) → (old new : Option Text) → Option Closed → CommandEnding → Type 0
+GateCourse start asked entry now old new closed ending =
+    IsUntold asked.port entry now old new closed ending
+    ⊎ (IsStarved asked.port old new closed ending ⊎ IsServedWhole start asked entry now old new closed ending)

@@ -1,8 +1,8 @@
-ghost use Rattle.std.specs.Prelude.{◌≡◌, ◌≤◌, ◌*◌, ◌++◌, IfOk, OnOk, codes, decimal, string_bytes};
+ghost use Rattle.std.specs.Prelude.{◌≡◌, ◌≤◌, ◌++◌, None, Some, IfOk, OnOk, codes, decimal, string_bytes};
 ghost use Rattle.task_model.specs.Running.State.{IsSeat};
 ghost use Rattle.tophat.specs.Ended.{output_faults_after};
 ghost use Rattle.tophat.specs.Objects.{around};
-ghost use Rattle.tophat_commands.specs.Drills.{WritesDrill, drill_text};
+ghost use Rattle.tophat_commands.specs.Drills.{IsDrilledWorld, WritesDrill, WritesVersion, drill_text};
 
 use outer_io::Sink;
 use std::alloc::Global;
@@ -11,6 +11,14 @@ use std::thread::Threads;
 use task_model::{OutOfMemory, TaskText};
 use tophat::{CommandEnding, NoWorld, push_count, write_text};
 use world_drill::drill;
+use world_lock::Closed;
+
+/// The world of a drill, where one was closed, and how the command ends.
+#[derive(Drop)]
+pub(crate) struct Drilled {
+    pub(crate) closed: Option<Closed>,
+    pub(crate) ending: CommandEnding,
+}
 
 /// Lets so many seats act at once, so often each, and writes what each has taken.
 pub(crate) fn drill_seats<O: Sink, R: Threads + Wait + Copy + Send + Sync>(
@@ -19,39 +27,69 @@ pub(crate) fn drill_seats<O: Sink, R: Threads + Wait + Copy + Send + Sync>(
     seats: u8,
     each: u32,
     out: &mut O,
-) -> CommandEnding
+) -> Drilled
     requires seats { IsSeat seats }
     requires each { (1 ≤ each) × (each ≤ 10000) }
-    ensures wrote { WritesDrill seats each (around O.taken O.faults out.old out.new) result }
+    ensures wrote { WritesDrill seats each (around O.taken O.faults out.old out.new) result.closed result.ending }
+    ensures count { O.faults out.new ≡ output_faults_after (O.faults out.old) result.ending }
+{
+    match drill(rt, alloc, seats, each) {
+        Ok(closed) => write_closed(alloc, closed, seats, each, out),
+        Err(OutOfMemory) => undrilled(),
+    }
+}
+
+// Memory ran out before a world was closed.
+fn undrilled() -> Drilled
+    ensures { result ≡ record { closed = None; ending = CommandEnding.Unopened NoWorld.Memory } }
+{
+    Drilled {
+        closed: None,
+        ending: CommandEnding::Unopened(NoWorld::Memory),
+    }
+}
+
+// Writes what each seat of the closed world has taken, and its version.
+fn write_closed<O: Sink>(
+    alloc: Global,
+    closed: Closed,
+    seats: u8,
+    each: u32,
+    out: &mut O,
+) -> Drilled
+    requires { IsDrilledWorld seats each closed }
+    ensures wrote { WritesDrill seats each (around O.taken O.faults out.old out.new) result.closed result.ending }
+    ensures closed { result.closed ≡ Some closed }
+    ensures count { O.faults out.new ≡ output_faults_after (O.faults out.old) result.ending }
+{
+    let version = closed.world.version();
+    let ending = write_counts(alloc, seats, each, version, out);
+    Drilled {
+        closed: Some(closed),
+        ending,
+    }
+}
+
+// Writes that so many inputs were taken of each seat, and the version.
+fn write_counts<O: Sink>(
+    alloc: Global,
+    seats: u8,
+    each: u32,
+    version: u64,
+    out: &mut O,
+) -> CommandEnding
+    ensures wrote { WritesVersion seats each version (around O.taken O.faults out.old out.new) result }
     ensures count { O.faults out.new ≡ output_faults_after (O.faults out.old) result }
 {
-    match drilled_text(rt, alloc, seats, each) {
+    match counts_text(alloc, seats, each, version) {
         Ok(text) => write_text(out, &text),
         Err(OutOfMemory) => CommandEnding::Unopened(NoWorld::Memory),
     }
 }
 
-// What comes of the drill, as lines.
-fn drilled_text<R: Threads + Wait + Copy + Send + Sync>(
-    rt: &R,
-    alloc: Global,
-    seats: u8,
-    each: u32,
-) -> Result<TaskText, OutOfMemory>
-    requires seats { IsSeat seats }
-    requires each { (1 ≤ each) × (each ≤ 10000) }
-    ensures { IfOk result (λ text. text ≡ drill_text seats each) }
-{
-    let closed = drill(rt, alloc, seats, each)?;
-    let version = closed.world.version();
-    drop(closed);
-    counts_text(alloc, seats, each, version)
-}
-
 // That so many inputs were taken of each seat, and the version, as lines.
 fn counts_text(alloc: Global, seats: u8, each: u32, version: u64) -> Result<TaskText, OutOfMemory>
-    requires { version ≡ seats * each }
-    ensures { IfOk result (λ text. text ≡ drill_text seats each) }
+    ensures { IfOk result (λ text. text ≡ drill_text seats each version) }
 {
     let mut text = String::new(alloc);
     for seat in 0..seats {

@@ -1,4 +1,4 @@
-ghost use Rattle.std.specs.Prelude.{◌≡◌, ◌⊎◌, ◌<◌, ◌++◌, Err, List, Option};
+ghost use Rattle.std.specs.Prelude.{◌≡◌, ◌⊎◌, ◌<◌, ◌++◌, Err, List, None, Option};
 ghost use Rattle.std.specs.Io.KnownBytes.{Appends};
 ghost use Rattle.outer_gates.specs.Gates.{GateTold};
 ghost use Rattle.outer_io.specs.Sink.{Wrote, faults_after_text};
@@ -10,7 +10,7 @@ ghost use Rattle.history_lines.specs.EntryLines.{entries_text};
 ghost use Rattle.task_server.specs.Results.{IsResult};
 ghost use Rattle.task_server.specs.declared.gate_state.GateState.{GateState};
 ghost use Rattle.tophat.specs.Ended.{output_faults_after};
-ghost use Rattle.tophat_commands.specs.Courses.{GateCourse, IsServedWhole, IsStarved, IsEndOfAll, WritesServed, end_of_entries, port_line};
+ghost use Rattle.tophat_commands.specs.Courses.{GateCourse, IsServedWhole, IsStarved, IsEndOfAll, WritesServed, answered_world, end_of_entries, port_line};
 
 use command_words::ServeWords;
 use history_lines::{EntriesWritten, write_entries};
@@ -22,12 +22,13 @@ use std::sync::Wait;
 use std::thread::Threads;
 use task_server::{ServeStop, Served, Serving, serve_opening};
 use tophat::{CommandEnding, NoWorld};
-use world_lock::Opening;
+use world_lock::{Closed, Opening};
 
-/// A gate that was had, and how the command ends.
+/// A gate that was had, the world that was closed, where it was served, and how the command ends.
 #[derive(Drop)]
 pub(crate) struct Gated<G: Drop> {
     pub(crate) gate: G,
+    pub(crate) closed: Option<Closed>,
     pub(crate) ending: CommandEnding,
 }
 
@@ -43,7 +44,7 @@ pub(crate) fn serve_gate<G: Gate, O: Sink, R: Threads + Wait + Copy + Send + Syn
     requires seats { (opening.seats ≡ asked.now.seats) × IsSeat opening.seats }
     requires workers { 0 < asked.now.workers }
     ensures course { GateCourse (history_term opening.history) (serve_term asked.now) (G.told gate) (G.told result.gate)
-        (O.taken out.old) (O.taken out.new) result.ending }
+        (O.taken out.old) (O.taken out.new) result.closed result.ending }
     ensures count { O.faults out.new ≡ output_faults_after (O.faults out.old) result.ending }
 {
     match tell_port(out, asked.port) {
@@ -54,11 +55,12 @@ pub(crate) fn serve_gate<G: Gate, O: Sink, R: Threads + Wait + Copy + Send + Syn
 
 // The port isn't told, so the gate isn't served.
 fn untold<G: Gate, R: Wait + Copy>(opening: Opening<R>, gate: G) -> Gated<G>
-    ensures { result ≡ record { gate = gate; ending = CommandEnding.WriteFault } }
+    ensures { result ≡ record { gate = gate; closed = None; ending = CommandEnding.WriteFault } }
 {
     drop(opening);
     Gated {
         gate,
+        closed: None,
         ending: CommandEnding::WriteFault,
     }
 }
@@ -90,9 +92,9 @@ fn serve_told<G: Gate, O: Sink, R: Threads + Wait + Copy + Send + Sync>(
     requires seats { (opening.seats ≡ asked.now.seats) × IsSeat opening.seats }
     requires workers { 0 < asked.now.workers }
     ensures course { (first : Option Text) → Appends first (O.taken out.old) (port_line asked.now.port)
-        → IsStarved asked.now.port first (O.taken out.new) result.ending
+        → IsStarved asked.now.port first (O.taken out.new) result.closed result.ending
         ⊎ IsServedWhole (history_term opening.history) (serve_term asked.now) (G.told gate) (G.told result.gate) first (O.taken out.new)
-        result.ending }
+        result.closed result.ending }
     ensures count { O.faults out.new ≡ output_faults_after (O.faults out.old) result.ending }
 {
     let Serving { gate, result } = serve_opening(
@@ -104,8 +106,22 @@ fn serve_told<G: Gate, O: Sink, R: Threads + Wait + Copy + Send + Sync>(
         asked.connections,
     );
     let ending = write_answer(alloc, &result, out);
-    drop(result);
-    Gated { gate, ending }
+    Gated {
+        gate,
+        closed: closed_of(result),
+        ending,
+    }
+}
+
+// The world that was closed, where the answer has one.
+fn closed_of(answer: Result<Served, ServeStop>) -> Option<Closed>
+    ensures { result ≡ answered_world answer }
+{
+    match answer {
+        Ok(served) => Some(served.closed),
+        Err(ServeStop::GateFault(served)) => Some(served.closed),
+        Err(ServeStop::Memory) => None,
+    }
 }
 
 // Writes the history of what was served, by what the call that serves answers.
@@ -116,7 +132,8 @@ fn write_answer<O: Sink>(
 ) -> CommandEnding
     ensures course { (start : List ItemTerm) (asked : ServeTerm) (entry now : GateTold) (first : Option Text)
         → IsResult start asked.seats 0 asked.connections entry now answer.now → Appends first (O.taken out.old) (port_line asked.port)
-        → IsStarved asked.port first (O.taken out.new) result ⊎ IsServedWhole start asked entry now first (O.taken out.new) result }
+        → IsStarved asked.port first (O.taken out.new) (answered_world answer.now) result
+        ⊎ IsServedWhole start asked entry now first (O.taken out.new) (answered_world answer.now) result }
     ensures count { O.faults out.new ≡ output_faults_after (O.faults out.old) result }
 {
     match answer {
@@ -130,7 +147,8 @@ fn write_stopped<O: Sink>(alloc: Global, stop: &ServeStop, out: &mut O) -> Comma
     ensures course { (start : List ItemTerm) (asked : ServeTerm) (entry now : GateTold) (first : Option Text)
         → IsResult start asked.seats 0 asked.connections entry now (Err stop.now)
         → Appends first (O.taken out.old) (port_line asked.port)
-        → IsStarved asked.port first (O.taken out.new) result ⊎ IsServedWhole start asked entry now first (O.taken out.new) result }
+        → IsStarved asked.port first (O.taken out.new) (answered_world (Err stop.now)) result
+        ⊎ IsServedWhole start asked entry now first (O.taken out.new) (answered_world (Err stop.now)) result }
     ensures count { O.faults out.new ≡ output_faults_after (O.faults out.old) result }
 {
     match stop {

@@ -11,5 +11,5 @@ mod serving;
 mod top;
 
 pub use done::Done;
-pub use laws::served_histories_are_replayed;
+pub use laws::{served_histories_are_replayed, served_links_have_replies};
 pub use top::tophat;

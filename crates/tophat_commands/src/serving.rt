@@ -19,12 +19,13 @@ use std::sync::Wait;
 use std::thread::Threads;
 use task_model::TaskText;
 use tophat::{CommandEnding, NoWorld};
-use world_lock::Opening;
+use world_lock::{Closed, Opening};
 
-/// How far a command that serves came: the gate, where one was had, and how it ends.
+/// How far a command that serves came: the gate, where one was had, the world that was closed, where it was served, and how it ends.
 #[derive(Drop)]
 pub(crate) struct Come<G: Drop> {
     pub(crate) gate: Option<G>,
+    pub(crate) closed: Option<Closed>,
     pub(crate) ending: CommandEnding,
 }
 
@@ -43,14 +44,18 @@ pub(crate) fn serve_file<F: Files, O: Sink, P: Ports, R: Threads + Wait + Copy +
     requires workers { 0 < asked.now.workers }
     ensures come { HasCome limits name.now (serve_term asked.now) (around F.holds F.faults files.old files.new)
         (around O.taken O.faults out.old out.new) (around P.opens P.faults ports.old ports.new) (option_map P.Gate.told result.gate)
-        result.ending }
+        result.closed result.ending }
     ensures request { AsksOnce limits.file name.now (around F.holds F.faults files.old files.new) }
     ensures file_count { F.faults files.new ≡ file_faults_after (F.faults files.old) result.ending }
     ensures output_count { O.faults out.new ≡ output_faults_after (O.faults out.old) result.ending }
 {
     match open_file(rt, alloc, name, asked.budget, asked.seats, files) {
         Ok(opening) => serve_opened(rt, alloc, opening, asked, out, ports),
-        Err(ending) => Come { gate: None, ending },
+        Err(ending) => Come {
+            gate: None,
+            closed: None,
+            ending,
+        },
     }
 }
 
@@ -66,7 +71,7 @@ fn serve_opened<O: Sink, P: Ports, R: Threads + Wait + Copy + Send + Sync>(
     requires seats { (opening.seats ≡ asked.now.seats) × IsSeat opening.seats }
     requires workers { 0 < asked.now.workers }
     ensures listened { HasListened (history_term opening.history) (serve_term asked.now) (around O.taken O.faults out.old out.new)
-        (around P.opens P.faults ports.old ports.new) (option_map P.Gate.told result.gate) result.ending }
+        (around P.opens P.faults ports.old ports.new) (option_map P.Gate.told result.gate) result.closed result.ending }
     ensures no_file { (before : ℕ) → file_faults_after before result.ending ≡ before }
     ensures output_count { O.faults out.new ≡ output_faults_after (O.faults out.old) result.ending }
 {
@@ -78,19 +83,28 @@ fn serve_opened<O: Sink, P: Ports, R: Threads + Wait + Copy + Send + Sync>(
 }
 
 fn had<G: Gate>(gated: Gated<G>) -> Come<G>
-    ensures { result ≡ record { gate = Some gated.gate; ending = gated.ending } }
+    ensures { result ≡ record { gate = Some gated.gate; closed = gated.closed; ending = gated.ending } }
 {
-    let Gated { gate, ending } = gated;
+    let Gated {
+        gate,
+        closed,
+        ending,
+    } = gated;
     Come {
         gate: Some(gate),
+        closed,
         ending,
     }
 }
 
 // No gate was had.
 fn unserved<G: Gate, R: Wait + Copy>(opening: Opening<R>, ending: CommandEnding) -> Come<G>
-    ensures { result ≡ record { gate = None; ending = ending } }
+    ensures { result ≡ record { gate = None; closed = None; ending = ending } }
 {
     drop(opening);
-    Come { gate: None, ending }
+    Come {
+        gate: None,
+        closed: None,
+        ending,
+    }
 }

@@ -11,7 +11,7 @@ ghost use Rattle.tophat_commands.specs.FulfilsCommand.{FulfilsCommand};
 ghost use Rattle.tophat_commands.specs.Serves.{HasCome};
 
 use crate::done::Done;
-use crate::drilling::drill_seats;
+use crate::drilling::{Drilled, drill_seats};
 use crate::serving::{Come, serve_file};
 use command_words::{Command, ServeWords, WordStop, read_command};
 use outer_io::{Files, Sink, Source};
@@ -21,13 +21,14 @@ use std::sync::Wait;
 use std::thread::Threads;
 use task_model::TaskText;
 use tophat::{CommandEnding, perform};
+use world_lock::Closed;
 
 /// Does what the words of a command line ask for, without the program's own name.
 ///
 /// `run FILE` reads the program in FILE, opens it, and runs the script on the input; `check FILE` writes the program's text again;
 /// `bound FILE` writes what the program costs at most; `soak N SEED` runs inputs of its own; `drill SEATS N` lets seats act at once;
 /// `serve FILE` opens the program in FILE, and serves it over HTTP at a port (docs/FORMATS.md, "Words" and "Statuses"). A fault of
-/// `err` changes no status. A gate that was had comes back in each case.
+/// `err` changes no status. A gate that was had comes back in each case, and so does a world that was closed.
 pub fn tophat<
     F: Files,
     I: Source,
@@ -45,19 +46,20 @@ pub fn tophat<
     err: &mut E,
     ports: &mut P,
 ) -> Done<P::Gate>
-    // The status, what the objects and the gate tell before and after, and their counts of faults keep the promise.
+    // The status, what the objects and the gate tell before and after, their counts of faults, and the closed world keep the promise.
     ensures { FulfilsCommand limits (command_of words.now) (record {
       files = around F.holds F.faults files.old files.new;
       input = around I.left I.faults input.old input.new;
       out = around O.taken O.faults out.old out.new;
       err = around E.taken E.faults err.old err.new;
-    }) (around P.opens P.faults ports.old ports.new) (option_map P.Gate.told result.gate) result.status }
+    }) (around P.opens P.faults ports.old ports.new) (option_map P.Gate.told result.gate) result.closed result.status }
 {
     let asked = read_command(alloc, words);
     if is_plain(&asked) {
         return Done {
             status: perform(alloc, &asked, files, input, out, err),
             gate: None,
+            closed: None,
         };
     }
     match &asked {
@@ -84,12 +86,16 @@ fn do_more<F: Files, I: Source, O: Sink, E: Sink, P: Ports, R: Threads + Wait + 
       input = around I.left I.faults _input.now _input.now;
       out = around O.taken O.faults out.old out.new;
       err = around E.taken E.faults err.old err.new;
-    }) (around P.opens P.faults ports.old ports.new) (option_map P.Gate.told result.gate) result.status }
+    }) (around P.opens P.faults ports.old ports.new) (option_map P.Gate.told result.gate) result.closed result.status }
 {
     match command {
         Command::Drill { seats, each } => {
-            let status = drill_command(rt, alloc, *seats, *each, out, err);
-            Done { status, gate: None }
+            let (closed, status) = drill_command(rt, alloc, *seats, *each, out, err);
+            Done {
+                status,
+                gate: None,
+                closed,
+            }
         }
         Command::Serve { file, serving } => {
             serve_command(rt, alloc, file, serving, files, out, err, ports)
@@ -122,17 +128,17 @@ fn drill_command<O: Sink, E: Sink, R: Threads + Wait + Copy + Send + Sync>(
     each: u32,
     out: &mut O,
     err: &mut E,
-) -> u8
+) -> (Option<Closed>, u8)
     requires seats { IsSeat seats }
     requires each { (1 ≤ each) × (each ≤ 10000) }
-    ensures { (ending : CommandEnding) × (result ≡ status_of ending)
+    ensures { (ending : CommandEnding) × (result.1 ≡ status_of ending)
         × Heard (around E.taken E.faults err.old err.new) (text_of [] ending)
         × (O.faults out.new ≡ output_faults_after (O.faults out.old) ending)
-        × WritesDrill seats each (around O.taken O.faults out.old out.new) ending }
+        × WritesDrill seats each (around O.taken O.faults out.old out.new) result.0 ending }
 {
-    let ending = drill_seats(rt, alloc, seats, each, out);
+    let Drilled { closed, ending } = drill_seats(rt, alloc, seats, each, out);
     let _ = ending.tell(err, b"");
-    ending.status()
+    (closed, ending.status())
 }
 
 // Serves the program of a file, and tells how it ended.
@@ -154,12 +160,17 @@ fn serve_command<F: Files, O: Sink, E: Sink, P: Ports, R: Threads + Wait + Copy 
         × (O.faults out.new ≡ output_faults_after (O.faults out.old) ending)
         × HasCome limits file.now (serve_term serving.now) (around F.holds F.faults files.old files.new)
         (around O.taken O.faults out.old out.new) (around P.opens P.faults ports.old ports.new) (option_map P.Gate.told result.gate)
-        ending }
+        result.closed ending }
 {
-    let Come { gate, ending } = serve_file(rt, alloc, file, serving, files, out, ports);
+    let Come {
+        gate,
+        closed,
+        ending,
+    } = serve_file(rt, alloc, file, serving, files, out, ports);
     let _ = ending.tell(err, file.as_str().as_bytes());
     Done {
         status: ending.status(),
         gate,
+        closed,
     }
 }

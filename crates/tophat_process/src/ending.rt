@@ -1,10 +1,15 @@
-ghost use Rattle.std.specs.Prelude.{◌≡◌, IfErr, IfOk, Option};
+ghost use Rattle.std.specs.Prelude.{◌≡◌, [], IfErr, IfOk, Option};
 ghost use Rattle.std.specs.Process.{exit_status};
 ghost use Rattle.outer_gates.specs.Gates.{GateTold};
 ghost use Rattle.command_words.specs.Commands.{command_of};
+ghost use Rattle.tophat.specs.Ended.{Heard};
+ghost use Rattle.tophat.specs.Ending.{text_of};
 ghost use Rattle.tophat.specs.Top.{limits};
+ghost use Rattle.tophat.specs.declared.ending.CommandEnding.TheVariants.{Unopened};
+ghost use Rattle.tophat.specs.declared.no_world.NoWorld.TheVariants.{Memory};
 ghost use Rattle.tophat.specs.Objects.{around};
 ghost use Rattle.tophat_commands.specs.FulfilsCommand.{FulfilsCommand};
+ghost use Rattle.world_lock.specs.declared.closed.Closed.{Closed};
 
 use outer_io::{Files, Sink, Source, write_all};
 use outer_ports::Ports;
@@ -33,19 +38,22 @@ pub fn exit_code<
     err: &mut E,
     ports: &mut P,
 ) -> ExitCode
-    ensures answered { IfOk words.now (λ row. (gate : Option GateTold) × FulfilsCommand limits (command_of row.list) (record {
+    ensures answered { IfOk words.now (λ row. (gate : Option GateTold) × (closed : Option Closed) × FulfilsCommand limits (command_of row.list) (record {
       files = around F.holds F.faults files.old files.new;
       input = around I.left I.faults input.old input.new;
       out = around O.taken O.faults out.old out.new;
       err = around E.taken E.faults err.old err.new;
-    }) (around P.opens P.faults ports.old ports.new) gate (exit_status result)) }
+    }) (around P.opens P.faults ports.old ports.new) gate closed (exit_status result)) }
     ensures memory { IfErr words.now (λ _. (exit_status result ≡ 8) × (files.new ≡ files.old) × (input.new ≡ input.old)
         × (out.new ≡ out.old) × (ports.new ≡ ports.old)) }
+    ensures heard { IfErr words.now (λ _. Heard (around E.taken E.faults err.old err.new) (text_of [] (Unopened Memory))) }
 {
     match words {
         Ok(words) => {
             let done = tophat(rt, alloc, words.as_slice(), files, input, out, err, ports);
-            ExitCode::from(done.status)
+            let status = done.status;
+            drop(done);
+            ExitCode::from(status)
         }
         Err(OutOfMemory) => {
             let _ = write_all(err, b"tophat: out of memory\n");

@@ -119,7 +119,9 @@ pub(super) fn told(
         &mut err,
         &mut ports,
     );
-    text_of(alloc, &done, &out, &err)
+    let told = text_of(alloc, &done, &out, &err);
+    drop(done);
+    told
 }
 
 fn text_of(

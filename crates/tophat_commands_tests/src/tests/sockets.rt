@@ -191,7 +191,9 @@ fn served<R: Threads + Wait + Net + Clock + Copy + Send + Sync>(
         &mut MemSink::new(alloc, 4_096, Row::new(alloc)),
         &mut SystemPorts::new(rt, some_seconds(), times),
     );
-    match done.status {
+    let status = done.status;
+    drop(done);
+    match status {
         0 => Ok(String::from_utf8_lossy(alloc, out.taken())?),
         status => Ok(format!(in alloc; "status {status}")?),
     }

@@ -9,5 +9,5 @@ returns-in-Serve g c =
     let name = c.in-Serve.file in
     let asked = serve_term c.in-Serve.serving in
     let done = c.serve_command.ensures in
-    as_asked limits _ _ _ _ c.args.command.now (serve name asked) (ap command_term c.in-Serve.is)
-    (inl (served limits _ _ _ name asked _ done.0 done.1 done.2 done.3 refl done.4 done.5 done.6))
+    as_asked limits _ _ _ _ _ c.args.command.now (serve name asked) (ap command_term c.in-Serve.is)
+    (inl (served limits _ _ _ name asked _ _ done.0 done.1 done.2 done.3 refl done.4 done.5 done.6))
