@@ -171,6 +171,8 @@ impl<'r, R: Clock> ListenerGate<'r, R> {
         ensures stays { (self.new.faults ≡ self.old.faults) × (self.new.first ≡ self.old.first) × (self.new.times ≡ self.old.times) }
         ensures ready { IfSome result (λ ready. BeginsWithRequest ready.received.list) }
     {
+        // Who has sent something by now is read, though others come all the time.
+        self.wait(Some(Duration::ZERO))?;
         for _ in 0..u64::MAX {
             let now = Instant::now(self.clock).ok()?;
             let admitted = self.admit(now);

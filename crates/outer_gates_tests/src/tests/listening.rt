@@ -135,19 +135,29 @@ fn beside_others<G: Gate>(rt: &HostRuntime, gate: &mut G, addr: SocketAddr) -> R
     both_go_on(gate, &mut silent, &mut slow)
 }
 
+// A client that goes on is handed out before one that came behind it.
+fn before_a_newcomer<G: Gate>(
+    rt: &HostRuntime,
+    gate: &mut G,
+    addr: SocketAddr,
+) -> Result<(), Fail> {
+    let mut slow = client(rt, addr, PART)?;
+    asks(rt, gate, addr, ASK)?;
+    slow.write_all(b"t: a\r\n\r\n")?;
+    let _newcomer = client(rt, addr, ASK)?;
+    gives(gate, b"GET / HTTP/1.1\r\nHost: a\r\n\r\n")?;
+    gives(gate, ASK)
+}
+
 // What is refused is handed out.
 fn of_no_request<G: Gate>(rt: &HostRuntime, gate: &mut G, addr: SocketAddr) -> Result<(), Fail> {
     asks(rt, gate, addr, b"hello\r\n\r\n")?;
     asks(rt, gate, addr, &[b'a'; 8192])
 }
 
-// Whether a link was ended. It is reset where bytes had come that nobody read.
+// Whether a link was ended.
 fn is_ended(client: &mut TcpStream) -> Result<bool, Fail> {
-    match client.read(&mut [0u8; 1]) {
-        Ok(count) => Ok(count == 0),
-        Err(error) if error.kind() == ErrorKind::ConnectionReset => Ok(true),
-        Err(error) => Err(Fail::from(error)),
-    }
+    Ok(client.read(&mut [0u8; 1])? == 0)
 }
 
 // Two requests of other clients, while one goes on too late: whether its link was ended.
@@ -245,6 +255,7 @@ enum Trial {
     InPieces,
     BehindTheFirst,
     BesideOthers,
+    BeforeANewcomer,
     OfNoRequest,
     TooLate,
     InACrowd,
@@ -261,6 +272,7 @@ fn tried<G: Gate>(
         Trial::InPieces => in_pieces(rt, gate, addr),
         Trial::BehindTheFirst => behind_the_first(rt, gate, addr),
         Trial::BesideOthers => beside_others(rt, gate, addr),
+        Trial::BeforeANewcomer => before_a_newcomer(rt, gate, addr),
         Trial::OfNoRequest => of_no_request(rt, gate, addr),
         Trial::TooLate => too_late(rt, gate, addr),
         Trial::InACrowd => in_a_crowd(rt, gate, addr),
@@ -274,6 +286,7 @@ fn links_of_a_listener(rt: HostRuntime) -> Result<(), Fail> {
         Trial::InPieces,
         Trial::BehindTheFirst,
         Trial::BesideOthers,
+        Trial::BeforeANewcomer,
         Trial::OfNoRequest,
         Trial::TooLate,
         Trial::InACrowd,
